@@ -15,6 +15,7 @@ use Rattle.plan_check.specs.Certified.{IsCertified}
 use Rattle.plan_check.specs.Headline.{KeepsPromises}
 use Rattle.history_text.specs.Replays.{Parts, replay_at}
 use Rattle.history_text.specs.Spelling.{history_text}
+use Rattle.ring_core.specs.Replays.{IsHistory}
 use Rattle.ringplan_job.specs.declared.making.Back.{Back}
 use Rattle.plan_past.specs.Past.{IsSamePast}
 use Rattle.plan_bundles.specs.Goals.{AreNamed}
@@ -40,10 +41,11 @@ pub record GoesAround (back : Back) (ring : RingValue) (dead : List NodeId) (wri
   pub past : IsSamePast back old plan earlier history
   pub goes_on : GoesOn ring dead writers plan cert history text
 
--- the bytes are the texts of a ring, a plan, a certificate and a history, and the text goes on from there around the nodes of these names
+-- the bytes are the texts of a ring, a plan, a certificate and a history, which is a run of the plan; and the text goes on from there around the nodes of these names
 pub record IsAround (bytes : List ℕ) (names : List (List ℕ)) (back : Back) (text : List ℕ) : Type 0 where
   pub parts : Parts
   pub read : whole_text replay_at bytes ≡ Ok parts
   pub dead : List NodeId
   pub named : AreNamed parts.0 names dead
+  pub earlier : IsHistory parts.0 parts.1.0 parts.1.1.1.0
   pub around : GoesAround back parts.0 dead parts.1.1.1.1 parts.1.0 parts.1.1.1.0 text

@@ -1,7 +1,8 @@
 //! The bundle that goes on around the dead.
 
-ghost use Rattle.std.specs.Prelude.{◌≡◌, ◌≤◌, map, IfOk, length};
+ghost use Rattle.std.specs.Prelude.{◌≡◌, ◌≤◌, map, IfOk, OnOk, length};
 ghost use Rattle.history_text.specs.Replays.{IsReplay};
+ghost use Rattle.ring_core.specs.Replays.{IsHistory};
 ghost use Rattle.plan_past.specs.Past.{IsSamePast};
 ghost use Rattle.plan_around.specs.Around.{GoesAround, IsAround};
 
@@ -44,9 +45,10 @@ fn same_ring(alloc: Global, ring: &Ring) -> Result<Ring, Refusal>
     read_ring(alloc, text.as_slice())
 }
 
-// Asks whether the history is a run of the approved plan.
-fn follow(alloc: Global, approved: &Approved, history: &[Entry]) -> Result<(), Refusal>
+/// Asks whether the history is a run of the approved plan.
+pub fn follow(alloc: Global, approved: &Approved, history: &[Entry]) -> Result<(), Refusal>
     requires { length history.now ≤ 1000000 }
+    ensures { OnOk result (IsHistory approved.now.ring approved.now.plan history.now) }
 {
     let _ = replay(alloc, approved, history)?;
     Ok(())
@@ -143,7 +145,8 @@ fn around_read(
     words: &mut Words,
 ) -> Result<Vec<u8>, Refusal>
     requires { IsReplay read }
-    ensures { IfOk result (λ v. GoesAround back read.ring dead.now read.writers read.plan read.history.items v.items) }
+    ensures { IfOk result (λ v. GoesAround back read.ring dead.now read.writers read.plan read.history.items v.items
+        × IsHistory read.ring read.plan read.history.items) }
 {
     let ReplayBundle {
         ring,

@@ -6,4 +6,4 @@ mod around;
 mod going;
 mod over;
 
-pub use around::around_bundle;
+pub use around::{around_bundle, follow};

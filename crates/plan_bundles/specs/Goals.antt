@@ -1,5 +1,5 @@
 -- What leads from a ring to the ring that it shall become.
-use Rattle.std.specs.Prelude.{◌≡◌, ℕ, Bool, not, ◌&&◌, ◌||◌, ◌⊎◌, List, [], ◌∷◌, ◌++◌, Some, Ok, IfSome, map, length, replicate, if◌then◌else◌}
+use Rattle.std.specs.Prelude.{◌≡◌, ℕ, Bool, not, ◌&&◌, ◌||◌, ◌⊎◌, List, [], ◌∷◌, ◌++◌, Some, Ok, IfSome, IsNone, map, length, replicate, if◌then◌else◌}
 use Rattle.ring_names.specs.declared.ids.NodeId.{NodeId}
 use Rattle.ring_names.specs.Lists.{has}
 use Rattle.ring_names.specs.Names.{place}
@@ -63,6 +63,6 @@ IsWishReached bytes options text = (w : Wanted) × (whole_text wanted_at bytes �
     × AreNamed w.ring (map (λ name. name.items) options.dead.items) dead × HasChangedMembers w.ring (with_dead w.ring dead w.change) wanted
     × IsSizedAsAsked options w.ring (with_dead w.ring dead w.change) wanted × LeadsFrom w.ring wanted dead text
 
--- the bytes lead from a ring to another one: to the second of two rings, or to one with the members of a change
+-- the bytes lead from a ring to another one: to the second of two rings, which has no sizes to go by, or to one with the members of a change
 abbrev pub IsLed : List ℕ → Options → List ℕ → Type 0
-IsLed bytes options text = IsGoalReached bytes (map (λ name. name.items) options.dead.items) text ⊎ IsWishReached bytes options text
+IsLed bytes options text = (IsNone options.sizes × IsGoalReached bytes (map (λ name. name.items) options.dead.items) text) ⊎ IsWishReached bytes options text

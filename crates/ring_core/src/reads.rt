@@ -13,7 +13,7 @@ impl<'a> World<'a> {
     ghost use Rattle.ring_names.specs.declared.refusal.Refusal.TheVariants.{OutOfMemory};
     ghost use Rattle.plan_text.specs.Valid.{is_ring_slot};
     ghost use Rattle.plan_runs.specs.Versions.{put_slot, is_held};
-    ghost use Rattle.plan_runs.specs.World.{World as TheWorld, is_acked, key_of_put, stage_now, keeps, slot_at};
+    ghost use Rattle.plan_runs.specs.World.{World as TheWorld, is_acked, is_member_now, key_of_put, stage_now, keeps, slot_at};
     ghost use Rattle.ring_hints.specs.Hints.{hinted_at, kept_count, kept_pairs};
     ghost use Rattle.store_maps.specs.Chunks.{chunk_of};
     ghost use Rattle.store_tells.specs.Parts.{kept_of};
@@ -88,6 +88,13 @@ impl<'a> World<'a> {
             unreachable!()
         };
         owner
+    }
+
+    /// Whether the node is a member now. Takes no memory.
+    pub fn is_member(&self, node: NodeId) -> bool
+        ensures { (w : TheWorld) → Meets self.now w → result ≡ is_member_now (ring_of self.now) (plan_of self.now) w node.0 }
+    {
+        self.parts.nodes.is_member(node)
     }
 
     // The owners of a partition's slots now, by index.

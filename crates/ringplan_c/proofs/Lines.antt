@@ -1,12 +1,12 @@
 -- What the words of a call's line ask for.
-use Rattle.std.proofs.Common.{◌≡◌, ℕ, List, [], ◌∷◌, Option, Some, None, option_map, refl, sym, ap, ◌∙◌}
+use Rattle.std.proofs.Common.{◌≡◌, ℕ, List, [], ◌∷◌, Option, Some, None, option_map, refl, sym, ap, ◌∙◌, subst}
 use Rattle.std.specs.Prelude.{find, fold}
 use Rattle.clap.proofs.OnLiterals.{clap_on_literals}
 use Rattle.clap.proofs.WalkLemmas.{walk_stopped}
 use Rattle.clap.specs.Simple.{Shape, built, entered, label_of, names_of, rows_at, subcommand_of}
 use Rattle.clap.specs.Walk.{Row, Walk, answers_to, nothing_held, stop_after, walk_from, walked}
 use Rattle.ringplan_c.specs.Line.{name_of}
-use Rattle.ringplan_command.specs.Command.{task_named, to_make}
+use Rattle.ringplan_command.specs.Command.{rows_named, task_named, to_make}
 use Rattle.ringplan_command.specs.Tree.{ringplan}
 use Rattle.ringplan_command.specs.declared.word.Word.{Word}
 use Rattle.ringplan_command.specs.declared.word.Word.TheVariants.{Why, Show, Draw, Steps, Goal, Windows, Bundle, Cert, After, Around}
@@ -55,7 +55,7 @@ commands After = refl
 commands Around = refl
 
 -- what a command's word asks to be done
-tasks : (word : Word) (rows : List Row) → task_named (Some (name_of word, rows)) ≡ to_make word
+tasks : (word : Word) (rows : List Row) → task_named (Some (name_of word, rows)) ≡ to_make word rows
 unfolding clap_on_literals
 tasks Why rows = refl
 tasks Show rows = refl
@@ -68,16 +68,19 @@ tasks Cert rows = refl
 tasks After rows = refl
 tasks Around rows = refl
 
-task_of : (word : Word) (rest : List (List ℕ)) (o : Option Shape) → option_map (λ s. s.name) o ≡ Some (name_of word) → task_named (option_map (λ s. rows_at s rest) o) ≡ to_make word
+task_of : (word : Word) (rest : List (List ℕ)) (o : Option Shape) → option_map (λ s. s.name) o ≡ Some (name_of word)
+    → task_named (option_map (λ s. rows_at s rest) o) ≡ to_make word (rows_named (option_map (λ s. rows_at s rest) o))
 task_of word rest None e = absurd cc
 task_of word rest (Some s) e =
     let same : s.name ≡ name_of word = cc in
     let rows : List Row = (rows_at s rest).1 in
     ap (λ (name : List ℕ). task_named (Some (name, rows))) same ∙ tasks word rows
 
--- a line whose first word is a command's asks for what that makes
-pub line_task : (word : Word) (program : List ℕ) (rest : List (List ℕ)) → task_named (subcommand_of ringplan (program ∷ name_of word ∷ rest)) ≡ to_make word
+-- a line whose first word is a command's asks for what that makes by the rows of its options
+pub line_task : (word : Word) (program : List ℕ) (rest : List (List ℕ))
+    → task_named (subcommand_of ringplan (program ∷ name_of word ∷ rest)) ≡ to_make word (rows_named (subcommand_of ringplan (program ∷ name_of word ∷ rest)))
 unfolding command
 line_task word program rest =
-    ap (λ (stop : Option (List ℕ × List (List ℕ))). task_named (entered (built ringplan) stop)) (stops word rest)
-    ∙ task_of word rest (command (name_of word)) (commands word)
+    let behind = entered (built ringplan) in
+    subst (λ (stop : Option (List ℕ × List (List ℕ))). task_named (behind stop) ≡ to_make word (rows_named (behind stop))) (sym (stops word rest))
+    (task_of word rest (command (name_of word)) (commands word))

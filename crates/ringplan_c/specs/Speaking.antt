@@ -5,7 +5,7 @@ use Rattle.ring_names.specs.Refusals.{line_of as refusal_line}
 use Rattle.ring_names.specs.declared.refusal.Refusal.TheVariants.{OutOfMemory}
 use Rattle.ringplan_c.specs.Line.{line_of, sizes_named}
 use Rattle.ringplan_c.specs.Room.{Fills}
-use Rattle.ringplan_command.specs.Command.{AsksWord, IsRefused, WantsHelp, asked, word_of_making}
+use Rattle.ringplan_command.specs.Command.{AsksMaking, IsRefused, WantsHelp, asked, word_of_making}
 use Rattle.ringplan_command.specs.Files.{Names, files_of, no_files}
 use Rattle.ringplan_command.specs.declared.word.Word.{Word}
 use Rattle.ringplan_job.specs.declared.making.Making.{Making}
@@ -28,7 +28,7 @@ pub data Reports (files : Names) (making : Making) (bytes text : List ℕ) (stat
 
 -- what a call of that command is printed, and the status: what its line makes of the bytes, help, or nothing where the options are no text or are refused
 pub data Says (word : Word) (options bytes text : List ℕ) (status : ℕ) : Type 0 where
-  reported : (making : Making) → AsksWord (asked (line_of word options)) word → word_of_making making ≡ word → Reports (files_of (line_of word options)) making bytes text status
+  reported : (making : Making) → AsksMaking (asked (line_of word options)) making → word_of_making making ≡ word → Reports (files_of (line_of word options)) making bytes text status
       → Says word options bytes text status
   helped : WantsHelp (asked (line_of word options)).faults → status ≡ 0 → Says word options bytes text status
   refused : IsRefused (asked (line_of word options)) → IsTurnedAway text status → Says word options bytes text status

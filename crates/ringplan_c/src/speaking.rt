@@ -71,7 +71,7 @@ fn report_line(alloc: Global, word: Word, options: &str, input: &[u8]) -> Result
     match request {
         Request::Make(making) => report_making(alloc, &making, &files, input),
         Request::Help(text) => Ok(report_help(alloc, text)),
-        Request::Refused(text) | Request::Mistaken(text) => turned_away(alloc, text.as_slice()),
+        Request::Mistaken(text) => turned_away(alloc, text.as_slice()),
         Request::OutOfMemory => Err(Refusal::OutOfMemory),
         _ => unreachable!(),
     }

@@ -23,11 +23,14 @@ use Rattle.ringplan_command.specs.declared.word.Word.{Word}
 use Rattle.ringplan_command.specs.declared.command.Format.{Format}
 use Rattle.ringplan_command.specs.declared.command.Format.TheVariants as form
 use Rattle.ringplan_command.specs.declared.command.Request.{Request}
-use Rattle.ringplan_command.specs.declared.command.Request.TheVariants.{Do, CheckBy, State, StateBy, Judge, StateJudge, Part, Drive, Make, Describe, Help, Refused, Mistaken, OutOfMemory}
+use Rattle.ringplan_command.specs.declared.command.Request.TheVariants.{Do, CheckBy, State, StateBy, Judge, StateJudge, Part, Drive, Make, Describe, Help, Mistaken, OutOfMemory}
 use Rattle.ringplan_job.specs.declared.job.Job.{Job}
 use Rattle.ringplan_job.specs.declared.job.Job.TheVariants.{Check, Migrate, Plan, Play, Replay}
 use Rattle.ringplan_command.specs.Command.{Answers, Asked, IsMistaken, IsRefused, AsksGuide, AsksWord, IsInFormat, IsOfGuide, IsOfWord, IsTurnedAway, MeansFormat, TakesValues, WantsHelp}
-use Rattle.ringplan_command.specs.Command.{Task, asked, asked_by, asks_word, but_text, by_drive, by_judge, by_workers, format_named, in_json, only, option_named, part_texts, json_named, task_named, to_describe, to_do, to_drive, to_judge, to_make, to_part, word_of_making, asks_just}
+use Rattle.ringplan_command.specs.Command.{Task, asked, asked_by, by_drive, by_judge, by_workers, format_named, in_json, only, option_named, part_texts, rows_named, json_named, task_named, to_describe, to_do, to_drive, to_judge, to_make, to_part, word_of_making, asks_just}
+use Rattle.ringplan_job.specs.declared.making.Color.{Color}
+use Rattle.ringplan_job.specs.declared.making.Color.TheVariants.{Auto, Always, Never}
+use Rattle.ringplan_command.specs.Makings.{MeansColor, but_text}
 use Rattle.ringplan_command.specs.Parts.{IsShare, MeansChoice, PartTexts, texts_in}
 use Rattle.history_parts.specs.declared.choice.Choice.{Choice}
 use Rattle.history_parts.specs.declared.choice.Choice.TheVariants.{Range, Share}
@@ -184,7 +187,6 @@ none_refused job asked e (inr (inr (inr (inr (task, is, values))))) =
 
 -- a refused line answers whatever is refused
 pub turned_away : (asked : Asked) (r : Request) → IsRefused asked → IsTurnedAway r → Answers asked r
-turned_away asked (Refused text) h is = h
 turned_away asked (Mistaken text) h is = h
 turned_away asked (Do _) h is = absurd is
 turned_away asked (CheckBy _) h is = absurd is
@@ -224,26 +226,37 @@ formed asked json form.Unknown plain stated (Ok line) (text, named, other) none 
 formed asked json format plain stated (Err e) means none some bad is = tt
 
 -- what a command for people makes answers a line that asks for it, and so does its refusal
-pub of_word : {E : Type 0} (asked : Asked) (w : Word) (r : Result Request E) → AsksWord asked w → IfOk r (IsOfWord w) → IfOk r (Answers asked)
-of_word asked w (Ok (Make making)) e h = e ∙ ap (λ (v : Word). asks_word v) (sym h)
-of_word asked w (Ok (Mistaken text)) e h = inr (inr (inr (inr (to_make w, e, h))))
-of_word asked w (Ok (Do _)) e h = absurd h
-of_word asked w (Ok (CheckBy _)) e h = absurd h
-of_word asked w (Ok (State _)) e h = absurd h
-of_word asked w (Ok (StateBy _)) e h = absurd h
-of_word asked w (Ok (Judge _)) e h = absurd h
-of_word asked w (Ok (StateJudge _)) e h = absurd h
-of_word asked w (Ok (Part _)) e h = absurd h
-of_word asked w (Ok (Drive _ _)) e h = absurd h
-of_word asked w (Ok (Describe _)) e h = absurd h
-of_word asked w (Ok (Help _)) e h = absurd h
-of_word asked w (Ok (Refused _)) e h = absurd h
-of_word asked w (Ok OutOfMemory) e h = absurd h
-of_word asked w (Err x) e h = tt
+pub of_word : {E : Type 0} (asked : Asked) (w : Word) (rows : List Row) (r : Result Request E) → AsksWord asked w rows → IfOk r (IsOfWord w rows) → IfOk r (Answers asked)
+of_word asked w rows (Ok (Make making)) e h = (rows, e ∙ ap (λ (v : Word). asks_just (to_make v rows)) (sym h.0), h.1)
+of_word asked w rows (Ok (Mistaken text)) e h = inr (inr (inr (inr (to_make w rows, e, h))))
+of_word asked w rows (Ok (Do _)) e h = absurd h
+of_word asked w rows (Ok (CheckBy _)) e h = absurd h
+of_word asked w rows (Ok (State _)) e h = absurd h
+of_word asked w rows (Ok (StateBy _)) e h = absurd h
+of_word asked w rows (Ok (Judge _)) e h = absurd h
+of_word asked w rows (Ok (StateJudge _)) e h = absurd h
+of_word asked w rows (Ok (Part _)) e h = absurd h
+of_word asked w rows (Ok (Drive _ _)) e h = absurd h
+of_word asked w rows (Ok (Describe _)) e h = absurd h
+of_word asked w rows (Ok (Help _)) e h = absurd h
+of_word asked w rows (Ok OutOfMemory) e h = absurd h
+of_word asked w rows (Err x) e h = tt
 
 -- the words of a command for people ask for what it makes
-pub word_asked : (sub : Option (List ℕ × List Row)) (w : Word) → task_named sub ≡ to_make w → AsksWord (asked_by [] sub) w
-word_asked sub w is = rw is refl
+pub word_asked : (sub : Option (List ℕ × List Row)) (w : Word) (rows : List Row) → task_named sub ≡ to_make w rows → AsksWord (asked_by [] sub) w rows
+word_asked sub w rows is = rw is refl
+
+-- the rows that were found are the subcommand's
+pub rows_there : (sub : Option (List ℕ × List Row)) (rows : List Row) → Some rows ≡ option_map (λ p. p.1) sub → rows_named sub ≡ rows
+rows_there None rows e = absurd cc
+rows_there (Some x) rows e = let same : rows ≡ x.1 = cc in sym same
+
+-- a colour that the screen decides on is as its text means
+pub color_stays : (o : Option (List ℕ)) (c d : Color) → (c ≢ Auto → d ≡ c) → MeansColor o c → MeansColor o d
+color_stays None c d same means = tt
+color_stays (Some text) c d same (inl auto) = inl auto
+color_stays (Some text) c d same (inr (inl (e, is))) = inr (inl (e, same (λ bad. let worse : Always ≡ Auto = sym is ∙ bad in cc) ∙ is))
+color_stays (Some text) c d same (inr (inr (e, is))) = inr (inr (e, same (λ bad. let worse : Never ≡ Auto = sym is ∙ bad in cc) ∙ is))
 
 -- a text about the program answers a line that asks for it, and so does its refusal
 pub of_guide : {E : Type 0} (asked : Asked) (guide : Guide) (r : Result Request E) → AsksGuide asked guide → IfOk r (IsOfGuide guide) → IfOk r (Answers asked)
@@ -259,7 +272,6 @@ of_guide asked guide (Ok (StateJudge _)) e h = absurd h
 of_guide asked guide (Ok (Part _)) e h = absurd h
 of_guide asked guide (Ok (Drive _ _)) e h = absurd h
 of_guide asked guide (Ok (Help _)) e h = absurd h
-of_guide asked guide (Ok (Refused _)) e h = absurd h
 of_guide asked guide (Ok OutOfMemory) e h = absurd h
 of_guide asked guide (Err x) e h = tt
 
@@ -293,7 +305,6 @@ part_asked sub is = rw is refl
 
 -- a line that is turned away asks for no job
 pub no_job : (r : Request) → IsTurnedAway r → IsJob r → ⊥
-no_job (Refused text) is job = job
 no_job (Mistaken text) is job = job
 no_job (Do _) is job = is
 no_job (CheckBy _) is job = is
@@ -325,10 +336,9 @@ job_asked job asked (Drive k form) e h =
     let same : by_drive h.0 h.1 ≡ only job = sym h.2 ∙ e in
     let task : to_drive ≡ to_do job = ap (λ x. x.task) same in
     absurd cc
-job_asked job asked (Make making) e h = let task : to_make (word_of_making making) ≡ to_do job = ap (λ x. x.task) (sym h ∙ e) in absurd cc
+job_asked job asked (Make making) e h = let task : to_make (word_of_making making) h.0 ≡ to_do job = ap (λ x. x.task) (sym h.1 ∙ e) in absurd cc
 job_asked job asked (Describe text) e h = let task : to_describe h.0 ≡ to_do job = ap (λ x. x.task) (sym h.1 ∙ e) in absurd cc
 job_asked job asked (Help text) e h = absurd (none_helped _ (ap (λ x. x.faults) e) h)
-job_asked job asked (Refused text) e h = absurd (none_refused job asked e h)
 job_asked job asked (Mistaken text) e h = absurd (none_refused job asked e h)
 job_asked job asked OutOfMemory e h = inr refl
 

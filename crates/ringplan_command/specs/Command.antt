@@ -6,11 +6,12 @@ use Rattle.clap.specs.Words.{IsAmong, Kinds, Row, fault_of, first_of, one_of, su
 use Rattle.clap.specs.declared.error.kind.ErrorKind.{ErrorKind}
 use Rattle.clap.specs.declared.error.kind.ErrorKind.TheVariants.{DisplayHelp, DisplayVersion}
 use Rattle.ringplan_command.specs.Files.{text_named}
-use Rattle.ringplan_command.specs.Numbers.{HasNoNumber, IsNumberTo}
+use Rattle.ringplan_command.specs.Makings.{MeansMaking, but_text}
+use Rattle.ringplan_command.specs.Numbers.{HasNoNumber, IsCount, IsNumberTo}
 use Rattle.ringplan_command.specs.Parts.{MeansPart, PartTexts}
 use Rattle.ringplan_command.specs.Tree.{drive_word, judge_word, part_word, ringplan, word_of}
 use Rattle.ringplan_command.specs.declared.command.Request.{Request}
-use Rattle.ringplan_command.specs.declared.command.Request.TheVariants.{Do, CheckBy, State, StateBy, Judge, StateJudge, Part, Drive, Make, Describe, Help, Refused, Mistaken, OutOfMemory}
+use Rattle.ringplan_command.specs.declared.command.Request.TheVariants.{Do, CheckBy, State, StateBy, Judge, StateJudge, Part, Drive, Make, Describe, Help, Mistaken, OutOfMemory}
 use Rattle.ringplan_command.specs.declared.word.Guide.{Guide}
 use Rattle.ringplan_command.specs.declared.word.Guide.TheVariants.{Completions, Manual}
 use Rattle.ringplan_command.specs.declared.word.Word.{Word}
@@ -50,13 +51,13 @@ word_of_making Bundle = people.Bundle
 word_of_making Cert = people.Cert
 word_of_making After = people.After
 
--- what is to be done: a job, a judge, a part, a drive, what a command for people makes, or a text about the program
+-- what is to be done: a job, a judge, a part, a drive, what a command for people makes by the rows of its options, or a text about the program
 pub data Task : Type 0 where
   to_do : Job → Task
   to_judge : Task
   to_part : PartTexts → Task
   to_drive : Task
-  to_make : Word → Task
+  to_make : Word → List Row → Task
   to_describe : Guide → Task
 
 -- what the words of a command line ask: how they fail, and where they do not, what is to be done, and the texts of the workers, of the parts and of
@@ -108,10 +109,14 @@ part_texts subcommand = record {
   map = option_named (codes "map") subcommand;
 }
 
+-- the rows of its options
+abbrev pub rows_named : Option (List ℕ × List Row) → List Row
+rows_named subcommand = option_map_or (λ x. x.1) subcommand []
+
 -- what it asks to be done
 abbrev pub task_named : Option (List ℕ × List Row) → Task
 task_named subcommand = if is_word drive_word subcommand then to_drive else (if is_word judge_word subcommand then to_judge else (if is_word part_word subcommand then to_part (part_texts subcommand)
-    else option_map_or to_describe (guide_named subcommand) (option_map_or to_make (word_named subcommand) (to_do (job_named subcommand)))))
+    else option_map_or to_describe (guide_named subcommand) (option_map_or (λ w. to_make w (rows_named subcommand)) (word_named subcommand) (to_do (job_named subcommand)))))
 
 -- the text of the workers; but for `check`, `judge` and `drive`, no subcommand names them
 abbrev pub workers_named : Task → Option (List ℕ × List Row) → Option (List ℕ)
@@ -124,11 +129,6 @@ workers_named task subcommand = None
 abbrev pub parts_named : Task → Option (List ℕ × List Row) → Option (List ℕ)
 parts_named to_judge subcommand = option_named (codes "parts") subcommand
 parts_named task subcommand = None
-
--- the text of a form of answers, but for `text`, which is also the form where none is named
-abbrev pub but_text : Option (List ℕ) → Option (List ℕ)
-but_text None = None
-but_text (Some text) = if bytes_eq text (codes "text") then None else Some text
 
 abbrev pub format_named : Option (List ℕ × List Row) → Option (List ℕ)
 format_named subcommand = but_text (option_and_then (λ x. first_of (codes "format") x.1) subcommand)
@@ -172,11 +172,6 @@ by_drive workers json = record { faults = []; task = to_drive; workers = workers
 
 abbrev pub IsWorkers : List ℕ → ℕ → Type 0
 IsWorkers text k = IsNumberTo 64 text k
-
--- the number that is named, from 1 to so many; where none is, that one
-abbrev pub IsCount : ℕ → ℕ → Option (List ℕ) → ℕ → Type 0
-IsCount most unnamed None k = k ≡ unnamed
-IsCount most unnamed (Some text) k = IsNumberTo most text k
 
 -- so many parts, at most 4,096, and workers, at most 64, are meant: one worker where none are named, and as many parts as workers
 abbrev pub AreShares : Option (List ℕ) → Option (List ℕ) → ℕ → ℕ → Type 0
@@ -246,13 +241,13 @@ MeansShares parts workers None = HasNoNumber 64 workers ⊎ HasNoNumber 4096 par
 abbrev pub asks_just : Task → Asked
 asks_just task = record { faults = []; task = task; workers = None; parts = None; json = None }
 
--- just what that command for people makes
-abbrev pub asks_word : Word → Asked
-asks_word w = asks_just (to_make w)
+-- what is asked is just what a command for people makes by these rows of options
+abbrev pub AsksWord : Asked → Word → List Row → Type 0
+AsksWord asked w rows = asked ≡ asks_just (to_make w rows)
 
--- what is asked is just that
-abbrev pub AsksWord : Asked → Word → Type 0
-AsksWord asked w = asked ≡ asks_word w
+-- what is asked is that making: its command by its word, and all else by the options
+abbrev pub AsksMaking : Asked → Making → Type 0
+AsksMaking asked making = (rows : List Row) × AsksWord asked (word_of_making making) rows × MeansMaking rows making
 
 -- what is asked is just that text about the program
 abbrev pub AsksGuide : Asked → Guide → Type 0
@@ -264,10 +259,11 @@ AsksPart asked wish = (texts : PartTexts) × (asked ≡ asks_just (to_part texts
 
 -- the subcommand has an argument with a value that may be refused beside the words of the line; of a part its words mean none
 abbrev pub TakesValues : Task → Type 0
-TakesValues (to_make people.Why) = ⊤
-TakesValues (to_make people.Show) = ⊤
-TakesValues (to_make people.Draw) = ⊤
-TakesValues (to_make people.Goal) = ⊤
+TakesValues (to_make people.Why rows) = ⊤
+TakesValues (to_make people.Show rows) = ⊤
+TakesValues (to_make people.Draw rows) = ⊤
+TakesValues (to_make people.Goal rows) = ⊤
+TakesValues (to_make people.Windows rows) = HasNoNumber 1000000 (one_of (codes "rounds") rows) ⊎ HasNoNumber 1000000 (one_of (codes "only") rows)
 TakesValues (to_describe Completions) = ⊤
 TakesValues (to_part texts) = (wish : PartWish) → MeansPart texts wish → ⊥
 TakesValues task = ⊥
@@ -286,16 +282,14 @@ Answers asked (Judge shares) = AsksJudge asked shares.parts shares.workers
 Answers asked (StateJudge shares) = AsksJsonJudge asked shares.parts shares.workers
 Answers asked (Part wish) = AsksPart asked wish
 Answers asked (Drive workers form) = AsksDrive asked workers form
-Answers asked (Make making) = AsksWord asked (word_of_making making)
+Answers asked (Make making) = AsksMaking asked making
 Answers asked (Describe text) = (guide : Guide) × AsksGuide asked guide
 Answers asked (Help text) = WantsHelp asked.faults
-Answers asked (Refused text) = IsRefused asked
 Answers asked (Mistaken text) = IsRefused asked
 Answers asked OutOfMemory = ⊤
 
--- a line that is refused, on standard output or on standard error
+-- a line that is refused
 abbrev pub IsTurnedAway : Request → Type 0
-IsTurnedAway (Refused text) = ⊤
 IsTurnedAway (Mistaken text) = ⊤
 IsTurnedAway _ = ⊥
 
@@ -305,11 +299,11 @@ IsInFormat format.Text plain stated line = line ≡ plain
 IsInFormat format.Json plain stated line = line ≡ stated
 IsInFormat format.Unknown plain stated line = IsTurnedAway line
 
--- what that command for people makes, or a line that is refused for the value of one of its options
-abbrev pub IsOfWord : Word → Request → Type 0
-IsOfWord w (Make making) = word_of_making making ≡ w
-IsOfWord w (Mistaken text) = TakesValues (to_make w)
-IsOfWord w _ = ⊥
+-- what that command for people makes by its options, or a line that is refused for the value of one of them
+abbrev pub IsOfWord : Word → List Row → Request → Type 0
+IsOfWord w rows (Make making) = (word_of_making making ≡ w) × MeansMaking rows making
+IsOfWord w rows (Mistaken text) = TakesValues (to_make w rows)
+IsOfWord w rows _ = ⊥
 
 -- a text about the program, or a line that is refused for the value of an argument of its subcommand
 abbrev pub IsOfGuide : Guide → Request → Type 0

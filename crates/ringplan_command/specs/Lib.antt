@@ -3,3 +3,4 @@ pub mod Files
 pub mod Tree
 pub mod Numbers
 pub mod Parts
+pub mod Makings

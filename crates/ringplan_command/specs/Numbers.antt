@@ -12,6 +12,16 @@ IsNumberFrom least most text k = IsNumeral 10 (without_leading_plus text) × (di
 abbrev pub IsNumberTo : ℕ → List ℕ → ℕ → Type 0
 IsNumberTo most text k = IsNumberFrom 1 most text k
 
+-- the number that is named, from 1 to so many; if none is named, the other one
+abbrev pub IsCount : ℕ → ℕ → Option (List ℕ) → ℕ → Type 0
+IsCount most unnamed None k = k ≡ unnamed
+IsCount most unnamed (Some text) k = IsNumberTo most text k
+
+-- the number that is named, from the one to the other, if one is
+abbrev pub IsNumberNamed : ℕ → ℕ → Option (List ℕ) → Option ℕ → Type 0
+IsNumberNamed least most named None = named ≡ None
+IsNumberNamed least most named (Some k) = (text : List ℕ) × (named ≡ Some text) × IsNumberFrom least most text k
+
 -- what is named is no number from the one to the other
 abbrev pub HasNoNumberFrom : ℕ → ℕ → Option (List ℕ) → Type 0
 HasNoNumberFrom least most named = (text : List ℕ) × (named ≡ Some text) × ((k : ℕ) → IsNumberFrom least most text k → ⊥)

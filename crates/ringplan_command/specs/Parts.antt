@@ -5,7 +5,7 @@ use Rattle.clap.specs.Words.{first_value, one_text}
 use Rattle.clap.specs.declared.parser.matches.Found.{Found}
 use Rattle.history_parts.specs.declared.choice.Choice.{Choice}
 use Rattle.history_parts.specs.declared.choice.Choice.TheVariants.{Share, Range}
-use Rattle.ringplan_command.specs.Numbers.{IsNumberFrom, IsNumberTo}
+use Rattle.ringplan_command.specs.Numbers.{IsNumberFrom, IsNumberNamed, IsNumberTo}
 use Rattle.ringplan_command.specs.declared.parts.PartWish.{PartWish}
 
 -- the texts by which a line says which part it asks for
@@ -33,13 +33,9 @@ abbrev pub MeansChoice : PartTexts → Choice → Type 0
 MeansChoice t (Share of part) = IsShare t.of t.part of part × (t.partitions ≡ None)
 MeansChoice t (Range first last) = (text : List ℕ) × (t.partitions ≡ Some text) × (t.of ≡ None) × (t.part ≡ None) × IsRange text first last
 
--- the entry of which the place is wanted, if one is
-abbrev pub MeansEntry : Option (List ℕ) → Option ℕ → Type 0
-MeansEntry named None = named ≡ None
-MeansEntry named (Some n) = (text : List ℕ) × (named ≡ Some text) × IsNumberFrom 0 999999 text n
-
+-- the partitions, and the entry of which the place is wanted, if one is
 abbrev pub MeansPart : PartTexts → PartWish → Type 0
-MeansPart t wish = MeansChoice t wish.choice × MeansEntry t.map wish.entry
+MeansPart t wish = MeansChoice t wish.choice × IsNumberNamed 0 999999 t.map wish.entry
 
 -- what was read of the texts
 abbrev pub ReadsPart : PartTexts → Option PartWish → Type 0

@@ -1,9 +1,10 @@
 //! The command line.
 
-ghost use Rattle.std.specs.Prelude.{◌≡◌, ◌⊎◌, ◌↔◌, ◌∷◌, [], IfOk, IsTrue, codes, drop, map};
-ghost use Rattle.clap.specs.Words.{first_value, found_of, one_text, subcommand_rows_of};
+ghost use Rattle.std.specs.Prelude.{◌≡◌, List, ◌⊎◌, ◌↔◌, ◌∷◌, [], IfOk, IsTrue, codes, drop, map};
+ghost use Rattle.clap.specs.Words.{Row, first_of, found_of, one_text, rows_of, subcommand_rows_of};
 ghost use Rattle.ringplan_command.specs.Command.{Answers, Asked, word_of_making, IsForm, IsInFormat, asked, asked_by, job_named, task_named};
-ghost use Rattle.ringplan_command.specs.Command.{IsTurnedAway, MeansFormat, but_text, part_texts, to_describe, to_do, to_drive, to_judge, to_make, to_part};
+ghost use Rattle.ringplan_command.specs.Makings.{MeansMaking, but_text};
+ghost use Rattle.ringplan_command.specs.Command.{IsTurnedAway, MeansFormat, part_texts, rows_named, to_describe, to_do, to_drive, to_judge, to_make, to_part};
 ghost use Rattle.ringplan_command.specs.Tree.{word_of};
 ghost use Rattle.ringplan_command.specs.Files.{IsJob, files_in, files_named, files_of, no_files};
 ghost use Rattle.ringplan_job.specs.declared.job.Job.{Job};
@@ -13,10 +14,11 @@ use crate::files::Files;
 use crate::form::Form;
 use crate::guides::write_guide;
 use crate::help::{NO_FORMAT, NO_PART, NO_SHARES, NO_WORKERS};
-use crate::line::make_line;
+use crate::line::{make_line, mistaken};
 use crate::parts::{PartWish, part_of};
+use crate::reading::{has_flag, text_of};
 use crate::tree::command;
-use crate::word::{Guide, Word, guide_of, is_for_people, people_word};
+use crate::word::{Guide, Word, guide_of, people_word};
 use clap::error::ErrorKind;
 use clap::{ArgMatches, Error};
 use ringplan_job::{Job, Making, Screen};
@@ -55,9 +57,7 @@ pub enum Request {
     Describe(Vec<u8>),
     /// To be told how to use the program, or its version, by this text.
     Help(Vec<u8>),
-    /// Nothing that there is, as this text says.
-    Refused(Vec<u8>),
-    /// Nothing that there is, of a command for people; this text goes to standard error.
+    /// Nothing that there is; this text goes to standard error.
     Mistaken(Vec<u8>),
     /// What it asks is not known, since memory was refused.
     OutOfMemory,
@@ -65,7 +65,8 @@ pub enum Request {
 
 // The making with words that have colours always or never, as they have on that screen.
 fn painted(making: Making, screen: Screen) -> Making
-    ensures { word_of_making result ≡ word_of_making making }
+    ensures word { word_of_making result ≡ word_of_making making }
+    ensures means { (rows : List Row) → MeansMaking rows making → MeansMaking rows result }
 {
     match making {
         Making::Why(color) => Making::Why(color.on(screen)),
@@ -94,8 +95,7 @@ impl Request {
             Request::State(_) | Request::StateBy(_) => true,
             Request::Judge(_) | Request::StateJudge(_) | Request::Part(_) => true,
             Request::Make(_) | Request::Describe(_) => true,
-            Request::Help(_) | Request::Refused(_) | Request::Mistaken(_) | Request::OutOfMemory =>
-                false,
+            Request::Help(_) | Request::Mistaken(_) | Request::OutOfMemory => false,
         }
     }
 }
@@ -140,19 +140,9 @@ fn try_parse<S: AsStr>(alloc: Global, words: &[S]) -> Result<CommandLine, AllocE
                 ErrorKind::DisplayHelp | ErrorKind::DisplayVersion => Ok(alone(Request::Help(
                     text,
                 ))),
-                _ => Ok(alone(refused(words, text))),
+                _ => Ok(alone(Request::Mistaken(text))),
             }
         }
-    }
-}
-
-// The refusal of a line that is at fault, by the command that it names.
-fn refused<S: AsStr>(words: &[S], text: Vec<u8>) -> Request
-    ensures { IsTurnedAway result }
-{
-    match words.get(1) {
-        Some(word) if is_for_people(word.as_str()) => Request::Mistaken(text),
-        _ => Request::Refused(text),
     }
 }
 
@@ -218,7 +208,7 @@ fn check_line(alloc: Global, matches: &ArgMatches) -> Result<Request, AllocError
             Request::CheckBy(workers),
             Request::StateBy(workers),
         ),
-        Count::NoNumber => refused_line(alloc, NO_WORKERS),
+        Count::NoNumber => mistaken(alloc, NO_WORKERS),
     }
 }
 
@@ -255,7 +245,7 @@ fn judge_line(alloc: Global, matches: &ArgMatches) -> Result<Request, AllocError
             Request::Judge(shares),
             Request::StateJudge(shares),
         ),
-        None => refused_line(alloc, NO_SHARES),
+        None => mistaken(alloc, NO_SHARES),
     }
 }
 
@@ -269,10 +259,7 @@ fn part_line(alloc: Global, matches: &ArgMatches) -> Result<Request, AllocError>
     };
     match part_of(options) {
         Some(wish) => Ok(Request::Part(wish)),
-        None => {
-            let text = Vec::from_slice(alloc, NO_PART)?;
-            Ok(Request::Mistaken(text))
-        }
+        None => mistaken(alloc, NO_PART),
     }
 }
 
@@ -288,13 +275,13 @@ fn drive_line(alloc: Global, matches: &ArgMatches) -> Result<Request, AllocError
     match count_of(options, "workers", 1, MOST_WORKERS) {
         Count::Unnamed => Ok(Request::Drive(1, form)),
         Count::Many(workers) => Ok(Request::Drive(workers, form)),
-        Count::NoNumber => refused_line(alloc, NO_WORKERS),
+        Count::NoNumber => mistaken(alloc, NO_WORKERS),
     }
 }
 
 // What a line with a command for people asks for.
 fn making_line(alloc: Global, matches: &ArgMatches, word: Word) -> Result<Request, AllocError>
-    requires { task_named (subcommand_rows_of matches.now) ≡ to_make word }
+    requires { task_named (subcommand_rows_of matches.now) ≡ to_make word (rows_named (subcommand_rows_of matches.now)) }
     ensures { IfOk result (Answers (asked_by [] (subcommand_rows_of matches.now))) }
 {
     let Some((_, options)) = matches.subcommand() else {
@@ -324,9 +311,9 @@ pub(crate) enum Format {
 
 /// The form of an answer that is named.
 pub(crate) fn format_of(options: &ArgMatches) -> Format
-    ensures { MeansFormat (but_text (first_value (found_of options.now) (codes "format"))) result }
+    ensures { MeansFormat (but_text (first_of (codes "format") (rows_of (found_of options.now)))) result }
 {
-    match options.get_str("format") {
+    match text_of(options, "format") {
         None => Format::Text,
         Some(text) => {
             if text == "text" {
@@ -352,7 +339,7 @@ fn in_format(
     match format {
         Format::Text => Ok(plain),
         Format::Json => Ok(stated),
-        Format::Unknown => refused_line(alloc, NO_FORMAT),
+        Format::Unknown => mistaken(alloc, NO_FORMAT),
     }
 }
 
@@ -360,18 +347,10 @@ fn in_format(
 fn form_of(options: &ArgMatches) -> Form
     ensures { IsForm (one_text (found_of options.now) (codes "json")) result }
 {
-    match options.try_get_one::<bool>("json") {
-        Ok(Some(true)) => Form::Report,
-        _ => Form::History,
+    if has_flag(options, "json") {
+        return Form::Report;
     }
-}
-
-// A line that is refused in these words.
-fn refused_line(alloc: Global, words: &[u8]) -> Result<Request, AllocError>
-    ensures { IfOk result IsTurnedAway }
-{
-    let text = Vec::from_slice(alloc, words)?;
-    Ok(Request::Refused(text))
+    Form::History
 }
 
 // The job that is named by the subcommand.

@@ -6,6 +6,7 @@ ghost use Rattle.ringplan_command.specs.declared.word.Guide.TheVariants.{Complet
 
 use crate::command::Request;
 use crate::help::NO_SHELL;
+use crate::line::mistaken;
 use crate::manual::manual;
 use crate::shells::{Shell, completions};
 use crate::word::Guide;
@@ -32,6 +33,6 @@ fn completions_line(alloc: Global, options: &ArgMatches) -> Result<Request, Allo
 {
     match options.get_str("shell").and_then(Shell::named) {
         Some(shell) => Ok(Request::Describe(completions(alloc, shell)?)),
-        None => Ok(Request::Mistaken(Vec::from_slice(alloc, NO_SHELL)?)),
+        None => mistaken(alloc, NO_SHELL),
     }
 }

@@ -179,6 +179,9 @@ pub(crate) const NO_EVEN: &[u8; 78] =
 pub(crate) const NO_RATE: &[u8; 80] =
     b"error: '--rate <N>' wants '--sizes <FILE>'\n\nFor more information, try '--help'.\n";
 
+pub(crate) const NO_WINDOW: &[u8; 111] =
+    b"error: invalid value for '--rounds <K>' or '--only <W>': not 1 to 1000000\n\nFor more information, try '--help'.\n";
+
 /// What is said of words or options that are no text.
 pub const NO_WORDS: &[u8; 123] =
     b"error: invalid UTF-8 was detected in one or more arguments\n\nUsage: ringplan <COMMAND>\n\nFor more information, try '--help'.\n";

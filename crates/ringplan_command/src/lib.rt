@@ -11,6 +11,7 @@ mod line;
 mod manual;
 mod naming;
 mod parts;
+mod reading;
 mod shells;
 mod tree;
 mod word;

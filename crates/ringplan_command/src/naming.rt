@@ -1,7 +1,9 @@
 //! What is said of nodes on a command line.
 
+ghost use Rattle.std.specs.Prelude.{◌≡◌, [], IfOk, map, unwrap_or};
+ghost use Rattle.clap.specs.Words.{all_of, found_of, rows_of};
+
 use clap::ArgMatches;
-use ringplan_job::Options;
 use std::alloc::{AllocError, Global};
 
 // The most weight that a node may have.
@@ -37,46 +39,52 @@ pub(crate) fn number_to(text: &[u8], most: u32) -> Option<u32> {
     Some(number)
 }
 
-/// Takes the names of dead nodes.
-pub(crate) fn add_dead(
-    options: &mut Options,
+/// The texts of an option that may be given several times, in their order.
+pub(crate) fn names_of(
     alloc: Global,
     matches: &ArgMatches,
-) -> Result<(), AllocError> {
-    let Some(names) = matches.get_strs("dead") else {
-        return Ok(());
-    };
-    for name in names {
-        options.dead.push(Vec::from_slice(alloc, name.as_bytes())?)?;
-    }
-    Ok(())
-}
-
-/// Takes the weights, and answers whether each is a name, `=` and a number from 1 to 1,000.
-pub(crate) fn add_weights(
-    options: &mut Options,
-    alloc: Global,
-    matches: &ArgMatches,
-) -> Result<bool, AllocError> {
-    let Some(texts) = matches.get_strs("weight") else {
-        return Ok(true);
+    word: &str,
+) -> Result<Vec<Vec<u8>>, AllocError>
+    ensures { IfOk result (λ names. map (λ name. name.items) names.items ≡ unwrap_or (all_of word.now (rows_of (found_of matches.now))) []) }
+{
+    let mut names = Vec::new(alloc);
+    let Some(texts) = matches.get_strs(word) else {
+        return Ok(names);
     };
     for text in texts {
-        if !add_weight(options, alloc, text.as_bytes())? {
-            return Ok(false);
-        }
+        names.push(Vec::from_slice(alloc, text.as_bytes())?)?;
     }
-    Ok(true)
+    Ok(names)
 }
 
-fn add_weight(options: &mut Options, alloc: Global, text: &[u8]) -> Result<bool, AllocError> {
-    let Some((name, digits)) = split(text) else {
-        return Ok(false);
+/// Nodes by name, and by place how many parts of the slots each shall have, 1 to 1,000.
+#[derive(Drop)]
+pub(crate) struct Weights {
+    pub(crate) names: Vec<Vec<u8>>,
+    pub(crate) numbers: Vec<u32>,
+}
+
+/// The weights of nodes. None where one is not a name, `=` and a number from 1 to 1,000.
+pub(crate) fn weights_of(
+    alloc: Global,
+    matches: &ArgMatches,
+) -> Result<Option<Weights>, AllocError> {
+    let mut weights = Weights {
+        names: Vec::new(alloc),
+        numbers: Vec::new(alloc),
     };
-    let Some(number) = number_to(digits, MOST_WEIGHT) else {
-        return Ok(false);
+    let Some(texts) = matches.get_strs("weight") else {
+        return Ok(Some(weights));
     };
-    options.weighed.push(Vec::from_slice(alloc, name)?)?;
-    options.weights.push(number)?;
-    Ok(true)
+    for text in texts {
+        let Some((name, digits)) = split(text.as_bytes()) else {
+            return Ok(None);
+        };
+        let Some(number) = number_to(digits, MOST_WEIGHT) else {
+            return Ok(None);
+        };
+        weights.names.push(Vec::from_slice(alloc, name)?)?;
+        weights.numbers.push(number)?;
+    }
+    Ok(Some(weights))
 }

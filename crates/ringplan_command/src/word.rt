@@ -86,22 +86,3 @@ fn more_of(matches: &ArgMatches) -> Option<Word>
         None => None,
     }
 }
-
-/// Whether the word is that of a command whose line is refused on standard error: one for people, `part`, or one for a text about the program.
-pub(crate) fn is_for_people(word: &str) -> bool {
-    let is_other = matches!(word, "part" | "completions" | "man");
-    is_other
-        || matches!(
-            word,
-            "why"
-                | "show"
-                | "draw"
-                | "steps"
-                | "goal"
-                | "around"
-                | "windows"
-                | "bundle"
-                | "cert"
-                | "after"
-        )
-}

@@ -1,5 +1,7 @@
 //! What can be made of a bundle.
 
+ghost use Rattle.std.specs.Prelude.{◌≡◌, ◌≢◌};
+
 use crate::options::Options;
 
 /// Where a text for people goes.
@@ -24,7 +26,9 @@ pub enum Color {
 
 impl Color {
     /// What that is on this screen: always or never.
-    pub fn on(&self, screen: Screen) -> Color {
+    pub fn on(&self, screen: Screen) -> Color
+        ensures { self.now ≢ Color.Auto → result ≡ self.now }
+    {
         match (self, screen) {
             (Color::Always, _) | (Color::Auto, Screen::Colored) => Color::Always,
             (Color::Never, _) | (Color::Auto, Screen::Plain) => Color::Never,
@@ -54,7 +58,10 @@ pub struct Wish {
 
 impl Wish {
     /// The wish, with the colours that it has on that screen.
-    pub fn on(self, screen: Screen) -> Wish {
+    pub fn on(self, screen: Screen) -> Wish
+        ensures same { (result.shape ≡ self.shape) × (result.options ≡ self.options) × (result.rate ≡ self.rate) }
+        ensures color { self.color ≢ Color.Auto → result.color ≡ self.color }
+    {
         let Wish {
             shape,
             color,

@@ -25,7 +25,7 @@ use Rattle.plan_bundles.specs.Certs.{IsCertifiedText}
 use Rattle.plan_bundles.specs.Goals.{IsLed}
 use Rattle.plan_bundles.specs.Windows.{AreAskedOf}
 use Rattle.plan_around.specs.Around.{IsAround}
-use Rattle.ringplan_people.specs.Studies.{IsStudyOf, HasApproved, IsShown, HasHistory, IsLeftBy}
+use Rattle.ringplan_people.specs.Studies.{IsStudyOf, HasApproved, IsShown, IsLeftBy, IsLeftNow}
 use Rattle.ringplan_people.specs.Why.{HasKept, IsWhy}
 
 -- the text is a first part of the bytes; or it is that of the bytes' ring, of a plan that makes their change, and of its certificate
@@ -45,7 +45,7 @@ OfPlan claim bytes = (ring : RingValue) × (plan : List Planned) × IsStudyOf by
 abbrev pub IsMade : Making → List ℕ → List ℕ → Type 0
 IsMade Bundle bytes text = TextsKeepPromises text × IsBundleOf bytes text
 IsMade Cert bytes text = IsCertOf bytes text
-IsMade After bytes text = HasHistory bytes ⊎ IsLeftBy bytes text
+IsMade After bytes text = IsLeftNow bytes text ⊎ IsLeftBy bytes text
 IsMade (Show wish) bytes text = IsShown bytes
 IsMade (Draw wish) bytes text = HasApproved bytes
 IsMade Steps bytes text = OfPlan (λ ring plan. text ≡ steps_text ring plan) bytes

@@ -1,5 +1,5 @@
 -- Whose the ring and the plan of a bundle are.
-use Rattle.std.specs.Prelude.{◌≡◌, ℕ, true, List, Ok, length}
+use Rattle.std.specs.Prelude.{◌≡◌, ℕ, Bool, true, List, Ok, length}
 use Rattle.texts.specs.Left.{whole_text}
 use Rattle.ring_table.specs.Value.{RingValue}
 use Rattle.ring_table.specs.Spelling.{ring_text}
@@ -15,12 +15,15 @@ use Rattle.ring_core.specs.Replays.{IsHistory}
 use Rattle.ring_script.specs.Bundles.{bundle_at}
 use Rattle.ring_script.specs.declared.bundle.Bundle.{Bundle}
 use Rattle.ring_script.specs.declared.bundle.Kind.TheVariants as kind
-use Rattle.plan_bundles.specs.Rings.{IsRingOf, members_after}
+use Rattle.plan_runs.specs.Runs.{IsRun}
+use Rattle.plan_runs.specs.World.{World, is_member_now}
+use Rattle.ring_core.specs.Tables.{owners_now}
+use Rattle.plan_bundles.specs.Rings.{IsRingOf, flags, members_after}
 
--- the ring and the plan of a bundle: those that its texts say, without a history behind them or with one; or its ring, and a plan that makes its change
+-- the ring and the plan of a bundle: those that its texts say, without a history or with one that is a run of the plan; or its ring, and a plan that makes its change
 pub data IsStudyOf (bytes : List ℕ) (ring : RingValue) (plan : List Planned) : Type 0 where
   of_plan : (b : Bundle) → whole_text (bundle_at kind.Check) bytes ≡ Ok b → b.ring ≡ ring → b.plan ≡ plan → IsStudyOf bytes ring plan
-  of_history : (p : Parts) → whole_text replay_at bytes ≡ Ok p → p.0 ≡ ring → p.1.0 ≡ plan → IsStudyOf bytes ring plan
+  of_history : (p : Parts) → whole_text replay_at bytes ≡ Ok p → p.0 ≡ ring → p.1.0 ≡ plan → IsHistory ring plan p.1.1.1.0 → IsStudyOf bytes ring plan
   of_change : (w : Wanted) → whole_text wanted_at bytes ≡ Ok w → w.ring ≡ ring → fulfils plan w.change.joins w.change.leaves ≡ true → IsStudyOf bytes ring plan
 
 -- the bundle's plan is one that the checker accepts, so it keeps its promises
@@ -45,9 +48,17 @@ pub record IsRecorded (bytes : List ℕ) (ring : RingValue) (plan : List Planned
   pub history_is : parts.1.1.1.0 ≡ history
   pub run : IsHistory ring plan history
 
--- the bytes are the texts of a ring, a plan, its certificate and a history
-abbrev pub HasHistory : List ℕ → Type 0
-HasHistory bytes = (p : Parts) × (whole_text replay_at bytes ≡ Ok p)
+-- whether each of the first nodes is a member in that world
+abbrev pub members_now : RingValue → List Planned → World → ℕ → List Bool
+members_now ring plan w = flags (is_member_now ring plan w)
+
+-- the text is that of the ring, with the owners and the members of the world to which the history leads
+abbrev pub IsLeftAt : RingValue → List Planned → List Entry → List ℕ → Type 0
+IsLeftAt ring plan history text = ∥ ((w : World) × IsRun ring plan history w × IsRingOf ring text (owners_now ring plan w) (members_now ring plan w (length ring.nodes))) ∥₁
+
+-- the same of a bundle with a history
+abbrev pub IsLeftNow : List ℕ → List ℕ → Type 0
+IsLeftNow bytes text = (ring : RingValue) × (plan : List Planned) × (history : List Entry) × IsRecorded bytes ring plan history × IsLeftAt ring plan history text
 
 -- the text is that of the bundle's ring, with the owners after the last step of its plan, and with the members that were or joined, and did not retire
 abbrev pub IsLeftBy : List ℕ → List ℕ → Type 0

@@ -1,137 +1,68 @@
 //! The ring that a plan leaves, or what a history has done of it.
 
-ghost use Rattle.std.specs.Prelude.{◌⊎◌, length, IfOk};
+ghost use Rattle.std.specs.Prelude.{◌≡◌, ◌≤◌, ◌⊎◌, length, IfOk};
 ghost use Rattle.plan_check.specs.Approval.{IsApproved};
 ghost use Rattle.plan_moves.specs.Owners.{last_owners};
 ghost use Rattle.plan_bundles.specs.Rings.{IsRingOf, members_after};
-ghost use Rattle.ringplan_people.specs.Studies.{HasHistory, IsLeftBy};
+ghost use Rattle.plan_runs.specs.World.{World as TheWorld};
+ghost use Rattle.ring_core.specs.World.{Meets, plan_of, ring_of};
+ghost use Rattle.ringplan_people.specs.Studies.{IsLeftAt, IsLeftBy, IsLeftNow, members_now};
 
-use crate::study::{Study, studied};
+use crate::study::{Study, accepted, studied};
 use crate::why::push_words_of;
 use helpers::Words;
-use plan_bundles::{front, rewritten, ring_after};
+use history_text::read_replay;
+use plan_bundles::{Kind, front, kind_of, rewritten, ring_after};
 use plan_check::Approved;
 use plan_runs::Entry;
 use plan_text::{Plan, Step};
-use ring_names::{Listed, NodeId, Refusal, Slot};
+use ring_core::{World, replay};
+use ring_names::{NodeId, Refusal, Slot};
 use ring_table::Ring;
 use show_plan::Progress;
 use std::alloc::Global;
 
-// Whether there is such a step, and it is done.
-fn has_done(progress: &Progress, step: Option<u32>) -> bool {
-    match step {
-        Some(step) => progress.is_done(step),
-        None => false,
-    }
-}
-
-// Whether each node is a member behind the steps that are done.
-fn members_behind(
-    alloc: Global,
-    ring: &Ring,
-    plan: &Plan,
-    progress: &Progress,
-) -> Result<Vec<bool>, Refusal> {
-    let mut members = Vec::new(alloc);
-    let count = ring.nodes().len() as u32;
-    for number in 0..count {
-        let node = NodeId(number);
-        let is_in = ring.is_member(node) || has_done(progress, plan.join_of(node));
-        members.push(is_in && !has_done(progress, plan.retirement_of(node)))?;
-    }
-    Ok(members)
-}
-
-// The owners of a ring's slots, by partition, and the step that set a mirror which no step has switched, by slot.
+// By slot, the step that set a mirror which no step has switched.
 #[derive(Drop)]
-struct Owners {
-    rows: Vec<Vec<NodeId>>,
-    open: Vec<Vec<Option<u32>>>,
+struct Open {
+    rows: Vec<Vec<Option<u32>>>,
 }
 
-impl Owners {
-    fn of(alloc: Global, ring: &Ring) -> Result<Owners, Refusal> {
-        let mut owners = Owners {
-            rows: Vec::new(alloc),
-            open: Vec::new(alloc),
-        };
+impl Open {
+    fn of(alloc: Global, ring: &Ring) -> Result<Open, Refusal> {
+        let mut rows = Vec::new(alloc);
         for row in ring.rows() {
-            owners.rows.push(Vec::from_slice(alloc, row.as_slice())?)?;
-            owners
-                .open
-                .push(vec![in alloc; None; row.as_slice().len()]?)?;
+            rows.push(vec![in alloc; None; row.as_slice().len()]?)?;
         }
-        Ok(owners)
+        Ok(Open { rows })
     }
 
-    fn mirror(&mut self, slot: Slot, number: u32) {
-        if let Some(row) = self.open.get_mut(slot.partition as usize) {
-            if let Some(open) = row.get_mut(slot.index as usize) {
-                *open = Some(number);
-            }
-        }
-    }
-
-    fn switch(&mut self, plan: &Plan, slot: Slot) {
-        let mut opened = None;
-        if let Some(row) = self.open.get_mut(slot.partition as usize) {
-            if let Some(open) = row.get_mut(slot.index as usize) {
-                opened = *open;
-                *open = None;
-            }
-        }
-        let Some(node) = mirror_of(plan, opened) else {
-            return;
-        };
+    fn set(&mut self, slot: Slot, step: Option<u32>) {
         if let Some(row) = self.rows.get_mut(slot.partition as usize) {
-            if let Some(owner) = row.get_mut(slot.index as usize) {
-                *owner = node;
+            if let Some(open) = row.get_mut(slot.index as usize) {
+                *open = step;
             }
         }
     }
 
     // A step acts.
-    fn act(&mut self, plan: &Plan, step: &Step, number: u32) {
+    fn act(&mut self, step: &Step, number: u32) {
         match step {
-            Step::Mirror(slot, _) => self.mirror(*slot, number),
-            Step::Switch(slot) => self.switch(plan, *slot),
+            Step::Mirror(slot, _) => self.set(*slot, Some(number)),
+            Step::Switch(slot) => self.set(*slot, None),
             Step::Copy(_, _) | Step::Drop(_, _) | Step::Join(_) | Step::Retire(_) => {}
         }
     }
 
     // The first step that set a mirror which no step has switched.
-    fn first_open(&self) -> Option<u32> {
+    fn first(&self) -> Option<u32> {
         let mut first = None;
-        for row in self.open.as_slice() {
+        for row in self.rows.as_slice() {
             for open in row.as_slice() {
                 first = earlier(first, *open);
             }
         }
         first
-    }
-
-    fn into_rows(self, alloc: Global) -> Result<Vec<Listed<NodeId>>, Refusal> {
-        let Owners { rows, .. } = self;
-        let mut listed = Vec::new(alloc);
-        for row in rows.as_slice() {
-            listed.push(Listed::from_vec(Vec::from_slice(alloc, row.as_slice())?))?;
-        }
-        Ok(listed)
-    }
-}
-
-// The node that the step sets as a mirror.
-fn mirror_of(plan: &Plan, number: Option<u32>) -> Option<NodeId> {
-    let number = number?;
-    if number >= plan.len() {
-        return None;
-    }
-    match plan.step(number) {
-        Step::Mirror(_, node) => Some(*node),
-        Step::Copy(_, _) | Step::Switch(_) | Step::Drop(_, _) | Step::Join(_) | Step::Retire(_) => {
-            None
-        }
     }
 }
 
@@ -144,46 +75,70 @@ pub(crate) fn earlier(one: Option<u32>, other: Option<u32>) -> Option<u32> {
     }
 }
 
-// The owners behind the steps that are done. Where a slot has a mirror that no step has switched, that is `WrongStage` at the step that set it.
-fn owners_behind(
+// Asks that each mirror is switched which the plan sets, or those of its steps that are done. Else that is `WrongStage` at the first step that set one.
+fn ask_switched(
     alloc: Global,
     approved: &Approved,
-    progress: &Progress,
-) -> Result<Vec<Listed<NodeId>>, Refusal> {
+    progress: Option<&Progress>,
+) -> Result<(), Refusal> {
     let plan = approved.plan();
-    let mut owners = Owners::of(alloc, approved.ring())?;
+    let mut open = Open::of(alloc, approved.ring())?;
     for number in 0..plan.len() {
-        if progress.is_done(number) {
-            owners.act(plan, plan.step(number), number);
+        let is_done = match progress {
+            Some(progress) => progress.is_done(number),
+            None => true,
+        };
+        if is_done {
+            open.act(plan.step(number), number);
         }
     }
-    match owners.first_open() {
+    match open.first() {
         Some(number) => Err(Refusal::WrongStage(number)),
-        None => owners.into_rows(alloc),
+        None => Ok(()),
     }
 }
 
-// The text of the ring behind the steps that a history has done.
-fn ring_behind(
+// Whether each node is a member now.
+fn members_now(alloc: Global, ring: &Ring, store: &World) -> Result<Vec<bool>, Refusal>
+    ensures { IfOk result (λ members. (w : TheWorld) → Meets store.now w
+        → members.items ≡ members_now (ring_of store.now) (plan_of store.now) w (length ring.now.nodes)) }
+{
+    let mut members = Vec::new(alloc);
+    // A ring has few nodes.
+    let count = ring.nodes().len() as u32;
+    'nodes: for node in 0..count {
+        members.push(store.is_member(NodeId(node)))?;
+    }
+    Ok(members)
+}
+
+// The text of the ring to which a history has led. Where a slot has a mirror, that is `WrongStage` at the step that set it.
+fn ring_now(
     alloc: Global,
     approved: &Approved,
     history: &[Entry],
     text: &[u8],
-) -> Result<Vec<u8>, Refusal> {
-    let (ring, plan) = (approved.ring(), approved.plan());
-    let progress = Progress::of(alloc, plan, history)?;
-    let rows = owners_behind(alloc, approved, &progress)?;
-    let members = members_behind(alloc, ring, plan, &progress)?;
+) -> Result<Vec<u8>, Refusal>
+    requires { length history.now ≤ 1000000 }
+    ensures { IfOk result (λ text. IsLeftAt approved.now.ring approved.now.plan history.now text.items) }
+{
+    let store = replay(alloc, approved, history)?;
+    let progress = Progress::of(alloc, approved.plan(), history)?;
+    ask_switched(alloc, approved, Some(&progress))?;
+    let rows = store.table()?;
+    let ring = approved.ring();
+    let members = members_now(alloc, ring, &store)?;
     rewritten(alloc, ring, text, rows.as_slice(), members.as_slice())
 }
 
-// The first step of the plan that sets a mirror which no step switches.
-fn left_open(alloc: Global, ring: &Ring, plan: &Plan) -> Result<Option<u32>, Refusal> {
-    let mut owners = Owners::of(alloc, ring)?;
-    for number in 0..plan.len() {
-        owners.act(plan, plan.step(number), number);
-    }
-    Ok(owners.first_open())
+// The text of the ring to which the history of a bundle has led.
+fn after_history(alloc: Global, bytes: &[u8]) -> Result<Vec<u8>, Refusal>
+    ensures { IfOk result (λ text. IsLeftNow bytes.now text.items) }
+{
+    let bundle = read_replay(alloc, bytes)?;
+    let found = accepted(alloc, bundle.ring, bundle.plan, bundle.cert)?;
+    let text = &bytes[..front(bytes, 1)];
+    ring_now(alloc, &found.approved, bundle.history.as_slice(), text)
 }
 
 // The text of the ring that an approved plan leaves. Where it leaves a slot with a mirror, that is `WrongStage` at the step that sets it.
@@ -193,25 +148,23 @@ fn ring_left(alloc: Global, approved: &Approved, text: &[u8]) -> Result<Vec<u8>,
     ensures approved { IsApproved approved.now.ring approved.now.plan }
 {
     // The plan is approved, which the prover knows once it is read.
-    match left_open(alloc, approved.ring(), approved.plan())? {
-        Some(number) => Err(Refusal::WrongStage(number)),
-        None => ring_after(alloc, approved, text),
-    }
+    let _ = (approved.ring(), approved.plan());
+    ask_switched(alloc, approved, None)?;
+    ring_after(alloc, approved, text)
 }
 
 /// The text of the ring that the plan of a bundle leaves, or what a history has done of it: the same nodes, with the owners and the members behind
 /// the steps that are done. A move that a history, or else the plan, begins and does not switch is `WrongStage` at the step that sets the mirror, since no ring can say
 /// it. Else refused is what `studied` refuses.
 pub fn after_bundle(alloc: Global, bytes: &[u8]) -> Result<Vec<u8>, Refusal>
-    // Where the bundle has no history, it is that of the ring that its plan leaves, and the checker accepted the plan.
-    ensures after { IfOk result (λ text. HasHistory bytes.now ⊎ IsLeftBy bytes.now text.items) }
+    // The checker accepted the plan. It is the ring that the plan leaves, or the one to which the bundle's history has led.
+    ensures after { IfOk result (λ text. IsLeftNow bytes.now text.items ⊎ IsLeftBy bytes.now text.items) }
 {
-    let found = studied(alloc, bytes)?;
-    let text = &bytes[..front(bytes, 1)];
-    match &found.history {
-        Some(history) => ring_behind(alloc, &found.approved, history.as_slice(), text),
-        None => ring_left(alloc, &found.approved, text),
+    if let Kind::History = kind_of(bytes) {
+        return after_history(alloc, bytes);
     }
+    let found = studied(alloc, bytes)?;
+    ring_left(alloc, &found.approved, &bytes[..front(bytes, 1)])
 }
 
 /// Adds why `after_bundle` refuses a bundle with `WrongStage` at the step: which steps must come first where a history has begun a move, that the plan leaves a mirror,

@@ -1,18 +1,17 @@
 //! A bundle whose plan the checker accepts.
 
-ghost use Rattle.std.specs.Prelude.{◌≡◌, ◌≤◌, None, length, IfOk, IfSome, OnOk};
+ghost use Rattle.std.specs.Prelude.{◌≡◌, None, IfOk, IfSome};
 ghost use Rattle.plan_text.specs.Valid.{Suits};
-ghost use Rattle.ring_core.specs.Replays.{IsHistory};
 ghost use Rattle.ringplan_people.specs.Studies.{IsStudyOf, IsRecorded};
 
 use crate::changing::study_change;
 use history_text::read_replay;
+use plan_around::follow;
 use plan_bundles::{Kind, kind_of};
 use plan_cert::Cert;
 use plan_check::{Approved, check};
 use plan_runs::Entry;
 use plan_text::Plan;
-use ring_core::replay;
 use ring_names::Refusal;
 use ring_table::Ring;
 use ringplan_jobs::{Kind as Sections, read_bundle};
@@ -53,15 +52,6 @@ fn study_plan(alloc: Global, bytes: &[u8]) -> Result<Study, Refusal>
 {
     let bundle = read_bundle(alloc, Sections::Check, bytes)?;
     accepted(alloc, bundle.ring, bundle.plan, bundle.cert)
-}
-
-// Asks whether the history is a run of the approved plan.
-fn follow(alloc: Global, approved: &Approved, history: &[Entry]) -> Result<(), Refusal>
-    requires { length history.now ≤ 1000000 }
-    ensures { OnOk result (IsHistory approved.now.ring approved.now.plan history.now) }
-{
-    let _ = replay(alloc, approved, history)?;
-    Ok(())
 }
 
 // A bundle with a history.

@@ -6,15 +6,12 @@ use Rattle.std.specs.Global.{Global}
 use Rattle.ringplan_command.specs.declared.files.Files.{Files}
 use Rattle.ringplan_job.specs.declared.job.Job.{Job}
 use Rattle.ringplan_job.specs.declared.making.Making.{Making}
-use Rattle.ringplan_job.specs.declared.making.Making.TheVariants.{After, Around, Bundle, Cert, Draw, Even, Goal, Moves, Show, State, Steps, Why, Windows}
-use Rattle.ringplan_job.specs.declared.making.Statement.TheVariants as statements
 use Rattle.ringplan_jobs.specs.Io.{Prints, AppendsPart, Tells}
 use Rattle.ringplan_command.specs.Command.{Asked, asked, only}
 use Rattle.ringplan_command.specs.Files.{Names, files_in, files_of, no_files}
 use Rattle.ringplan_command.specs.Tree.{word_of}
 use Rattle.ringplan_command.proofs.Commands.{asked_alone, no_files_alone}
-use Rattle.ringplan_people.specs.Made.{refused as none, stated as of_statement}
-use Rattle.ringplan_run.specs.Run.{Delivers, IsWritten, NamesSizes, Reports, Runs, RunsTo, Shows, failed, filed, printed, read, told_by}
+use Rattle.ringplan_run.specs.Run.{Delivers, IsWritten, NamesSizes, Reports, Runs, RunsTo, Shows, failed, filed, no_sizes, printed, told_by}
 
 -- nothing is printed, with any status
 pub prints_nothing : (old : Option (List ℕ)) (status : ℕ) → Prints old old [] status status
@@ -110,24 +107,8 @@ ran_alone job words told old new result e h =
 
 -- nothing is made, whatever the bytes
 pub reports_none : (making : Making) (bytes : List ℕ) (status : ℕ) → NamesSizes making → (status ≡ 2) ⊎ (status ≡ 3) → Reports making bytes [] status
+reports_none making bytes status names (inl two) = no_sizes names refl two
 reports_none making bytes status names (inr three) = failed refl three
-reports_none (Goal options exit) bytes status names (inl two) = read (none tt refl (λ zero. let bad : 2 ≡ 0 = sym two ∙ zero in absurd cc) (omega arith))
-reports_none (Even options) bytes status names (inl two) = read (none tt refl (λ zero. let bad : 2 ≡ 0 = sym two ∙ zero in absurd cc) (omega arith))
-reports_none (Show wish) bytes status names (inl two) = read (none tt refl (λ zero. let bad : 2 ≡ 0 = sym two ∙ zero in absurd cc) (omega arith))
-reports_none (Why color) bytes status names (inl two) = absurd names
-reports_none Bundle bytes status names (inl two) = absurd names
-reports_none Cert bytes status names (inl two) = absurd names
-reports_none After bytes status names (inl two) = absurd names
-reports_none (Draw wish) bytes status names (inl two) = absurd names
-reports_none Steps bytes status names (inl two) = absurd names
-reports_none Moves bytes status names (inl two) = absurd names
-reports_none (Windows cut) bytes status names (inl two) = absurd names
-reports_none (Around options back) bytes status names (inl two) = absurd names
-reports_none (State statements.Why) bytes status names (inl two) = absurd names
-reports_none (State (statements.Show wish)) bytes status names (inl two) =
-    read (of_statement (statements.Show wish) refl ((λ zero. let bad : 2 ≡ 0 = sym two ∙ zero in absurd cc), omega arith))
-reports_none (State (statements.Goal options exit)) bytes status names (inl two) =
-    read (of_statement (statements.Goal options exit) refl (inr ((λ zero. let bad : 2 ≡ 0 = sym two ∙ zero in absurd cc), omega arith)))
 
 -- whatever the reader tells, some bytes are what it tells
 pub told_bytes : (told : Option (List ℕ)) → (bytes : List ℕ) × Tells told bytes

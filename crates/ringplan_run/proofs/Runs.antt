@@ -18,7 +18,7 @@ use Rattle.history_stream.specs.Cutting.{IsCut, refusal_of}
 use Rattle.ringplan_run.proofs.Deliveries.{prints_nothing}
 use Rattle.ringplan_command.specs.declared.parts.PartWish.{PartWish}
 use Rattle.ringplan_command.specs.Parts.{MeansChoice, PartTexts}
-use Rattle.ringplan_command.specs.Command.{Asked, Asks, AsksBy, AsksDrive, AsksJson, AsksPart, AsksWord, IsMany, only, word_of_making}
+use Rattle.ringplan_command.specs.Command.{Asked, Asks, AsksBy, AsksDrive, AsksJson, AsksMaking, AsksPart, IsMany, only}
 use Rattle.ringplan_jobs.specs.Io.{Prints, Tells}
 use Rattle.ringplan_jobs.specs.Outcomes.{Finds}
 use Rattle.ringplan_jobs.specs.Stated.{json_of}
@@ -89,7 +89,7 @@ pub ran_by : (asked : Asked) (k : ℕ) (told old new : Option (List ℕ)) (found
 ran_by asked k told old new found result e h prints = ran_found asked Check told old new found result (inr (inl (refl, (k, e)))) h prints
 
 -- what is made for people is printed
-pub ran_report : (asked : Asked) (making : Making) (told old new : Option (List ℕ)) (result : ℕ) → AsksWord asked (word_of_making making)
+pub ran_report : (asked : Asked) (making : Making) (told old new : Option (List ℕ)) (result : ℕ) → AsksMaking asked making
     → (bytes : List ℕ) × Tells told bytes × ShowsReport making bytes old new result → Ran asked told old new result
 ran_report asked making told old new result e (bytes, tells, (text, status, reports, prints)) = (bytes, tells, (text, status, reported making e reports, prints))
 

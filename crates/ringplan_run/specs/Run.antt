@@ -4,7 +4,7 @@ use Rattle.ring_names.specs.declared.refusal.Refusal.{Refusal}
 use Rattle.ring_names.specs.declared.refusal.Refusal.TheVariants.{TooLarge, OutOfMemory, ReadFailed}
 use Rattle.ring_names.specs.Refusals.{line_of}
 use Rattle.ringplan_jobs.specs.Answers.{output_of, status_of}
-use Rattle.ringplan_command.specs.Command.{Asked, Asks, AsksDrive, AsksGuide, AsksJson, AsksPart, AsksWord, IsRefused, WantsHelp, word_of_making}
+use Rattle.ringplan_command.specs.Command.{Asked, Asks, AsksDrive, AsksGuide, AsksJson, AsksMaking, AsksPart, IsRefused, WantsHelp}
 use Rattle.ringplan_command.specs.Files.{Names}
 use Rattle.ringplan_jobs.specs.Io.{Prints, max_input}
 use Rattle.ringplan_jobs.specs.Outcomes.{Outcome}
@@ -18,6 +18,8 @@ use Rattle.ringplan_job.specs.declared.job.Job.{Job}
 use Rattle.ringplan_job.specs.declared.making.Making.{Making}
 use Rattle.ringplan_job.specs.declared.making.Making.TheVariants.{Even, Goal, Show, State}
 use Rattle.ringplan_job.specs.declared.making.Statement.{Statement}
+use Rattle.ringplan_job.specs.declared.making.Wish.{Wish}
+use Rattle.ringplan_job.specs.declared.options.Options.{Options}
 use Rattle.ringplan_job.specs.declared.making.Statement.TheVariants as statements
 use Rattle.ringplan_people.specs.Made.{IsReport}
 
@@ -43,9 +45,34 @@ NamesSizes (Show wish) = ⊤
 NamesSizes (State statement) = AreNamedBy statement
 NamesSizes making = ⊥
 
--- what is printed for people, and the status: a report of the bytes, or nothing where there are too many of them, or where memory or a read failed
+-- what is asked for without the sizes that were read
+abbrev pub unsized : Options → Options
+unsized options = record options { sizes = None }
+
+abbrev pub unsized_wish : Wish → Wish
+unsized_wish wish = record wish { options = unsized wish.options }
+
+-- sizes are there just if a file of them is named
+abbrev pub HasSizesOf : Options → Type 0
+HasSizesOf options = is_some options.sizes ≡ is_some options.sizes_file
+
+abbrev pub StatesSizes : Statement → Type 0
+StatesSizes (statements.Goal options exit) = HasSizesOf options
+StatesSizes (statements.Show wish) = HasSizesOf wish.options
+StatesSizes statement = ⊤
+
+abbrev pub HasSizes : Making → Type 0
+HasSizes (Goal options exit) = HasSizesOf options
+HasSizes (Even options) = HasSizesOf options
+HasSizes (Show wish) = HasSizesOf wish.options
+HasSizes (State statement) = StatesSizes statement
+HasSizes making = ⊤
+
+-- what is printed for people, and the status: a report of the bytes; or nothing if the sizes that are named are refused, if there are too many bytes, or if memory or a
+-- read failed
 pub data Reports (making : Making) (bytes : List ℕ) (text : List ℕ) (status : ℕ) : Type 0 where
-  read : IsReport making bytes text status → Reports making bytes text status
+  read : HasSizes making → IsReport making bytes text status → Reports making bytes text status
+  no_sizes : NamesSizes making → text ≡ [] → status ≡ 2 → Reports making bytes text status
   too_large : max_input < length bytes → text ≡ [] → status ≡ 2 → Reports making bytes text status
   failed : text ≡ [] → status ≡ 3 → Reports making bytes text status
 
@@ -53,7 +80,7 @@ pub data Reports (making : Making) (bytes : List ℕ) (text : List ℕ) (status 
 pub data Says (asked : Asked) (bytes : List ℕ) (text : List ℕ) (status : ℕ) : Type 0 where
   help : WantsHelp asked.faults → status ≡ 0 → Says asked bytes text status
   described : (guide : Guide) → AsksGuide asked guide → status ≡ 0 → Says asked bytes text status
-  refused : IsRefused asked → status ≡ 2 → Says asked bytes text status
+  refused : IsRefused asked → text ≡ [] → status ≡ 2 → Says asked bytes text status
   answered : (job : Job) (r : Result (List ℕ) Refusal) → Asks asked job → Outcome job bytes r → text ≡ output_of r → status ≡ status_of r → Says asked bytes text status
   stated : (job : Job) (r : Result (List ℕ) Refusal) → AsksJson asked job → Outcome job bytes r → text ≡ json_of r → status ≡ status_of r → Says asked bytes text status
   unstated : (job : Job) → AsksJson asked job → text ≡ json_of (Err ReadFailed) → status ≡ 3 → Says asked bytes text status
@@ -61,7 +88,7 @@ pub data Says (asked : Asked) (bytes : List ℕ) (text : List ℕ) (status : ℕ
   unread : (job : Job) → Asks asked job → text ≡ line_of ReadFailed → status ≡ 3 → Says asked bytes text status
   undriven : (workers : ℕ) (form : Form) → AsksDrive asked workers form → text ≡ line_of ReadFailed → status ≡ 3 → Says asked bytes text status
   parted : (wish : PartWish) → AsksPart asked wish → Parts wish bytes text status → Says asked bytes text status
-  reported : (making : Making) → AsksWord asked (word_of_making making) → Reports making bytes text status → Says asked bytes text status
+  reported : (making : Making) → AsksMaking asked making → Reports making bytes text status → Says asked bytes text status
   out_of_memory : text ≡ line_of OutOfMemory → status ≡ 3 → Says asked bytes text status
 
 -- something is said and printed

@@ -3,12 +3,12 @@
 ghost use Rattle.std.specs.Prelude.{◌≡◌, ◌≢◌, ◌<◌, ◌≤◌, ◌∷◌, true, false, Err, ℕ, List, [], IfOk, drop, map, option_map, string_bytes};
 ghost use Rattle.ring_names.specs.Refusals.{line_of};
 ghost use Rattle.ringplan_jobs.specs.Answers.{texts_of};
-ghost use Rattle.ringplan_command.specs.Command.{Answers, Asked, asked, only, word_of_making};
+ghost use Rattle.ringplan_command.specs.Command.{Answers, Asked, AsksMaking, asked, only};
 ghost use Rattle.ringplan_command.specs.Files.{files_of, no_files};
 ghost use Rattle.ringplan_command.specs.Tree.{word_of};
 ghost use Rattle.ringplan_jobs.specs.Io.{Prints, Tells};
 ghost use Rattle.ringplan_jobs.specs.Outcomes.{Finds};
-ghost use Rattle.ringplan_run.specs.Run.{FindsDrive, IsWritten, PrintsFound, PrintsStated, Reports, Runs, RunsTo, Shows, ShowsReport, told_by};
+ghost use Rattle.ringplan_run.specs.Run.{FindsDrive, HasSizes, IsWritten, PrintsFound, PrintsStated, Reports, Runs, RunsTo, Shows, ShowsReport, told_by};
 ghost use Rattle.ringplan_job.specs.declared.job.Job.{Job};
 ghost use Rattle.ringplan_job.specs.declared.making.Making.{Making};
 ghost use Rattle.ringplan_job.specs.declared.job.Job.TheVariants.{Check, Replay};
@@ -45,8 +45,8 @@ const STEPS: u8 = 4;
 
 /// Runs a command line, whose first word is the program's name, and returns the exit status: 0 for what was printed, for yes and for help, 1 for a plan
 /// that is refused or that there is none of, for a drive that broke off and for a history that is no run, 2 for a text or a command line that is
-/// refused, 3 where memory, an input or an output failed, and 4 for a plan with steps where `goal --exit-code` asks for that. `plan`, `check`, `play`, `drive`, `replay`, `judge` and `migrate` print their refusals on the output,
-/// the other commands on standard error.
+/// refused, 3 where memory, an input or an output failed, and 4 for a plan with steps where `goal --exit-code` asks for that. `plan`, `check`, `play`, `drive`,
+/// `replay`, `judge` and `migrate` print refusals of a bundle on the output, the other commands on standard error. What is wrong with a command line goes to standard error.
 ///
 /// Words for people have colours where the screen has them, or the line says so. Where the line names a file, that is read in place of the input; where it names one with `-o`, what would be printed with status 0 or 4 is written there. It
 /// waits for the threads that `drive`, `judge` and `check --workers` ask for; every other line that names a job is done by `run_alone`.
@@ -167,7 +167,6 @@ fn run_request<RT: AllocGlobal + Files + Eprint + Threads + Wait + Sync, R: Read
         Request::Make(making) => run_making(rt, making, input, output),
         Request::Describe(text) => finish(output, text.as_slice(), 0),
         Request::Help(text) => finish(output, text.as_slice(), 0),
-        Request::Refused(text) => finish(output, text.as_slice(), REFUSED),
         Request::Mistaken(text) => {
             say(rt, text.as_slice());
             REFUSED
@@ -183,8 +182,8 @@ fn run_making<RT: AllocGlobal + Files + Eprint, R: Read + Drop, W: Write>(
     input: &mut R,
     output: &mut W,
 ) -> u8
-    ensures { (made : Making) × (word_of_making made ≡ word_of_making making) × (bytes : List ℕ) × Tells (R.remaining input.old) bytes
-        × ShowsReport made bytes (W.contents output.old) (W.contents output.new) result }
+    ensures { (made : Making) × ((asked : Asked) → AsksMaking asked making → AsksMaking asked made) × (bytes : List ℕ)
+        × Tells (R.remaining input.old) bytes × ShowsReport made bytes (W.contents output.old) (W.contents output.new) result }
 {
     match with_sizes(rt, making) {
         Ok(made) => print_report(rt, &made, input, output),
@@ -199,6 +198,7 @@ fn print_report<RT: AllocGlobal + Eprint, R: Read + Drop, W: Write>(
     input: &mut R,
     output: &mut W,
 ) -> u8
+    requires { HasSizes making.now }
     ensures { (bytes : List ℕ) × Tells (R.remaining input.old) bytes
         × ShowsReport making.now bytes (W.contents output.old) (W.contents output.new) result }
 {
@@ -220,6 +220,7 @@ fn report_of<R: Read + Drop>(
     making: &Making,
     input: &mut R,
 ) -> Result<Report, Refusal>
+    requires { HasSizes making.now }
     ensures { IfOk result (λ r. (bytes : List ℕ) × Tells (R.remaining input.old) bytes
         × Reports making.now bytes r.output.items r.status) }
 {

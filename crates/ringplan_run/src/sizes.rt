@@ -1,8 +1,9 @@
 //! The sizes of partitions that a file has.
 
 ghost use Rattle.std.specs.Prelude.{◌≡◌, ◌⊎◌, IfErr, IfOk};
-ghost use Rattle.ringplan_command.specs.Command.{word_of_making, word_of_statement};
-ghost use Rattle.ringplan_run.specs.Run.{AreNamedBy, NamesSizes};
+ghost use Rattle.ringplan_command.specs.Command.{AsksMaking, Asked};
+ghost use Rattle.ringplan_job.specs.declared.making.Making.TheVariants.{State};
+ghost use Rattle.ringplan_run.specs.Run.{AreNamedBy, HasSizes, HasSizesOf, NamesSizes, StatesSizes, unsized, unsized_wish};
 
 use crate::files::{Limit, open};
 use ring_names::Refusal;
@@ -45,7 +46,9 @@ fn sizes_in<RT: AllocGlobal + Files + Eprint>(rt: &RT, name: &str) -> Result<Vec
 
 // The options with the sizes of the file that they name, if they name one.
 fn read_options<RT: AllocGlobal + Files + Eprint>(rt: &RT, options: Options) -> Result<Options, u8>
-    ensures { IfErr result (λ status. (status ≡ 2) ⊎ (status ≡ 3)) }
+    ensures same { IfOk result (λ made. unsized made ≡ unsized options) }
+    ensures sizes { IfOk result HasSizesOf }
+    ensures status { IfErr result (λ status. (status ≡ 2) ⊎ (status ≡ 3)) }
 {
     let mut options = options;
     let sizes = match &options.sizes_file {
@@ -58,7 +61,9 @@ fn read_options<RT: AllocGlobal + Files + Eprint>(rt: &RT, options: Options) -> 
 
 // What is to be shown, with the sizes of the file that it names, if it names one.
 fn wish_with_sizes<RT: AllocGlobal + Files + Eprint>(rt: &RT, wish: Wish) -> Result<Wish, u8>
-    ensures { IfErr result (λ status. (status ≡ 2) ⊎ (status ≡ 3)) }
+    ensures same { IfOk result (λ made. unsized_wish made ≡ unsized_wish wish) }
+    ensures sizes { IfOk result (λ made. HasSizesOf made.options) }
+    ensures status { IfErr result (λ status. (status ≡ 2) ⊎ (status ≡ 3)) }
 {
     let Wish {
         shape,
@@ -80,7 +85,8 @@ fn stated_with_sizes<RT: AllocGlobal + Files + Eprint>(
     rt: &RT,
     statement: Statement,
 ) -> Result<Statement, u8>
-    ensures same { IfOk result (λ made. word_of_statement made ≡ word_of_statement statement) }
+    ensures same { IfOk result (λ made. (asked : Asked) → AsksMaking asked (State statement) → AsksMaking asked (State made)) }
+    ensures sizes { IfOk result StatesSizes }
     ensures status { IfErr result (λ status. ((status ≡ 2) ⊎ (status ≡ 3)) × AreNamedBy statement) }
 {
     match statement {
@@ -96,7 +102,8 @@ pub(crate) fn with_sizes<RT: AllocGlobal + Files + Eprint>(
     rt: &RT,
     making: Making,
 ) -> Result<Making, u8>
-    ensures same { IfOk result (λ made. word_of_making made ≡ word_of_making making) }
+    ensures same { IfOk result (λ made. (asked : Asked) → AsksMaking asked making → AsksMaking asked made) }
+    ensures sizes { IfOk result HasSizes }
     ensures status { IfErr result (λ status. ((status ≡ 2) ⊎ (status ≡ 3)) × NamesSizes making) }
 {
     match making {

@@ -8,4 +8,4 @@ pub returns : goal.returns
 returns c =
     let read = c.in_ok-read.read in
     let named = c.in_ok-nodes.ensures ∙ ap (λ (xs : List NodeId). map (λ x. Some x.0) xs) (sym c.as_slice.ensures.value) in
-    record { around = IfOk-weaker c.around_read.result _ _ (λ v is. record { parts = parts_of read; read = c.in_ok-read.ensures.read; dead = c.as_slice.result.now; named = named; around = is }) c.around_read.ensures }
+    record { around = IfOk-weaker c.around_read.result _ _ (λ v is. record { parts = parts_of read; read = c.in_ok-read.ensures.read; dead = c.as_slice.result.now; named = named; earlier = is.1; around = is.0 }) c.around_read.ensures }

@@ -2,6 +2,7 @@ use Rattle.std.proofs.Common.{List, subst}
 use Rattle.ring_table.specs.Value.{RingValue}
 use Rattle.plan_text.specs.declared.step.Planned.{Planned}
 use Rattle.plan_runs.specs.declared.event.Entry.{Entry}
+use Rattle.ring_core.specs.Replays.{IsHistory}
 use Rattle.plan_around.specs.Around.{GoesAround}
 use Rattle.plan_around.proofs.around.around_read.Goals as goal
 
@@ -13,6 +14,10 @@ returns-in-Ok c =
     let text = c.in-Ok.text.items in
     let old = c.in_ok-approved.approved.plan in
     let entries = c.as_slice-entries.result.now in
-    subst (λ (h : List Entry). GoesAround back read.ring dead read.writers read.plan h text) c.as_slice-entries.ensures.value
-    (subst (λ (p : List Planned). GoesAround back read.ring dead read.writers p entries text) c.in_ok-approved.ensures.same.1
-    (subst (λ (r : RingValue). GoesAround back r dead read.writers old entries text) c.in_ok-other.ensures c.in-Ok.ensures))
+    let same = c.in_ok-approved.ensures.same in (
+      subst (λ (h : List Entry). GoesAround back read.ring dead read.writers read.plan h text) c.as_slice-entries.ensures.value
+          (subst (λ (p : List Planned). GoesAround back read.ring dead read.writers p entries text) same.1
+          (subst (λ (r : RingValue). GoesAround back r dead read.writers old entries text) c.in_ok-other.ensures c.in-Ok.ensures)),
+      subst (λ (h : List Entry). IsHistory read.ring read.plan h) c.as_slice-entries.ensures.value
+          (subst (λ (p : List Planned). IsHistory read.ring p entries) same.1 (subst (λ (r : RingValue). IsHistory r old entries) same.0 c.in_ok-follow.ensures)),
+    )

@@ -19,12 +19,12 @@ unreachable-requires c =
     let same : texts c.as_slice.result.now ≡ line_of c.args.word c.args.options.now = ap texts c.as_slice.ensures.value ∙ c.in_ok-words.ensures in
     let request = c.parse-request.result.request in
     no_other request (people_alone c.args.word c.args.options.now c.args.input.now (texts c.as_slice.result.now) same request c.parse-request.ensures.kinds)
-    c.in_default.not-Make c.in_default.not-Help c.in_default.not-Refused c.in_default.not-Mistaken c.in_default.not-OutOfMemory
+    c.in_default.not-Make c.in_default.not-Help c.in_default.not-Mistaken c.in_default.not-OutOfMemory
 
-pub returns-in-Refused : goal.returns-in-Refused
-returns-in-Refused c =
+pub returns-in-Mistaken : goal.returns-in-Mistaken
+returns-in-Mistaken c =
     let texts = map (λ (x : Bor (List ℕ)). x.now) in
     let same : texts c.as_slice.result.now ≡ line_of c.args.word c.args.options.now = ap texts c.as_slice.ensures.value ∙ c.in_ok-words.ensures in
     let line = c.parse-request in
-    says_refused c.args.word c.args.options.now c.args.input.now (texts c.as_slice.result.now) same line.result.request c.in-Refused.text c.turned_away.result
-    line.ensures.kinds c.in-Refused.is c.turned_away.ensures
+    says_refused c.args.word c.args.options.now c.args.input.now (texts c.as_slice.result.now) same line.result.request c.in-Mistaken.text c.turned_away.result
+    line.ensures.kinds c.in-Mistaken.is c.turned_away.ensures

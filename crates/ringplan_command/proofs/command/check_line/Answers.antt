@@ -1,10 +1,11 @@
 use Rattle.std.proofs.Common.{◌≡◌, ◌∙◌, ap, sym, subst, codes, List, [], ℕ}
 use Rattle.std.specs.Prelude.{Option}
-use Rattle.clap.specs.Words.{first_value, found_of, one_text, rows_of, subcommand_rows_of}
-use Rattle.clap.proofs.WalkLemmas.{first_value-rows, one_text-rows}
+use Rattle.clap.specs.Words.{first_of, found_of, one_text, rows_of, subcommand_rows_of}
+use Rattle.clap.proofs.WalkLemmas.{one_text-rows}
 use Rattle.ringplan_job.specs.declared.job.Job.TheVariants.{Check}
 use Rattle.ringplan_command.specs.declared.command.Request.TheVariants.{Do, CheckBy, State, StateBy}
-use Rattle.ringplan_command.specs.Command.{MeansFormat, asked_by, but_text, format_named, option_named, to_do}
+use Rattle.ringplan_command.specs.Makings.{but_text}
+use Rattle.ringplan_command.specs.Command.{MeansFormat, asked_by, format_named, option_named, to_do}
 use Rattle.ringplan_command.specs.Numbers.{HasNoNumber}
 use Rattle.ringplan_command.proofs.Commands.{bad_form, bad_given, format_there, formed, named_there, none_given, none_stated, refused_line, some_given, some_stated}
 use Rattle.ringplan_command.proofs.command.check_line.Goals as goal
@@ -14,7 +15,7 @@ returns-in-Unnamed c =
     let sub = subcommand_rows_of c.args.matches.now in
     let found = found_of c.in-Some.options.now in
     let named : option_named (codes "workers") sub ≡ one_text found (codes "workers") = named_there sub (rows_of found) (codes "workers") c.in-Some.ensures.rows ∙ sym (one_text-rows found (codes "workers")) in
-    let json : but_text (first_value found (codes "format")) ≡ format_named sub = ap but_text (first_value-rows found (codes "format")) ∙ sym (format_there sub (rows_of found) c.in-Some.ensures.rows) in
+    let json : but_text (first_of (codes "format") (rows_of found)) ≡ format_named sub = sym (format_there sub (rows_of found) c.in-Some.ensures.rows) in
     let means = subst (λ (o : Option (List ℕ)). MeansFormat o c.format_of-format.result) json c.format_of-format.ensures in
     let none = named ∙ c.in-Unnamed.ensures in
     formed (asked_by [] sub) (format_named sub) c.format_of-format.result (Do Check) (State Check) c.in_format.result means (none_given sub c.requires none) (none_stated sub c.requires none)
@@ -25,7 +26,7 @@ returns-in-Many c =
     let sub = subcommand_rows_of c.args.matches.now in
     let found = found_of c.in-Some.options.now in
     let named : option_named (codes "workers") sub ≡ one_text found (codes "workers") = named_there sub (rows_of found) (codes "workers") c.in-Some.ensures.rows ∙ sym (one_text-rows found (codes "workers")) in
-    let json : but_text (first_value found (codes "format")) ≡ format_named sub = ap but_text (first_value-rows found (codes "format")) ∙ sym (format_there sub (rows_of found) c.in-Some.ensures.rows) in
+    let json : but_text (first_of (codes "format") (rows_of found)) ≡ format_named sub = sym (format_there sub (rows_of found) c.in-Some.ensures.rows) in
     let means = subst (λ (o : Option (List ℕ)). MeansFormat o c.format_of-format.result) json c.format_of-format.ensures in
     let read = c.in-Many.ensures in
     let some = named ∙ read.1 in
@@ -38,4 +39,4 @@ returns-in-NoNumber c =
     let sub = subcommand_rows_of c.args.matches.now in
     let found = found_of c.in-Some.options.now in
     let named : option_named (codes "workers") sub ≡ one_text found (codes "workers") = named_there sub (rows_of found) (codes "workers") c.in-Some.ensures.rows ∙ sym (one_text-rows found (codes "workers")) in
-    refused_line (asked_by [] sub) c.refused_line.result (bad_given sub c.requires (subst (λ (o : Option (List ℕ)). HasNoNumber 64 o) (sym named) c.in-NoNumber.ensures)) c.refused_line.ensures
+    refused_line (asked_by [] sub) c.mistaken.result (bad_given sub c.requires (subst (λ (o : Option (List ℕ)). HasNoNumber 64 o) (sym named) c.in-NoNumber.ensures)) c.mistaken.ensures.away

@@ -39,4 +39,4 @@ returns-in-NoNumber c =
     let sub = subcommand_rows_of c.args.matches.now in
     let found = found_of c.in-Some.options.now in
     let workers : option_named (codes "workers") sub ≡ one_text found (codes "workers") = named_there sub (rows_of found) (codes "workers") c.in-Some.ensures.rows ∙ sym (one_text-rows found (codes "workers")) in
-    refused_line (asked_by [] sub) c.refused_line.result (bad_driven sub c.requires (subst (λ (o : Option (List ℕ)). HasNoNumber 64 o) (sym workers) c.in-NoNumber.ensures)) c.refused_line.ensures
+    refused_line (asked_by [] sub) c.mistaken.result (bad_driven sub c.requires (subst (λ (o : Option (List ℕ)). HasNoNumber 64 o) (sym workers) c.in-NoNumber.ensures)) c.mistaken.ensures.away

@@ -2,4 +2,4 @@ use Rattle.std.proofs.Common.{refl}
 use Rattle.ringplan_command.proofs.line.mistaken.Goals as goal
 
 pub returns : goal.returns
-returns c = (c.in_ok-text.text, refl)
+returns c = record { mistaken = (c.in_ok-text.text, refl); away = tt }

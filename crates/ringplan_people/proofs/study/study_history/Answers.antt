@@ -9,7 +9,8 @@ pub returns-clause-of : goal.returns-clause-of
 returns-clause-of c =
     let b = c.in_ok-bundle in
     let same = c.in_ok-found.ensures.same in
-    of_history (parts_of b.bundle) b.ensures.read (sym same.0) (sym same.1)
+    let found = c.in_ok-found.found.approved in
+    of_history (parts_of b.bundle) b.ensures.read (sym same.0) (sym same.1) (subst (λ (h : List Entry). IsHistory found.ring found.plan h) c.as_slice.ensures.value c.in_ok-follow.ensures)
 
 pub returns-clause-history : goal.returns-clause-history
 returns-clause-history c =

@@ -1,4 +1,4 @@
-use Rattle.std.proofs.Common.{[], refl}
+use Rattle.std.proofs.Common.{[]}
 use Rattle.ringplan_run.proofs.Deliveries.{prints_nothing, reports_none, told_bytes}
 use Rattle.ringplan_run.proofs.program.run_making.Goals as goal
 
@@ -9,4 +9,4 @@ pub returns-in-Err : goal.returns-in-Err
 returns-in-Err g c =
     let read = told_bytes (g.R.Read.remaining c.args.input.now) in
     let status = c.in-Err.status in
-    (c.args.making, refl, read.0, read.1, ([], status, reports_none c.args.making read.0 status c.in-Err.ensures.status.1 c.in-Err.ensures.status.0, prints_nothing _ status))
+    (c.args.making, λ asked asks. asks, read.0, read.1, ([], status, reports_none c.args.making read.0 status c.in-Err.ensures.status.1 c.in-Err.ensures.status.0, prints_nothing _ status))

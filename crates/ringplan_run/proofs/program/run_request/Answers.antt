@@ -1,8 +1,7 @@
 use Rattle.std.proofs.Common.{rules, [], subst, refl, sym, inl, inr}
 use Rattle.ringplan_job.specs.declared.job.Job.TheVariants.{Check, Replay}
 use Rattle.ringplan_jobs.specs.Answers.{texts_of}
-use Rattle.ringplan_command.specs.Command.{Answers, AsksWord}
-use Rattle.ringplan_command.specs.declared.word.Word.{Word}
+use Rattle.ringplan_command.specs.Command.{Answers}
 use Rattle.ringplan_command.specs.declared.command.Request.{Request}
 use Rattle.ringplan_run.specs.Run.{described, help, refused}
 use Rattle.ringplan_run.proofs.Runs.{asked_choice, many_few, ran, ran_asked, ran_by, ran_driven, ran_found, ran_out, ran_part, ran_report, ran_stated, said}
@@ -64,7 +63,7 @@ pub returns-in-Make : goal.returns-in-Make
 returns-in-Make g c = λ asked h.
     let asks = subst (λ (r : Request). Answers asked r) c.in-Make.is h in
     let made = c.run_making.ensures in
-    ran_report asked made.0 (g.R.Read.remaining c.args.input.now) _ _ c.run_making.result (subst (λ (w : Word). AsksWord asked w) (sym made.1) asks) (made.2, made.3, made.4)
+    ran_report asked made.0 (g.R.Read.remaining c.args.input.now) _ _ c.run_making.result (made.1 asked asks) (made.2, made.3, made.4)
 
 pub returns-in-Describe : goal.returns-in-Describe
 returns-in-Describe g c = λ asked h.
@@ -78,17 +77,11 @@ returns-in-Help g c = λ asked h.
     let asks = subst (λ (r : Request). Answers asked r) c.in-Help.is h in
     ran _ told _ _ c.in-Help.text.items c.as_slice-in-Help.result.now 0 c.finish-in-Help.result (said _ told c.in-Help.text.items 0 (λ bytes. help asks refl)) c.as_slice-in-Help.ensures.value c.finish-in-Help.ensures
 
-pub returns-in-Refused : goal.returns-in-Refused
-returns-in-Refused g c = λ asked h.
-    let told = g.R.Read.remaining c.args.input.now in
-    let asks = subst (λ (r : Request). Answers asked r) c.in-Refused.is h in
-    ran _ told _ _ c.in-Refused.text.items c.as_slice-in-Refused.result.now 2 c.finish-in-Refused.result (said _ told c.in-Refused.text.items 2 (λ bytes. refused asks refl)) c.as_slice-in-Refused.ensures.value c.finish-in-Refused.ensures
-
 pub returns-in-Mistaken : goal.returns-in-Mistaken
 returns-in-Mistaken g c = λ asked h.
     let told = g.R.Read.remaining c.args.input.now in
     let asks = subst (λ (r : Request). Answers asked r) c.in-Mistaken.is h in
-    ran _ told _ _ [] [] 2 2 (said _ told [] 2 (λ bytes. refused asks refl)) refl (prints_nothing _ 2)
+    ran _ told _ _ [] [] 2 2 (said _ told [] 2 (λ bytes. refused asks refl refl)) refl (prints_nothing _ 2)
 
 pub returns-in-OutOfMemory : goal.returns-in-OutOfMemory
 returns-in-OutOfMemory g c = λ asked h. ran_out asked (g.R.Read.remaining c.args.input.now) _ _ _ c.end_without_memory.ensures

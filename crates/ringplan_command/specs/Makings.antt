@@ -1,0 +1,112 @@
+-- What a line with a command for people asks to be made, by the rows of its options.
+use Rattle.std.specs.Prelude.{◌≡◌, ◌≢◌, ◌⊎◌, ℕ, List, [], ◌∷◌, Option, Some, None, codes, map, ⊤, if◌then◌else◌, option_map, string_bytes, unwrap_or}
+use Rattle.std.specs.Str.{bytes_eq}
+use Rattle.clap.specs.Words.{Row, all_of, first_of, one_of}
+use Rattle.ringplan_command.specs.Files.{but_dash}
+use Rattle.ringplan_command.specs.Numbers.{IsCount, IsNumberNamed}
+use Rattle.ringplan_job.specs.declared.making.Back.{Back}
+use Rattle.ringplan_job.specs.declared.making.Back.TheVariants.{Allowed, Never as NoBack}
+use Rattle.ringplan_job.specs.declared.making.Color.{Color}
+use Rattle.ringplan_job.specs.declared.making.Color.TheVariants.{Always, Never}
+use Rattle.ringplan_job.specs.declared.making.Cut.{Cut}
+use Rattle.ringplan_job.specs.declared.making.DrawWish.{DrawWish}
+use Rattle.ringplan_job.specs.declared.making.Exit.{Exit}
+use Rattle.ringplan_job.specs.declared.making.Exit.TheVariants.{Printed, Steps as StepsExit}
+use Rattle.ringplan_job.specs.declared.making.Making.{Making}
+use Rattle.ringplan_job.specs.declared.making.Making.TheVariants.{Why, Bundle, Cert, After, Show, Draw, Steps, Moves, Windows, Goal, Even, Around, State}
+use Rattle.ringplan_job.specs.declared.making.Picture.{Picture}
+use Rattle.ringplan_job.specs.declared.making.Picture.TheVariants.{Map, Rounds}
+use Rattle.ringplan_job.specs.declared.making.Shape.{Shape}
+use Rattle.ringplan_job.specs.declared.making.Shape.TheVariants.{Short, Whole}
+use Rattle.ringplan_job.specs.declared.making.Statement.{Statement}
+use Rattle.ringplan_job.specs.declared.making.Statement.TheVariants as stated
+use Rattle.ringplan_job.specs.declared.making.Wish.{Wish}
+use Rattle.ringplan_job.specs.declared.options.Options.{Options}
+
+-- the text of a form of answers, but for `text`, which is also the form if none is named
+abbrev pub but_text : Option (List ℕ) → Option (List ℕ)
+but_text None = None
+but_text (Some text) = if bytes_eq text (codes "text") then None else Some text
+
+-- words are asked for, or JSON
+abbrev pub InWords : List Row → Type 0
+InWords rows = but_text (first_of (codes "format") rows) ≡ None
+
+abbrev pub InJson : List Row → Type 0
+InJson rows = but_text (first_of (codes "format") rows) ≡ Some (codes "json")
+
+-- the flag is on the line, or it is not
+abbrev pub IsSet : List ℕ → List Row → Type 0
+IsSet id rows = one_of id rows ≡ Some (codes "true")
+
+abbrev pub IsUnset : List ℕ → List Row → Type 0
+IsUnset id rows = IsSet id rows → ⊥
+
+-- when words have colours: if no text says it, or `auto` does, the screen decides
+abbrev pub MeansColor : Option (List ℕ) → Color → Type 0
+MeansColor None color = ⊤
+MeansColor (Some text) color = (text ≡ codes "auto") ⊎ (((text ≡ codes "always") × (color ≡ Always)) ⊎ ((text ≡ codes "never") × (color ≡ Never)))
+
+-- the byte after which a name names its rack, if one is named
+abbrev pub MeansByte : Option (List ℕ) → Option ℕ → Type 0
+MeansByte None byte = byte ≡ None
+MeansByte (Some text) byte = (b : ℕ) × (text ≡ b ∷ []) × (byte ≡ Some b)
+
+-- the racks and the file of sizes are those that are named
+abbrev pub MeansLayout : List Row → Options → Type 0
+MeansLayout rows options = MeansByte (first_of (codes "racks-behind") rows) options.racks_behind
+    × (option_map string_bytes options.sizes_file ≡ but_dash (first_of (codes "sizes") rows))
+
+-- the dead nodes are those that are named
+abbrev pub MeansDead : List Row → Options → Type 0
+MeansDead rows options = map (λ name. name.items) options.dead.items ≡ unwrap_or (all_of (codes "dead") rows) []
+
+-- a goal around the dead, with racks and sizes
+abbrev pub MeansNodes : List Row → Options → Type 0
+MeansNodes rows options = MeansDead rows options × MeansLayout rows options
+
+abbrev pub MeansShape : List Row → Shape → Type 0
+MeansShape rows Whole = IsSet (codes "all") rows
+MeansShape rows Short = IsUnset (codes "all") rows
+
+abbrev pub MeansPicture : List Row → Picture → Type 0
+MeansPicture rows Map = IsSet (codes "map") rows
+MeansPicture rows Rounds = IsUnset (codes "map") rows
+
+abbrev pub MeansExit : List Row → Exit → Type 0
+MeansExit rows StepsExit = IsSet (codes "exit-code") rows
+MeansExit rows Printed = IsUnset (codes "exit-code") rows
+
+abbrev pub MeansBack : List Row → Back → Type 0
+MeansBack rows Allowed = IsSet (codes "back") rows
+MeansBack rows NoBack = IsUnset (codes "back") rows
+
+-- what a summary is to show; of its options only racks and sizes
+abbrev pub MeansWish : List Row → Wish → Type 0
+MeansWish rows wish = MeansShape rows wish.shape × MeansColor (first_of (codes "color") rows) wish.color × MeansLayout rows wish.options
+    × IsNumberNamed 1 4294967295 (one_of (codes "rate") rows) wish.rate
+
+abbrev pub MeansCut : List Row → Cut → Type 0
+MeansCut rows cut = IsCount 1000000 1 (one_of (codes "rounds") rows) cut.rounds × IsNumberNamed 1 1000000 (one_of (codes "only") rows) cut.only
+
+-- the statement is what the options ask for in JSON
+abbrev pub MeansStatement : List Row → Statement → Type 0
+MeansStatement rows stated.Why = ⊤
+MeansStatement rows (stated.Show wish) = MeansWish rows wish
+MeansStatement rows (stated.Goal options exit) = IsUnset (codes "even") rows × MeansNodes rows options × MeansExit rows exit
+
+-- the making is what the options ask for; of weights nothing is said
+abbrev pub MeansMaking : List Row → Making → Type 0
+MeansMaking rows (Why color) = InWords rows × MeansColor (first_of (codes "color") rows) color
+MeansMaking rows Bundle = ⊤
+MeansMaking rows Cert = ⊤
+MeansMaking rows After = ⊤
+MeansMaking rows (Show wish) = InWords rows × MeansWish rows wish
+MeansMaking rows (Draw wish) = MeansPicture rows wish.picture × MeansByte (first_of (codes "racks-behind") rows) wish.racks_behind
+MeansMaking rows Steps = IsUnset (codes "moves") rows
+MeansMaking rows Moves = IsSet (codes "moves") rows
+MeansMaking rows (Windows cut) = MeansCut rows cut
+MeansMaking rows (Goal options exit) = InWords rows × (IsUnset (codes "even") rows × MeansNodes rows options × MeansExit rows exit)
+MeansMaking rows (Even options) = InWords rows × (IsSet (codes "even") rows × MeansNodes rows options)
+MeansMaking rows (Around options back) = MeansDead rows options × MeansBack rows back
+MeansMaking rows (State statement) = InJson rows × MeansStatement rows statement
