@@ -3,6 +3,7 @@ import os
 import subprocess
 import sys
 import tempfile
+from collections.abc import Sequence
 
 TOP = os.path.dirname(os.path.dirname(os.path.abspath(__file__)))
 RUN = os.path.join(TOP, "crates", "ringplan", "out", "ringplan")
@@ -12,7 +13,7 @@ class Measured:
     """The output's first bytes and its size, the exit status, the seconds by the clock and of processor time, and the most memory in bytes (that of the
     process that starts it, some nine megabytes, at least)."""
 
-    def __init__(self, words, bundle, limit=120, program=RUN):
+    def __init__(self, words: Sequence[str], bundle: bytes, limit: int = 120, program: str = RUN) -> None:
         with tempfile.NamedTemporaryFile() as given, tempfile.NamedTemporaryFile() as out:
             given.write(bundle)
             given.flush()
@@ -25,7 +26,7 @@ class Measured:
             self.front = out.read(4096)
 
 
-def main(given, written, limit, *words):
+def main(given: str, written: str, limit: str, *words: str) -> None:
     import signal
     import time
 
