@@ -3,7 +3,7 @@
 #
 #   make install PREFIX=/usr/local DESTDIR=    make deb     dist/ringplan_VERSION_amd64.deb
 #   make uninstall                             make dist    also a tarball of the commit, and SHA256SUMS
-#   make test                                  every proof and every test, which takes hours
+#   make test                                  every proof and every test: about 100 to 180 minutes on four processors
 #
 # LIBRARY is the static library; the shared one is linked beside it. `LIBRARY=` leaves the C library out.
 PREFIX ?= /usr/local

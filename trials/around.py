@@ -72,7 +72,9 @@ def read_steps(text: str) -> list[Step]:
 
 def to_a_ring(draw: random.Random, lossy: bool) -> tuple[Ring, str]:
     """A ring, and the text of it and of a goal ring."""
-    quorum = draw.choice([(3, 2, 3, 1), (4, 3, 3, 1), (5, 3, 4, 1), (5, 3, 5, 2)] if lossy else [(1, 1, 1), (2, 1, 2), (2, 2, 1), (3, 2, 2), (3, 2, 2), (3, 1, 3), (4, 2, 3), (5, 2, 4), (5, 3, 3), (7, 3, 5)])
+    bearing = [(3, 2, 3, 1), (4, 3, 3, 1), (5, 3, 4, 1), (5, 3, 5, 2)]
+    plain = [(1, 1, 1), (2, 1, 2), (2, 2, 1), (3, 2, 2), (3, 2, 2), (3, 1, 3), (4, 2, 3), (5, 2, 4), (5, 3, 3), (7, 3, 5)]
+    quorum: tuple[int, ...] = draw.choice(bearing) if lossy else draw.choice(plain)
     n, q = quorum[0], draw.choice([2, 4, 8, 16])
     count = draw.randrange(n + 2, n + 7)
     names = ["n%d" % k for k in range(count)]

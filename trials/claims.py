@@ -1,6 +1,7 @@
 #!/usr/bin/env python3
 """Looks up what pages claim. Each call of the last table of docs/DEFINITIONS.md is a public function with a contract, each clause that the row names stands in the contract of
-one of its calls, and each call has one of them. Each method that docs/STORES.md names is one of the reference store. Ends with 0 only where all are there."""
+one of its calls, and each call has one of them. Each method that docs/STORES.md names is one of the reference store. Each sentence of README.md and docs/RUNNING.md that says that something is
+proved names what proves it: a clause, a definition that a clause names, or a public function with a contract. Ends with 0 only where all are there."""
 import pathlib
 import re
 import sys
@@ -40,11 +41,38 @@ def unmet() -> list[str]:
     return [f"the store has no {name}" for name in lacking] + [f"no method is named: {row}" for row, names in named.items() if not names]
 
 
+def sentences(page: str) -> list[str]:
+    """The sentences of a page: neither code nor headings. A row of a table, and an item of a list, is one or more."""
+    lines = [re.sub(r"^- |^\|", "\n\n", line) for line in page.splitlines() if not line.startswith(("    ", "#", "!"))]
+    parts = re.split(r"\n\s*\n", "\n".join(lines))
+    return [" ".join(it.split()) for part in parts for it in re.split(r"(?<=[.!?:;])\s", part)]
+
+
+def unproved() -> tuple[int, list[str]]:
+    """How many sentences say that something is proved, and those that do not name what proves it."""
+    sources = [path.read_text() for path in (TOP / "crates").glob("*/src/**/*.rt")]
+    clauses = [it for text in sources for it in re.findall(r"^\s*ensures (?:(\w+) )?\{(.*)$", text, re.M)]
+    known = {name for name, _ in clauses}
+    # A definition counts if a clause names it.
+    known |= {word for _, clause in clauses for word in re.findall(r"\b[A-Z]\w+\b", clause)}
+    calls = {(path.parts[-3], call) for path in (TOP / "crates").glob("*/src/**/*.rt") for call in re.findall(r"^ *pub fn (\w+)", path.read_text(), re.M)}
+    said = [(page, it) for page in ("README.md", "docs/RUNNING.md") for it in sentences((TOP / page).read_text())]
+    said = [(page, it) for page, it in said if re.search(r"\b(?:is|are) proved\b|\bproved[:,]? \(?`", it)]
+    missing = []
+    for page, sentence in said:
+        names = re.findall(r"`(\w+)`", sentence)
+        lacking = [name for name in names if name not in known and not any(contracts(f"{crate}::{call}") for crate, call in calls if call == name)]
+        missing += [f"{page}: no contract has {name}: {sentence}" for name in lacking]
+        missing += [] if names else [f"{page}: it does not name what proves it: {sentence}"]
+    return len(said), missing
+
+
 def main() -> int:
     rows = [line for line in (TOP / "docs/DEFINITIONS.md").read_text().splitlines() if re.match(r"\| `\w+::\w+`", line)]
-    missing = [fault for row in rows for fault in faults(row)] + unmet()
-    print(*missing, f"{len(rows)} rows, {len(missing)} faults", sep="\n")
-    return 1 if missing or not rows else 0
+    count, lacking = unproved()
+    missing = [fault for row in rows for fault in faults(row)] + unmet() + lacking
+    print(*missing, f"{len(rows)} rows, {count} sentences that say proved, {len(missing)} faults", sep="\n")
+    return 1 if missing or not rows or not count else 0
 
 
 if __name__ == "__main__":

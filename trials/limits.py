@@ -205,6 +205,9 @@ MEMBERS = [line.replace("d 4 out", "d 4 in") for line in RING]
 def told(words, bundle, starts, fault):
     made = Measured(words, bundle)
     said, status = made.front.decode(errors="replace"), made.status
+    if starts.startswith("error"):
+        # The words that refuse a command line are on standard error.
+        said = f"on standard output {said!r}" if said else made.errors.decode()
     owed = 0 if starts.startswith("yes") else 1 if starts.startswith(("no 30",)) else 2
     if (said.startswith(starts) if not fault else said == starts + "\n" or starts.startswith("error") and said.startswith(starts)) and status == owed:
         return True

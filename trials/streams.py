@@ -52,7 +52,7 @@ def files(folder):
     with open(large, "wb") as it:
         it.truncate(MOST)
     owes("a file of the most bytes", run("check", large), contains(b"no "), b"", 2)
-    owes("two files", run("check", good, good), contains(b"unexpected argument"), b"", 2)
+    owes("two files", run("check", good, good), b"", contains(b"unexpected argument"), 2)
     owes("a file that is only there", run("plan", plan), contains(b"plan 1\n"), b"", 0)
 
 
@@ -153,7 +153,12 @@ def streams():
     owes("check of a refused plan", run("check", given=refused), lambda text: text.startswith(b"no 2"), b"", 1)
     owes("why of a refused plan", run("why", given=refused), contains(b"refused:"), b"", 1)
     owes("a wrong option of goal", run("goal", "--ded", "b"), b"", contains(b"unexpected argument"), 2)
-    owes("a wrong option of check", run("check", "--ded"), contains(b"unexpected argument"), b"", 2)
+    commands = re.findall(r"^  (\w+) ", run("help")[0].decode().split("Commands:\n")[1].split("\n\n")[0], re.MULTILINE)
+    for word in commands:
+        owes(f"a wrong option of {word}", run(word, "--ded"), b"", contains(b"unrecognized subcommand" if word == "help" else b"unexpected argument"), 2)
+    owes("commands", (b"", b"", len(commands)), b"", b"", 21)
+    owes("a wrong command", run("gaol"), b"", contains(b"unrecognized subcommand"), 2)
+    owes("a wrong option before the command", run("--ded", "check"), b"", contains(b"unexpected argument"), 2)
     owes("a wrong weight", run("goal", "--weight", "b"), b"", contains(b"--weight <NODE=K>"), 2)
     owes("a wrong number of rounds", run("windows", "--rounds", "0"), b"", contains(b"1..=1000000"), 2)
     ring = read("plan_replace").split(b"change 1\n")[0]
@@ -162,7 +167,7 @@ def streams():
         plain = run("goal", given=given)
         owes(f"a goal with its exit code, {status}", run("goal", "--exit-code", given=given), plain[0], plain[1], status)
     owes("how even a goal is", run("goal", "--even", "--exit-code", given=read("plan_replace")), contains(b"slots"), b"", 0)
-    owes("no command", run(), contains(b"Usage"), b"", 2)
+    owes("no command", run(), b"", contains(b"Usage"), 2)
     logic = subprocess.run(["rt", "version"], stdout=subprocess.PIPE).stdout.decode().split()[-1]
     for word in ("--version", "-V"):
         owes("the version", run(word), f"ringplan 1.0.0 (Rattle logic {logic})\n".encode(), b"", 0)
@@ -198,12 +203,12 @@ def formats():
                 owes(f"{case} judged in {parts} parts by {workers} as JSON", run("judge", *shares, "--format", "json", given), line, errors, status)
     for option, numbers in (("--parts <K>", ("0", "4097", "x", "")), ("--workers <W>", ("0", "65", "x", ""))):
         for number in numbers:
-            owes(f"judge by {option} of {number}", run("judge", option.split()[0], number), contains(f"'{option}'".encode()), b"", 2)
+            owes(f"judge by {option} of {number}", run("judge", option.split()[0], number), b"", contains(f"'{option}'".encode()), 2)
     for words in (["check"], ["replay"], ["judge"], ["check", "--workers", "2"]):
         wrong = b"error: invalid value for '--format <FORMAT>': not text or json\n\nFor more information, try '--help'.\n"
         for form in ("xml", "JSON", ""):
-            owes(f"{words} in no form", run(*words, "--format", form), wrong, b"", 2)
-    owes("a form of plan", run("plan", "--format", "json"), contains(b"unexpected argument"), b"", 2)
+            owes(f"{words} in no form", run(*words, "--format", form), b"", wrong, 2)
+    owes("a form of plan", run("plan", "--format", "json"), b"", contains(b"unexpected argument"), 2)
 
 
 def parts(folder):
@@ -361,7 +366,7 @@ def colors():
         ):
             owes(f"{word} of {name} at {what}", (found, b"", 0), owed, b"", 0)
     owes("a wrong word of colours", run("why", "--color", "blue"), b"", contains(b"not auto, always or never"), 2)
-    owes("colours of a check", run("check", "--color", "never"), contains(b"unexpected argument"), b"", 2)
+    owes("colours of a check", run("check", "--color", "never"), b"", contains(b"unexpected argument"), 2)
 
 
 def terminal():

@@ -137,7 +137,9 @@ def demonstrate(into: pathlib.Path, broken: str, servers: str = KINDS[0]) -> int
 def main() -> int:
     parser = argparse.ArgumentParser(prog="python3 -m ringplan.demo", description=(__doc__ or "").split("\n")[0])
     parser.add_argument("--into", type=pathlib.Path, default=pathlib.Path("demo"), metavar="FOLDER", help="where the bundles and the picture go")
-    parser.add_argument("--break", dest="broken", default="", choices=["latest_timestamp_wins", *STORES, *EXECUTORS], metavar="NAME", help="a store that is broken on purpose")
+    breaks = ["latest_timestamp_wins", *STORES, *EXECUTORS]
+    named = f"runs a store that is broken on purpose: {', '.join(breaks)}"
+    parser.add_argument("--break", dest="broken", default="", choices=breaks, metavar="NAME", help=named)
     parser.add_argument("--servers", choices=KINDS, default=KINDS[0], help="the database server of each node")
     words = parser.parse_args()
     sys.setswitchinterval(0.0005)

@@ -3,6 +3,7 @@
 A log's line is `PLACE EVENT = REPLY`. PLACE is a decimal number. Within a log places never go back. Entries of equal places touch nothing in common; they come
 in the order of the logs on the command line. EVENT and REPLY are spelled as in a history, with any name where a history has the number of a put or a get: 1 to
 255 bytes without spaces and control bytes. The reply of `put` and of `get` gives the name. Names of puts and of gets are two tables.
+A line has at most 263,168 bytes.
 
 Puts and gets are numbered in the merged order, so no coordinator has to count those of the whole store. Whether the history is right is for `ringplan replay`.
 The logs are read as streams, and no entry is kept.
@@ -20,6 +21,11 @@ from array import array
 from collections.abc import Iterable, Iterator
 from dataclasses import dataclass, field
 from enum import IntEnum
+
+
+# The most bytes of a line, its end included. A reply lists puts of which none succeeds another, so at most one of each writer, and a bundle has at most 1,024 writers.
+# Each has a name of at most 255 bytes and a space before it. As much as four names is left for the place and the event.
+LONGEST = (1024 + 4) * 256
 
 
 class Status(IntEnum):
@@ -160,7 +166,9 @@ def read_log(number: int, path: str) -> Iterator[Placed]:
     last = 0
     try:
         with open(0, "rb", closefd=False) if path == "-" else open(path, "rb") as file:
-            for at, line in enumerate(file, 1):
+            for at, line in enumerate(iter(lambda: file.readline(LONGEST + 1), b""), 1):
+                if len(line) > LONGEST:
+                    raise Stop(Status.BAD_LOG, f"{path}:{at}: a line of more than {LONGEST} bytes")
                 digits, _, entry = line.partition(b" ")
                 if not PLACE.fullmatch(digits):
                     raise Stop(Status.BAD_LOG, f"{path}:{at}: no entry")
@@ -204,7 +212,7 @@ def write(path: str, lines: Iterable[bytes]) -> None:
 
 def main() -> int:
     parser = argparse.ArgumentParser(prog="ringplan-merge", description=(__doc__ or "").split("\n")[0])
-    lines = "lines `PLACE EVENT = REPLY`; a put or a get has a name of 1 to 255 bytes without spaces and control bytes; `-` is standard input"
+    lines = f"lines `PLACE EVENT = REPLY` of at most {LONGEST} bytes; a put or a get has a name of 1 to 255 bytes without spaces and control bytes; `-` is standard input"
     written = "writes to FILE all of the history, or at a fault nothing; standard output may have lines already when a fault is found"
     parser.add_argument("logs", nargs="+", metavar="LOG", help=lines)
     parser.add_argument("-o", "--output", default="-", metavar="FILE", help=written)

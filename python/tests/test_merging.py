@@ -13,7 +13,7 @@ from collections.abc import Callable
 import pytest
 
 from ringplan import programs
-from ringplan.merging import BadLine, Counter, Names, Status, Stop, merge
+from ringplan.merging import LONGEST, BadLine, Counter, Names, Status, Stop, merge
 from ringplan.store.__main__ import run
 from ringplan.store.traffic import Load
 
@@ -206,6 +206,34 @@ def test_a_fault_in_a_log(logs: list[str], words: str, tmp_path: pathlib.Path) -
     with pytest.raises(Stop) as stopped:
         list(merge([str(path) for path in paths]))
     assert (stopped.value.status, str(stopped.value)) == (Status.BAD_LOG, f"{tmp_path}/{words}")
+
+
+def test_the_longest_line_is_read(tmp_path: pathlib.Path) -> None:
+    """A reply that has a put of each of 1,024 writers, with the longest names and the longest place."""
+    log, names = tmp_path / "log", [f"{number:0255}" for number in range(1024)]
+    puts = [f"1 put w{number} k x = put {name}\n" for number, name in enumerate(names)]
+    longest = f"{'9' * 255} endget {'g' * 255} = reply {' '.join(names)}\n"
+    log.write_text("".join([*puts, f"2 get k = get {'g' * 255}\n", longest]))
+    assert list(merge([str(log)]))[-2] == b"endget 0 = reply " + b" ".join(b"%d" % number for number in range(1024)) + b"\n"
+    assert LONGEST - 1024 < len(longest) < LONGEST
+
+
+@pytest.mark.parametrize(("more", "words"), [(0, "no entry"), (1, f"a line of more than {LONGEST} bytes")])
+def test_a_line_that_is_too_long(more: int, words: str, tmp_path: pathlib.Path) -> None:
+    log = tmp_path / "log"
+    log.write_text(PUT + "2 do 1 = found" + " x" * (LONGEST // 2) + "\n")
+    whole = log.read_bytes()[: len(PUT) + LONGEST - 1 + more]
+    log.write_bytes(whole + b"\n")
+    with pytest.raises(Stop) as stopped:
+        list(merge([str(log)]))
+    assert (stopped.value.status, str(stopped.value)) == (Status.BAD_LOG, f"{log}:2: {words}")
+
+
+def test_a_line_without_an_end_is_not_kept(tmp_path: pathlib.Path) -> None:
+    """An endless line, in 256 MB."""
+    bounded = "import resource, runpy, sys; resource.setrlimit(resource.RLIMIT_AS, (2**28, 2**28)); runpy.run_module('ringplan.merging', run_name='__main__')"
+    ran = subprocess.run([sys.executable, "-c", bounded, "/dev/zero"], capture_output=True, cwd=TOP / "python", timeout=60)
+    assert (ran.stdout, ran.stderr.decode(), ran.returncode) == (b"history 1\n", f"ringplan-merge: /dev/zero:1: a line of more than {LONGEST} bytes\n", 2)
 
 
 def command(*words: object, given: bytes = b"", into: pathlib.Path = TOP) -> tuple[bytes, str, int]:

@@ -261,11 +261,14 @@ pub fn push_words_of(
 pub(crate) fn push_accepted(out: &mut Words, found: &Study) {
     let (ring, plan) = (found.approved.ring(), found.approved.plan());
     let begin: &[u8] = if plan.len() == 1 {
-        b"accepted: # step. In every run of the plan, in any order that it allows:\n  any # slots of a partition include one that has each acknowledged put, or a successor"
+        b"accepted: # step. In every run of the plan, in any order that it allows:\n"
     } else {
-        b"accepted: # steps. In every run of the plan, in any order that it allows:\n  any # slots of a partition include one that has each acknowledged put, or a successor"
+        b"accepted: # steps. In every run of the plan, in any order that it allows:\n"
     };
-    out.fill(begin, &[], &[plan.len(), ring.r()]);
+    out.fill(begin, &[], &[plan.len()]);
+    let held =
+        b"  for each acknowledged put, any # slots of its partition include one that has it or a successor";
+    out.fill(held, &[], &[ring.r()]);
     if ring.loss() > 0 {
         out.fill(b",\n  with # lost between", &[], &[ring.loss()]);
     }
