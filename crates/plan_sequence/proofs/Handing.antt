@@ -1,6 +1,7 @@
 -- What is known of a world is known of what it hands on.
 use Rattle.std.proofs.Common.{◌≡◌, inl, inr, ◌∙◌, ℕ, zero, suc, ◌<◌, true, false, List, [], ◌∷◌, length, map, refl, sym, ap, subst, arith, ltb-true}
 use Rattle.std.specs.Prelude.{nat_lt, Option, Some, None, unwrap_or}
+use Rattle.std.proofs.lemmas.Bool.{or_cases, or_left, or_right}
 use Rattle.ring_names.specs.Lists.{has}
 use Rattle.ring_names.specs.declared.ids.NodeId.{NodeId}
 use Rattle.ring_names.specs.declared.ids.Slot.{Slot}
@@ -10,11 +11,12 @@ use Rattle.plan_text.specs.Steps.{steps_of}
 use Rattle.plan_stage.specs.Stage.{opening, stage}
 use Rattle.plan_stage.proofs.Truth.{list_all-met}
 use Rattle.plan_runs.specs.World.{PutRecord, World, is_acked, key_of_put, seen_of, slot_at, stage_now}
-use Rattle.plan_runs.specs.Versions.{put_slot, slot_has}
+use Rattle.plan_runs.specs.Versions.{put_slot, slot_has, some_hinted}
 use Rattle.plan_runs.specs.Guards.{is_current}
 use Rattle.plan_runs.specs.Reached.{Reached, IsPutOf, IsPutForGet, IsGetForPut}
 use Rattle.plan_runs.proofs.Changed.{read_at}
 use Rattle.plan_runs.proofs.Groups.{InGroup}
+use Rattle.plan_runs.proofs.Passing.{some_found, some_is}
 use Rattle.plan_runs.proofs.Lasting.{Extends, names_ended, succeeds_stays}
 use Rattle.plan_runs.proofs.Places.{partition_within}
 use Rattle.plan_check.specs.Firm.{FirmSlots, Holding, IsFirm, IsFirmEnough}
@@ -128,7 +130,21 @@ handed_inv ring next plan more w t o i = record { reached = handed_reached ring 
 
 slot_keeps : (ring next : RingValue) (plan more : List Planned) (w : World) → HasNumbers ring next → HasOwners ring plan w next → (p i a : ℕ) → p < ring.q → i < ring.n
     → slot_has ring plan w (slot_at p i) a ≡ true → slot_has next more (handed_on w) (slot_at p i) a ≡ true
-slot_keeps ring next plan more w t o p i a l m h = rw (same_owner ring next plan more w o p i l m, t.nodes) h
+slot_keeps ring next plan more w t o p i a l m h = elim (or_cases (w.stored (stage_now ring plan w slot).owner.0 slot a) (some_hinted ring w slot a) h) [
+  | inl e ↦ or_left (w.stored (stage_now next more (handed_on w) slot).owner.0 slot a) (some_hinted next (handed_on w) slot a) (ap (λ (x : NodeId). w.stored x.0 slot a) (same_owner ring next plan more w o p i l m) ∙ e)
+  | inr e ↦ or_right (w.stored (stage_now next more (handed_on w) slot).owner.0 slot a) (some_hinted next (handed_on w) slot a) (kept e)
+]
+  where
+    slot : Slot
+    slot = slot_at p i
+
+    -- a node that keeps a hint is declared by the next ring too
+    kept : some_hinted ring w slot a ≡ true → some_hinted next (handed_on w) slot a ≡ true
+    kept e =
+        let f = some_found (length ring.nodes) (λ (x : ℕ). w.hinted x slot a) e in
+        let few = t.nodes in
+        let below = f.1 in
+        some_is (length next.nodes) (λ (x : ℕ). w.hinted x slot a) f.0 (omega arith) f.2
 
 -- a slot with a firm put goes on to have it; no chunk is given to a mirror
 firm_still : (ring next : RingValue) (plan more : List Planned) → Known ring plan → (w : World) → HasNumbers ring next → HasOwners ring plan w next → Reached ring plan w → (v i : ℕ) → i < ring.n

@@ -1,5 +1,5 @@
 -- Plans that are followed one after the other over one store.
-use Rattle.std.specs.Prelude.{◌≡◌, ℕ, ◌<◌, true, false, List, None, Some, Ok, length, map}
+use Rattle.std.specs.Prelude.{◌≡◌, ℕ, ◌<◌, ◌≤◌, true, false, List, None, Some, Ok, length, map}
 use Rattle.ring_table.specs.Value.{RingValue, owner_of}
 use Rattle.ring_table.specs.Valid.{IsRing}
 use Rattle.plan_text.specs.declared.step.Planned.{Planned}
@@ -29,14 +29,14 @@ handed_on w = record w {
   lost = λ s. 0;
 }
 
--- the next ring has the numbers of the ring, and as many nodes
+-- the next ring has the ring's numbers of partitions and slots, its quorums and losses, and at least as many nodes
 pub record HasNumbers (ring next : RingValue) : Type 0 where
   pub q : next.q ≡ ring.q
   pub n : next.n ≡ ring.n
   pub r : next.r ≡ ring.r
   pub w : next.w ≡ ring.w
   pub loss : next.loss ≡ ring.loss
-  pub nodes : length next.nodes ≡ length ring.nodes
+  pub nodes : length ring.nodes ≤ length next.nodes
 
 -- it has the owners of the moment
 abbrev pub HasOwners : RingValue → List Planned → World → RingValue → Type 0
