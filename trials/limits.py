@@ -2,14 +2,16 @@
 """Meets each limit of the texts, of the command line and of a bundle exactly, and passes each by one: trials/limits.py, once `rt ci` or `rt run` has
 built crates/ringplan. Prints a line for each limit, and ends with 0 only where every answer is the one that is owed: at the limit the answer of a
 bundle without a fault, and past it the refusal with its line. Bundles of one byte more than the greatest are refused by each subcommand within a
-second, and in 140 MB.
+second, and in 140 MB. Each subcommand answers alike with a stack of 96 KiB.
 """
 import os
+import resource
+import subprocess
 import sys
 
 sys.path.insert(0, os.path.dirname(os.path.abspath(__file__)))
 sys.dont_write_bytecode = True
-from measured import Measured
+from measured import RUN, TOP, Measured
 
 RING = ["ring 1", "space 4", "quorum 3 2 2", "node a 4 in", "node b 4 in", "node c 4 in", "node d 4 out",
         "slots 0 a b c", "slots 1 a b c", "slots 2 a b c", "slots 3 a b c", "end"]
@@ -215,8 +217,32 @@ def told(words, bundle, starts, fault):
     return False
 
 
+# What the stack must have room for, with what the system puts there.
+STACK = 98_304
+
+
+def on_a_small_stack():
+    """For each subcommand whether it answers on that stack as it does on a large one."""
+    example = lambda name: open(f"{TOP}/examples/{name}.bundle", "rb").read()
+    change, move, begun, run = example("plan_replace"), example("move_one_slot"), example("replay_a_move"), example("drive_a_move_by_three")
+    for words, bundle in ([(["--version"], b""), (["--help"], b""), (["man"], b""), (["completions", "bash"], b""), (["check", "--workers"], b"")]
+                          + [(words.split(), change) for words in ("goal", "goal --even", "goal --dead b", "goal --format json", "plan", "bundle", "show --all", "draw", "why")]
+                          + [(words.split(), move) for words in ("check", "check --workers 4", "check --format json", "show --format json", "draw", "steps", "steps --moves", "windows --rounds 1", "cert", "why", "migrate")]
+                          + [(words.split(), begun) for words in ("replay", "judge --parts 4 --workers 4", "part --of 2 --part 0", "after", "around --dead b --back", "why --format json")]
+                          + [(["drive", "--workers", "1"], run)]):
+        asked = lambda size: subprocess.run([RUN, *words], input=bundle, capture_output=True, env={}, timeout=60, preexec_fn=lambda: resource.setrlimit(resource.RLIMIT_STACK, (size, size)))
+        small, large = asked(STACK), asked(1 << 23)
+        # Two drives of one bundle are alike in their first line only.
+        told = [(it.returncode, it.stdout[:4] if "drive" in words else it.stdout, it.stderr) for it in (small, large)]
+        yield " ".join(words), told[0] == told[1]
+
+
 def main():
     failed = tried = 0
+    for words, well in on_a_small_stack():
+        tried, failed = tried + 1, failed + (not well)
+        if not well:
+            print("FAILED: %s on a stack of %d bytes" % (words, STACK), flush=True)
     for name, (words, good, yes), (other, bad, no) in limits():
         well = told(words, good, yes, False) and told(other, bad, no, True)
         print("%-52s %s: %-18r past it: %r" % (name, words[0], yes.split("\n")[-2 if "\n" in yes else -1], no) if well else "%s FAILED" % name, flush=True)

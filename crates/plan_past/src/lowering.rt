@@ -22,14 +22,16 @@ pub struct Lowered {
     pub by: u32,
 }
 
-// The most mirrors that can be taken back.
-const MOST: usize = 1_024;
+// The most mirrors that losses of stores may look at, one after another: each loss looks at all that are taken back before it.
+const MOST_LOOKS: u64 = 4_194_304;
 
 /// The mirrors that were taken back so far, in their order, and by slot how much its generation is lower.
 #[derive(Drop)]
 pub(crate) struct Taken {
     pub(crate) all: Vec<Lowered>,
     pub(crate) sums: Sums,
+    // How many mirrors losses have looked at.
+    looks: u64,
 }
 
 /// No mirror was taken back.
@@ -40,6 +42,7 @@ pub(crate) fn none_taken(alloc: Global) -> Taken
     Taken {
         all: Vec::new(alloc),
         sums: Sums::new(alloc),
+        looks: 0,
     }
 }
 
@@ -73,13 +76,23 @@ fn raised(one: &Lowered, node: NodeId) -> Result<Lowered, Refusal>
 fn raise_sums(sums: &mut Sums, less: &[Lowered], node: NodeId) -> Result<(), Refusal>
     ensures { OnOk result ((s : TheSlot) → sum_in sums.new s ≡ sum_in sums.old s + count_of node less.now s) }
 {
-    let Some((first, more)) = less.split_first() else {
-        return Ok(());
-    };
-    if node.0 == first.node.0 {
-        sums.raise(first.slot)?;
+    let mut rest = less;
+    'mirrors: while let Some((first, more)) = rest.split_first() {
+        if node.0 == first.node.0 {
+            sums.raise(first.slot)?;
+        }
+        rest = more;
     }
-    raise_sums(sums, more, node)
+    Ok(())
+}
+
+// So many looks more. `NoPlan` where that is too many.
+fn look_at(looks: u64, mirrors: usize) -> Result<u64, Refusal> {
+    let looks = looks.saturating_add(mirrors as u64);
+    if looks > MOST_LOOKS {
+        return Err(Refusal::NoPlan);
+    }
+    Ok(looks)
 }
 
 // Each mirror, one more where its node is that one.
@@ -99,13 +112,18 @@ fn raise_all(alloc: Global, taken: Taken, node: NodeId) -> Result<Taken, Refusal
     ensures all { IfOk result (λ v. v.all.items ≡ map (raised node) taken.all.items) }
     ensures summed { IfOk result IsSummed }
 {
-    let Taken { all, mut sums } = taken;
+    let Taken {
+        all,
+        mut sums,
+        looks,
+    } = taken;
+    let looks = look_at(looks, all.len())?;
     raise_sums(&mut sums, all.as_slice(), node)?;
     let all = raise_each(alloc, all.as_slice(), node)?;
-    Ok(Taken { all, sums })
+    Ok(Taken { all, sums, looks })
 }
 
-// The mirrors and the one that is taken back, if the step is one. `NoPlan` where there are too many.
+// The mirrors and the one that is taken back, if the step is one.
 fn with_taken(taken: Taken, plan: &Plan, step: u32) -> Result<Taken, Refusal>
     requires { IsSummed taken }
     ensures all { IfOk result (λ v. v.all.items ≡ with_taken taken.all.items plan.now step) }
@@ -114,13 +132,14 @@ fn with_taken(taken: Taken, plan: &Plan, step: u32) -> Result<Taken, Refusal>
     let Some((slot, node)) = mirror_in(plan, step) else {
         return Ok(taken);
     };
-    let Taken { mut all, mut sums } = taken;
-    if all.len() >= MOST {
-        return Err(Refusal::NoPlan);
-    }
+    let Taken {
+        mut all,
+        mut sums,
+        looks,
+    } = taken;
     all.push(Lowered { slot, node, by: 1 })?;
     sums.raise(slot)?;
-    Ok(Taken { all, sums })
+    Ok(Taken { all, sums, looks })
 }
 
 /// Which slots are lower after the event, and by how much.

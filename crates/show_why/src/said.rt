@@ -180,9 +180,10 @@ impl Said {
         self.habit = Some(habit);
     }
 
-    /// Whether there is a mend.
+    /// Whether there is a mend. One whose words or lines have a byte that a terminal does not print is not a mend.
     pub fn has_mend(&self) -> bool {
-        !self.changes.is_empty() || self.habit.is_some()
+        let is_set = !self.changes.is_empty() || self.habit.is_some();
+        is_set && is_clean(self.says.as_slice()) && is_clean(self.news.as_slice())
     }
 
     /// The numbers of the lines at fault, ascending.
@@ -264,11 +265,13 @@ impl Said {
         if self.title.len() == 0 {
             return;
         }
-        out.fill(b"refused: @\n", &[self.title.as_slice()], &[]);
+        out.text(b"refused: ");
+        push_clean(out, self.title.as_slice());
+        out.byte(b'\n');
         if !self.marks.is_empty() {
             self.push_marks(out, page);
         }
-        out.words(&self.notes);
+        push_clean(out, self.notes.as_slice());
     }
 
     // Where memory was refused to something that is said, it was to all.
@@ -331,7 +334,9 @@ impl Said {
         push_margin(out, b' ', width);
         out.byte(b' ');
         push_under(out, mark, shown);
-        out.fill(b" @\n", &[note], &[])
+        out.byte(b' ');
+        push_clean(out, note);
+        out.byte(b'\n')
     }
 
     /// The whole text as the mend writes it.
@@ -416,11 +421,25 @@ fn push_under(out: &mut Words, mark: Mark, shown: usize) {
     out.times(byte, to.saturating_sub(from).max(1))
 }
 
-// The bytes, with a question mark for each that is no printable one.
-fn push_clean(out: &mut Words, line: &[u8]) {
-    for byte in line {
-        let is_clean = b' ' <= *byte && *byte <= b'~';
-        out.byte(if is_clean { *byte } else { b'?' });
+// Whether a terminal prints the byte as it is, or ends a line at it.
+fn is_printed(byte: u8) -> bool {
+    (b' ' <= byte && byte <= b'~') || byte == b'\n'
+}
+
+// Whether a terminal prints each of the bytes as it is.
+fn is_clean(text: &[u8]) -> bool {
+    for byte in text {
+        if !is_printed(*byte) {
+            return false;
+        }
+    }
+    true
+}
+
+// The bytes, with a question mark for each that a terminal does not print as it is.
+fn push_clean(out: &mut Words, text: &[u8]) {
+    for byte in text {
+        out.byte(if is_printed(*byte) { *byte } else { b'?' });
     }
 }
 
