@@ -6,7 +6,7 @@ with puts and hints between, and cut at a random place by the death of a node: a
 The kinds: one node dies, without and with `--back`; two die; and one on a ring that may lose stores, with losses between, with `--back`.
 
 Of each answer: the checker says yes to the plan, and `replay` to the history. What clients did stands in the history as it did, but for generations of tickets. No step that is to come asks
-anything of the dead, by a scan of its own. Then the plan is played to its last step with the dead down, in random order with puts between: no event is refused, no step is left, and each put
+anything of the dead, by a scan of its own. A history that is not a run is refused as `replay` refuses it. Then the plan is played to its last step with the dead down, in random order with puts between: no event is refused, no step is left, and each put
 that was acknowledged is found, or a later one of its writer. There is always an answer, and with `--back` no slot is left mirrored to a dead node."""
 import hashlib
 import random
@@ -387,6 +387,11 @@ def attempt(number: int, kind: Kind, tally: Counter[str]) -> str:
     out, said, status = ask(words, bundle + history)
     if status:
         raise Wrong("around: " + said)
+    wrong = bundle + history[: -len("end\n")] + "ack 99999 = ok\nend\n"
+    refused, _, owed = ask(["replay"], wrong)
+    answer = ask(words, wrong)
+    if (answer[0], answer[1][: len(refused)], answer[2]) != ("", refused, owed):
+        raise Wrong("a history that is not a run: %s, replay: %s" % (answer[1], refused))
     after = "".join(sections(out)[:3])
     if ask(["check"], after)[0] != "yes\n":
         raise Wrong("the checker refuses")

@@ -277,6 +277,9 @@ for trial in range(COUNT):
             why = "the checker refuses it"
         if not why and ask(["steps", "--moves"], out) != (told_moves(rows, parsed(out.split("end\n")[1].splitlines()[1:])), 0):
             why = "other lines of its moves"
+        stated = ask(["goal", "--format", "json", *[it for x in dead for it in ("--dead", x)]], text)[0]
+        if not why and json.loads(stated)["bundle"] != out:
+            why = "another bundle as JSON"
         why = why or play(draw, ring, rows, wished, dead, out)
         why = why or (not dead and cut(out, wished)) or ""
         found += 1

@@ -102,7 +102,7 @@ fn why_line(alloc: Global, options: &ArgMatches) -> Result<Request, AllocError>
     }
 }
 
-// The options of a summary, without a rate. None where what is given for racks is not one byte.
+// Racks and the file of sizes; no node is named. None where what is given for racks is not one byte.
 fn layout_of(alloc: Global, matches: &ArgMatches) -> Result<Option<Options>, AllocError>
     ensures { IfOk result (λ o. IfSome o (MeansLayout (rows_of (found_of matches.now)))) }
 {
@@ -216,19 +216,13 @@ fn goal_line(alloc: Global, matches: &ArgMatches) -> Result<Request, AllocError>
     let Some(weights) = weights_of(alloc, matches)? else {
         return mistaken(alloc, NO_WEIGHT);
     };
-    let Some(racks_behind) = rack_byte(matches) else {
+    let Some(layout) = layout_of(alloc, matches)? else {
         return mistaken(alloc, NO_BYTE);
     };
-    let dead = names_of(alloc, matches, "dead")?;
-    let sizes_file = named(alloc, matches, "sizes")?;
-    let options = Options {
-        dead,
-        weighed: weights.names,
-        weights: weights.numbers,
-        racks_behind,
-        sizes: None,
-        sizes_file,
-    };
+    let mut options = layout;
+    options.dead = names_of(alloc, matches, "dead")?;
+    options.weighed = weights.names;
+    options.weights = weights.numbers;
     goal_of(alloc, matches, options)
 }
 

@@ -2,6 +2,7 @@ use Rattle.std.proofs.Common.{◌≡◌, ◌⊎◌, ◌∙◌, sym, subst, map, 
 use Rattle.clap.specs.Words.{Row, app_of, kind_of}
 use Rattle.clap.specs.declared.parser.matches.ArgMatches.{ArgMatches}
 use Rattle.ringplan_command.specs.declared.command.Request.{Request}
+use Rattle.ringplan_command.specs.declared.command.Request.TheVariants.{Mistaken}
 use Rattle.ringplan_command.specs.Command.{Answers, asked}
 use Rattle.ringplan_command.specs.Files.{IsJob, files_in, files_named, no_files}
 use Rattle.ringplan_command.proofs.Commands.{answers_words, asks_help, entered_by, helped, mistaken, no_job, parsed, turned_away}
