@@ -4,7 +4,7 @@ ghost use Rattle.std.specs.Prelude.{◌≡◌, ◌⊎◌, IfErr, IfOk};
 ghost use Rattle.ringplan_command.specs.Command.{word_of_making, word_of_statement};
 ghost use Rattle.ringplan_run.specs.Run.{AreNamedBy, NamesSizes};
 
-use crate::files::{Limit, open};
+use crate::files::{Harmless, Limit, open};
 use ring_names::Refusal;
 use ringplan_job::{Making, Options, Statement, Wish};
 use ringplan_jobs::read_all;
@@ -37,6 +37,7 @@ fn sizes_in<RT: AllocGlobal + Files + Eprint>(rt: &RT, name: &str) -> Result<Vec
     match sizes_of(rt.alloc(), &mut file) {
         Ok(sizes) => Ok(sizes),
         Err(refusal) => {
+            let name = Harmless { text: name };
             let _ = eprint!(rt; "{refusal} in {name}\n");
             Err(status_of(refusal))
         }
