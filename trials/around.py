@@ -6,10 +6,12 @@ with puts and hints between, and cut at a random place by the death of a node: a
 The kinds: one node dies, without and with `--back`; two die; and one on a ring that may lose stores, with losses between, with `--back`.
 
 Of each answer: the checker says yes to the plan, and `replay` to the history. What clients did stands in the history as it did, but for generations of tickets. No step that is to come asks
-anything of the dead, by a scan of its own. A history that is not a run is refused as `replay` refuses it. Then the plan is played to its last step with the dead down, in random order with puts between: no event is refused, no step is left, and each put
-that was acknowledged is found, or a later one of its writer. There is always an answer, and with `--back` no slot is left mirrored to a dead node."""
+anything of the dead, by a scan of its own. A history that is not a run is refused as `replay` refuses it. Then the plan is played to its last step with the dead down, in random
+order with puts between: no event is refused, no step is left, and each put that was acknowledged is found, or a later one of its writer. There is always an answer, and with `--back` no slot is
+left mirrored to a dead node. Words on standard error speak of a slot in one line at most, and that is true."""
 import hashlib
 import random
+import re
 import subprocess
 import sys
 from collections import Counter
@@ -355,6 +357,25 @@ def find(store: Store, keys: list[str], replies: dict[str, str], tally: Counter[
                     raise Wrong("put %d is lost" % v)
 
 
+def heed(words: str, ring: Ring, plan: str) -> None:
+    """Each slot is spoken of in one line at most, and goes or stays where that says."""
+    owner, mirror = {(p, i): x for p, row in enumerate(ring.rows) for i, x in enumerate(row)}, {}
+    for fields, _ in read_steps(plan):
+        if fields[0] in ("mirror", "switch"):
+            slot = int(fields[1]), int(fields[2])
+            if fields[0] == "mirror":
+                mirror[slot] = fields[3]
+            else:
+                owner[slot] = mirror[slot]
+    spoken = re.findall(r"^slot (\d+) (\d+) (.*)$", words, re.MULTILINE)
+    if len({(p, i) for p, i, _ in spoken}) < len(spoken):
+        raise Wrong("two lines of one slot: " + words)
+    for p, i, text in spoken:
+        end = re.search(r"(?:goes to|stays at) ([a-z0-9]+)", text)
+        if end and owner[int(p), int(i)] != end[1]:
+            raise Wrong("slot %s %s is at %s in the end, and not as said: %s" % (p, i, owner[int(p), int(i)], text))
+
+
 def ending(words: str, same: bool) -> str:
     if "stays mirrored" in words:
         return "a slot stays mirrored"
@@ -399,15 +420,38 @@ def attempt(number: int, kind: Kind, tally: Counter[str]) -> str:
         raise Wrong("the replay refuses")
     later = sections(out)[3]
     compare(history, later, kind.back)
+    heed(said, ring, sections(after)[1])
     end = ending(said, sections(after)[1] == sections(bundle)[1])
     if kind.back and end == "a slot stays mirrored":
         raise Wrong(said)
     return end + run_on(store, after, [line.split(" = ")[0] for line in later.splitlines()[1:-1]], dead, tally)
 
 
+def take_back_many(count: int) -> None:
+    """So many slots are mirrored to a node that dies, with a ticket of each of some puts: all mirrors are taken back."""
+    space = 1 << (count - 1).bit_length()
+    ring = Ring(1, ["a", "b", "c"], {x: (4,) for x in "abc"}, (1, 1, 1), set("abc"), [["a"]] * space)
+    plan = ["plan 1"]
+    for p in range(count):
+        plan += ["mirror %d 0 b" % p, "copy %d 0 owner after %s" % (p, "%d %d" % (4 * p - 3, 4 * p) if p else "0"), "switch %d 0 after %d" % (p, 4 * p + 1), "drop %d 0 a after %d" % (p, 4 * p + 2)]
+    bundle, said, status = ask(["cert"], ring.text(ring.members, ring.rows) + "\n".join([*plan, "end", ""]))
+    if status:
+        raise Wrong("cert: " + said)
+    script = ["do %d" % (4 * p) for p in range(count)] + [event % v for v in range(64) for event in ("put w k%d x61", "write %d 0", "ack %d")]
+    history = "history 1\n" + "".join("%s = %s\n" % it for it in zip(script, play(bundle, script))) + "end\n"
+    out, said, status = ask(["around", "--dead", "b", "--back"], bundle + history)
+    if status or ask(["replay"], out)[2] or said.count("is mirrored to b no longer") != count:
+        raise Wrong("%d mirrors are taken back: %s" % (count, said[:200]))
+
+
 def main(words: list[str]) -> int:
     count = 600 if "--all" in words else 40
     wrong = 0
+    try:
+        take_back_many(4_000)
+    except Wrong as fault:
+        print("WRONG: %s" % fault)
+        wrong += 1
     for kind in KINDS:
         ends: Counter[str] = Counter()
         tally: Counter[str] = Counter()

@@ -1,7 +1,7 @@
 #!/usr/bin/env python3
 """Tries what the program reads and writes, from outside: files that are named, standard input, output and error, and a terminal. It wants the program as it
 is built."""
-import json, os, pty, re, subprocess, sys, tempfile
+import json, os, pty, re, stat, subprocess, sys, tempfile
 
 top = os.path.dirname(os.path.dirname(os.path.abspath(__file__)))
 RUN = f"{top}/crates/ringplan/out/ringplan"
@@ -144,6 +144,77 @@ def outputs(folder):
     left = [name for name in os.listdir(folder) if name.endswith(".part")]
     if left:
         faults.append(f"parts are left: {left}")
+    with tempfile.TemporaryDirectory() as room:
+        beside(room, plan, whole)
+
+
+def has(what, path, text):
+    """The file has that text."""
+    with open(path, "rb") as it:
+        owes(what, (it.read(), b"", 0), text, b"", 0)
+
+
+def beside(folder, plan, whole):
+    """What lies beside an output stays as it is, and so do the output's links and permissions."""
+    target, victim = f"{folder}/out", f"{folder}/victim"
+    with open(victim, "wb") as it:
+        it.write(b"mine")
+    with open(f"{target}.part", "wb") as it:
+        it.write(b"mine")
+    os.symlink(victim, f"{target}.1.part")
+    os.mkfifo(f"{target}.2.part")
+    owes("an output beside other parts", run("goal", "-o", target, plan), b"", b"", 0)
+    has("that output", target, whole)
+    has("a part that was there", f"{target}.part", b"mine")
+    has("what a part leads to", victim, b"mine")
+    owes("a part that leads elsewhere, and one that is a pipe", (b"", b"", os.path.islink(f"{target}.1.part") and stat.S_ISFIFO(os.stat(f"{target}.2.part").st_mode)), b"", b"", True)
+    for part in ("part", "1.part", "2.part"):
+        os.remove(f"{target}.{part}")
+    for mode in (0o600, 0o640, 0o444):
+        os.chmod(victim, mode)
+        os.symlink("victim", f"{folder}/near")
+        os.symlink("../" + os.path.basename(folder) + "/near", f"{folder}/far")
+        owes("an output that is a link", run("goal", "-o", f"{folder}/far", plan), b"", b"", 0)
+        has("what the link leads to", victim, whole)
+        owes("that link, and its permissions", (b"", b"", [os.readlink(f"{folder}/near"), stat.S_IMODE(os.stat(victim).st_mode)]), b"", b"", ["victim", mode])
+        os.remove(f"{folder}/near")
+        os.remove(f"{folder}/far")
+    os.symlink("none", f"{folder}/near")
+    owes("an output that is a link to nothing", run("goal", "-o", f"{folder}/near", plan), b"", b"", 0)
+    has("what it leads to then", f"{folder}/none", whole)
+    os.symlink("ring", f"{folder}/ring")
+    owes("an output that is a link to itself", run("goal", "-o", f"{folder}/ring", plan), b"", contains(b"symbolic links"), 3)
+    for name in ("near", "none", "ring", "victim"):
+        os.remove(f"{folder}/{name}")
+    together = [subprocess.Popen([RUN, "goal", "-o", target, plan], stdout=subprocess.PIPE, stderr=subprocess.PIPE) for _ in range(20)]
+    for ran in together:
+        output, errors = ran.communicate(timeout=60)
+        owes("one of 20 runs for one output", (output, errors, ran.returncode), b"", b"", 0)
+    has("the output of 20 runs", target, whole)
+    owes("what is left of 20 runs", (b"", b"", os.listdir(folder)), b"", b"", ["out"])
+
+
+def is_printed(found):
+    """Whether a terminal prints each byte as it is."""
+    return all(byte == 10 or 32 <= byte < 127 for byte in found)
+
+
+def escapes():
+    """Bytes of the input or of a word that steer a terminal are nowhere printed."""
+    ring = b"ring 1\nspace 1\nquorum 1 1 1\nnode c 3 in\nslots 0 c\n"
+    steer = b"\x1b]0;owned\x07\x1b[2;31md\xc3\xa9\x9b"
+    rest = b"plan 1\nend\ncert 1\nend\n"
+    for given in (ring + steer + b"\n" + rest, ring + b"en" + steer + b"\n" + rest, ring.replace(b"node c", b"Node " + steer) + b"end\n" + rest, ring + b"end\nplan 1\nJoin " + steer + b"\nend\n"):
+        for words in (["why"], ["why", "--color", "never"], ["show"], ["draw"], ["goal"], ["cert"], ["windows", "--rounds", "1"], ["around", "--dead", "c"]):
+            found = run(*words, given=given)
+            owes(f"{words} of bytes that steer a terminal", found, is_printed, lambda it: is_printed(it) and (it != b"" or words[0] == "why"), lambda it: it in (1, 2))
+        stated = json.loads(run("why", "--format", "json", given=given)[0])
+        lines = [line["text"].encode() for line in stated.get("mend", {"lines": []})["lines"]]
+        owes("a mend with bytes that steer a terminal", (b"".join(lines), stated["words"].encode(), 0), is_printed, is_printed, 0)
+    word = "\x1b[2;31mx\x9b"
+    for words in (["check", word], ["check", f"--{word}"], ["goal", f"--{word}"], [word], ["goal", "--dead", word], ["goal", "-o", f"{word}/x"], ["goal", "--sizes", word], ["show", "--format", word]):
+        found = run(*words, given=read("plan_replace"))
+        owes(f"the words {words!r}", (found[0] + found[1], b"", found[2]), lambda it: is_printed(it) and it != b"", b"", lambda it: it in (2, 3))
 
 
 def streams():
@@ -240,10 +311,14 @@ def parts(folder):
         it.writelines([front, b"history 1\n", *downs, b"up a = ok\n", b"end\n"])
     size = len(front) + 14 + sum(map(len, downs)) + 10
     words = f"ringplan: the part has 1000001 entries and {size} bytes, and 1000000 and {MOST} are judged at once: "
-    owes("a part of too many entries", run(*share, f"{folder}/long"), b"", f"{words}--of 8 may do\n".encode(), 2)
-    for of, advice in ((3_000, "--of 4096 may do"), (4_096, "no more parts are possible")):
+    unless = ", unless one partition or what each part has, steps and outages, is too much"
+    owes("a part of too many entries", run(*share, f"{folder}/long"), b"", f"{words}--of 8 may do{unless}\n".encode(), 2)
+    for of, advice in ((3_000, f"--of 4096 may do{unless}"), (4_096, "no more parts are possible")):
         owes(f"a part of {of}", run("part", "--of", str(of), "--part", "1", f"{folder}/long"), b"", f"{words}{advice}\n".encode(), 2)
-    owes("a range of too many entries", run("part", "--partitions", "0-1", f"{folder}/long"), b"", f"{words}2 times fewer partitions may do\n".encode(), 2)
+    for named, advice in (("0-1", f"2 times fewer partitions may do{unless}"), ("1-1", "no smaller parts are possible")):
+        owes(f"the partitions {named} with too many entries", run("part", "--partitions", named, f"{folder}/long"), b"", f"{words}{advice}\n".encode(), 2)
+    for named, last in (("3-4", 4), ("4-5", 5), ("7-4294967295", 4294967295)):
+        owes(f"the partitions {named} of 4", run("part", "--partitions", named, given), contains(b"\nhistory 1\n"), f"ringplan: the ring has 4 partitions, and none of number {last}\n".encode(), 0)
     others = [b"get k%d = get %d\n" % (number % 1000, number) for number in range(3_500_000)]
     with open(f"{folder}/long", "wb") as it:
         it.writelines([front, b"history 1\n", *others, b"end\n"])
@@ -370,14 +445,15 @@ def colors():
 
 
 def terminal():
-    """At a terminal with nothing to read the program says that it waits."""
-    ours, theirs = pty.openpty()
-    with subprocess.Popen([RUN, "check"], stdin=theirs, stdout=subprocess.PIPE, stderr=subprocess.PIPE) as ran:
-        os.close(theirs)
-        os.write(ours, read("move_one_slot") + b"\x04")
-        output, errors = ran.communicate(timeout=60)
-        owes("a terminal", (output, errors, ran.returncode), b"yes\n", contains(b"reads a bundle from the terminal"), 0)
-    os.close(ours)
+    """At a terminal with nothing to read the program says that it waits, and its first end of input is the last."""
+    for words, name, owed in (("check", "move_one_slot", b"yes\n"), ("part --of 1 --part 0", "replay_a_move", read("replay_a_move"))):
+        ours, theirs = pty.openpty()
+        with subprocess.Popen([RUN, *words.split()], stdin=theirs, stdout=subprocess.PIPE, stderr=subprocess.PIPE) as ran:
+            os.close(theirs)
+            os.write(ours, read(name) + b"\x04")
+            output, errors = ran.communicate(timeout=60)
+            owes(f"{words} at a terminal", (output, errors, ran.returncode), owed, contains(b"reads a bundle from the terminal"), 0)
+        os.close(ours)
 
 
 with tempfile.TemporaryDirectory() as scratch:
@@ -387,6 +463,7 @@ with tempfile.TemporaryDirectory() as scratch:
     parts(scratch)
 dead()
 streams()
+escapes()
 formats()
 statements()
 colors()

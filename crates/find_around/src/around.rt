@@ -7,12 +7,13 @@ use crate::moving::Moves;
 use crate::needs::Needs;
 use crate::settling::settle;
 use crate::sources::Listing;
+use crate::told::Saying;
 use crate::writing::{Written, write};
 use helpers::Words;
 use plan_cert::Cert;
 use plan_runs::Entry;
 use plan_text::Plan;
-use ring_names::{NodeId, Refusal};
+use ring_names::{NodeId, Refusal, Slot};
 use ring_table::Ring;
 use ringplan_job::Back;
 use show_plan::Progress;
@@ -77,6 +78,8 @@ pub(crate) struct Search<'a> {
     /// Moves whose copies need other sources, by place.
     pub(crate) later: Vec<usize>,
     pub(crate) is_changed: bool,
+    /// By slot, what is to be said of it.
+    pub(crate) sayings: BTreeMap<Slot, Saying>,
     pub(crate) words: Words,
 }
 
@@ -132,6 +135,7 @@ impl<'a> Search<'a> {
             looked_at: 0,
             later: Vec::new(alloc),
             is_changed: false,
+            sayings: BTreeMap::new(alloc),
             words: Words::new(alloc),
         })
     }

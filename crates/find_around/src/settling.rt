@@ -2,6 +2,7 @@
 
 use crate::around::{Search, mark};
 use crate::moving::{Move, first_owner};
+use crate::told::Outcome;
 use helpers::small;
 use ring_names::{NodeId, Refusal, Slot};
 use ringplan_job::Back;
@@ -33,6 +34,7 @@ pub(crate) fn settle(search: &mut Search) -> Result<(), Refusal> {
         }
     }
     search.settle_later()?;
+    search.say_of_slots();
     search.keep_holders()
 }
 
@@ -96,20 +98,17 @@ impl Search<'_> {
         }
         if self.is_filled(&it) {
             if self.is_dead(it.target) {
-                self.say_of_slot(
-                    b"slot # # goes to @, which is dead but has all of it: move it on by the next change\n",
-                    it.target,
-                    it.slot,
-                );
+                self.note_outcome(it.slot, Outcome::Filled(it.target))?;
             }
             return Ok(Fate::Goes);
         }
         if self.has_done(it.mirror) && self.is_dead(it.target) {
             if self.task.back == Back::Never {
-                self.stick(&it, b"slot # # stays mirrored to @: its mirror is dead\n");
+                self.stick(&it);
+                self.note_outcome(it.slot, Outcome::MirroredToDead(it.target))?;
                 return Ok(Fate::Stuck);
             }
-            self.take_back(&it);
+            self.take_back(&it)?;
         }
         self.settle_begun(place, it, owner)
     }
@@ -132,6 +131,7 @@ impl Search<'_> {
             return Ok(false);
         }
         if !self.is_dead(it.target) && !self.is_barred(it.slot.partition, it.target) {
+            self.note_planned(it.slot)?;
             return Ok(true);
         }
         let other = if self.leaves(owner) {
@@ -141,15 +141,10 @@ impl Search<'_> {
         };
         let Some(other) = other else {
             self.leave_out(it);
-            self.say_of_move(
-                b"slot # # stays at @: @ cannot take it\n",
-                it,
-                owner,
-                it.target,
-            );
+            self.note_outcome(it.slot, Outcome::Untaken(owner, it.target))?;
             return Ok(false);
         };
-        self.say_of_move(b"slot # # goes to @ in place of @\n", it, other, it.target);
+        self.note_outcome(it.slot, Outcome::Elsewhere(other, it.target))?;
         self.own(other);
         self.moves.lead(place, owner, other);
         self.is_changed = true;
@@ -180,21 +175,16 @@ impl Search<'_> {
     }
 
     // The slot stays mirrored for good.
-    fn stick(&mut self, it: &Move, words: &[u8]) {
+    fn stick(&mut self, it: &Move) {
         self.remove(it.copy);
         self.remove(it.switch);
         self.remove(it.drop);
         self.leave_out_from(it.next);
-        self.say_of_slot(words, it.target, it.slot);
     }
 
     // The slot's mirror is taken back, and the move is as if it had not begun.
-    fn take_back(&mut self, it: &Move) {
-        self.say_of_slot(
-            b"slot # # is mirrored to @ no longer: from now on its writes go to its owner alone, and its tickets of puts that are not acknowledged are void\n",
-            it.target,
-            it.slot,
-        );
+    fn take_back(&mut self, it: &Move) -> Result<(), Refusal> {
+        self.note_taken(it.slot, it.target)?;
         if let Some(mirror) = it.mirror {
             mark(self.taken.as_mut_slice(), mirror);
         }
@@ -202,6 +192,7 @@ impl Search<'_> {
             mark(self.fresh.as_mut_slice(), copy);
         }
         self.is_changed = true;
+        Ok(())
     }
 
     // Gives copies other sources, in the plan's order.
@@ -218,7 +209,7 @@ impl Search<'_> {
         for (copy, place) in copies.iter() {
             if let Some(it) = self.moves.at(Some(*place)) {
                 if !self.is_gone(*copy) && !self.relist(&it, *copy)? {
-                    self.leave_unread(&it, *place);
+                    self.leave_unread(&it, *place)?;
                 }
             }
         }
@@ -226,23 +217,16 @@ impl Search<'_> {
     }
 
     // Too few slots can be read for the move's copy.
-    fn leave_unread(&mut self, it: &Move, place: usize) {
+    fn leave_unread(&mut self, it: &Move, place: usize) -> Result<(), Refusal> {
         if self.has_done(it.mirror) && self.task.back == Back::Allowed {
-            self.take_back(it);
+            self.take_back(it)?;
         }
         if self.has_done(it.mirror) {
-            self.stick(
-                it,
-                b"slot # # stays mirrored to @: fewer than R slots of its partition can be read\n",
-            );
-            return;
+            self.stick(it);
+            return self.note_outcome(it.slot, Outcome::MirroredUnread(it.target));
         }
         self.leave_out_from(Some(place));
-        self.say_of_slot(
-            b"slot # # stays at @: fewer than R slots of its partition can be read\n",
-            it.source,
-            it.slot,
-        );
+        self.note_outcome(it.slot, Outcome::Unread(it.source))
     }
 
     // Nodes that still hold a slot, or a hint for a slot whose owner is dead, do not retire.
@@ -257,13 +241,13 @@ impl Search<'_> {
                 if let Some(Some(slot)) = kept.get(node as usize) {
                     self.remove(retire);
                     self.say_of_slot(
-                        b"the hint for slot # # stays at @, which does not retire: the slot's owner is dead\n",
+                        b"@ does not retire: the hint for slot # # stays there, since the slot's owner is dead\n",
                         node,
                         *slot,
                     );
                 } else if let Some(Some(slot)) = held.get(node as usize) {
                     self.remove(retire);
-                    self.say_of_slot(b"slot # # stays at @, which does not retire\n", node, *slot);
+                    self.say_of_slot(b"@ does not retire: slot # # stays there\n", node, *slot);
                 }
             }
         }

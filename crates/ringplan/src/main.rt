@@ -12,6 +12,7 @@ fn main(rt: HostRuntime) -> ExitCode {
     let mut input = Console {
         rt: &rt,
         is_new: true,
+        is_over: false,
     };
     let status = match words(&rt) {
         Ok(words) => run(&rt, screen(&rt), words.as_slice(), &mut input, &mut output),
@@ -46,21 +47,27 @@ fn words(rt: &HostRuntime) -> Result<Vec<String>, ErrorKind> {
     }
 }
 
-// Standard input. Before the first read from a terminal, standard error says that a bundle is awaited.
+// Standard input. Before the first read from a terminal, standard error says that a bundle is awaited. Once it has ended, a terminal is not asked again.
 #[derive(Drop)]
 struct Console<'a> {
     rt: &'a HostRuntime,
     is_new: bool,
+    is_over: bool,
 }
 
 impl<'a> Read for Console<'a> {
     fn read(&mut self, buf: &mut [u8]) -> IoResult<usize> {
+        if self.is_over {
+            return Ok(0);
+        }
         if self.is_new && self.rt.stdin().is_terminal() {
             let _ = eprint!(self.rt;
                 "ringplan: reads a bundle from the terminal, up to Ctrl-D; ringplan check FILE reads a file\n"
             );
         }
         self.is_new = false;
-        self.rt.stdin().read(buf)
+        let count = self.rt.stdin().read(buf)?;
+        self.is_over = count == 0 && !buf.is_empty();
+        Ok(count)
     }
 }

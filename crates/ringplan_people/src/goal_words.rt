@@ -9,7 +9,7 @@ use plan_goal::{Aim, Goal, Unfit, is_among, read_goal, why_unfit};
 use ring_names::{NodeId, Refusal};
 use ring_table::{Ring, read_ring};
 use ringplan_job::{Color, Options, Shape, Wish};
-use show_why::{Page, Said, tell_text};
+use show_why::{Page, Said, push_printed, tell_text};
 use std::alloc::Global;
 
 // The bytes of a node's name.
@@ -86,11 +86,9 @@ fn push_unknown(out: &mut Words, ring: &Ring, options: &Options) {
     for names in [options.dead.as_slice(), options.weighed.as_slice()] {
         for name in names {
             if ring.number_of(name.as_slice()).is_none() {
-                out.fill(
-                    b"refused: the command line names @, and the ring declares no such node\n",
-                    &[name.as_slice()],
-                    &[],
-                );
+                out.text(b"refused: the command line names ");
+                push_printed(out, name.as_slice());
+                out.text(b", and the ring declares no such node\n");
                 return;
             }
         }

@@ -13,6 +13,7 @@ use ring_names::Refusal;
 use ringplan_command::{MOST_PARTS, PartWish};
 use ringplan_jobs::{MAX_INPUT, status_of};
 use std::io::{Read, Write};
+use texts::Fields;
 
 // In how many times as many parts so many would be few enough: at least twice.
 fn times(many: u64, most: u64) -> u64 {
@@ -20,6 +21,10 @@ fn times(many: u64, most: u64) -> u64 {
         .saturating_add(1)
         .max(2)
 }
+
+// What more and smaller parts do not help against.
+const UNLESS: &str =
+    ", unless one partition or what each part has, steps and outages, is too much\n";
 
 // Says why a part is too large, and in how many parts it may do.
 fn say_large<RT: Eprint>(rt: &RT, choice: Choice, entries: u64, bytes: u64) {
@@ -35,10 +40,13 @@ fn say_large<RT: Eprint>(rt: &RT, choice: Choice, entries: u64, bytes: u64) {
             let of = u64::from(of)
                 .saturating_mul(more)
                 .min(u64::from(MOST_PARTS));
-            let _ = eprint!(rt; "--of {of} may do\n");
+            let _ = eprint!(rt; "--of {of} may do{UNLESS}");
+        }
+        Choice::Range { first, last } if first == last => {
+            let _ = eprint!(rt; "no smaller parts are possible\n");
         }
         Choice::Range { .. } => {
-            let _ = eprint!(rt; "{more} times fewer partitions may do\n");
+            let _ = eprint!(rt; "{more} times fewer partitions may do{UNLESS}");
         }
     }
 }
@@ -50,6 +58,29 @@ fn say_none<RT: Eprint>(rt: &RT, choice: Choice, none: &NoPart) {
         NoPart::Refused(Refusal::OutOfMemory) => say(rt, NO_MEMORY),
         NoPart::Refused(refusal) => {
             let _ = eprint!(rt; "{refusal}\n");
+        }
+    }
+}
+
+// How many partitions the ring has with which the text begins: its second line says so.
+fn partitions_of(text: &[u8]) -> Option<u64> {
+    let mut lines = text.split(|byte| *byte == b'\n');
+    let _ = lines.next()?;
+    let mut fields = Fields::of(2, lines.next()?);
+    let _ = fields.takes(b"space");
+    fields.value()
+}
+
+// Says that a partition is named which the part's ring does not have.
+fn say_beyond<RT: Eprint>(rt: &RT, choice: Choice, part: &Part) {
+    let Choice::Range { last, .. } = choice else {
+        return;
+    };
+    if let Some(count) = partitions_of(part.text.as_slice()) {
+        if u64::from(last) >= count {
+            let _ = eprint!(rt;
+                "ringplan: the ring has {count} partitions, and none of number {last}\n"
+            );
         }
     }
 }
@@ -92,7 +123,10 @@ pub(crate) fn print_part<RT: AllocGlobal + Eprint, R: Read + Drop, W: Write>(
 {
     let wanted = wish.entry.unwrap_or(0);
     match cut_stream(rt.alloc(), wish.choice, wanted, input) {
-        Ok(part) => print_cut(rt, wish.entry, &part, output),
+        Ok(part) => {
+            say_beyond(rt, wish.choice, &part);
+            print_cut(rt, wish.entry, &part, output)
+        }
         Err(none) => {
             say_none(rt, wish.choice, &none);
             status_of(&none.refusal())

@@ -5,7 +5,7 @@ ghost use Rattle.ringplan_command.specs.Command.{AsksMaking, Asked};
 ghost use Rattle.ringplan_job.specs.declared.making.Making.TheVariants.{State};
 ghost use Rattle.ringplan_run.specs.Run.{AreNamedBy, HasSizes, HasSizesOf, NamesSizes, StatesSizes, unsized, unsized_wish};
 
-use crate::files::{Limit, open};
+use crate::files::{Harmless, Limit, open};
 use ring_names::Refusal;
 use ringplan_job::{Making, Options, Statement, Wish};
 use ringplan_jobs::read_all;
@@ -38,6 +38,7 @@ fn sizes_in<RT: AllocGlobal + Files + Eprint>(rt: &RT, name: &str) -> Result<Vec
     match sizes_of(rt.alloc(), &mut file) {
         Ok(sizes) => Ok(sizes),
         Err(refusal) => {
+            let name = Harmless { text: name };
             let _ = eprint!(rt; "{refusal} in {name}\n");
             Err(status_of(refusal))
         }

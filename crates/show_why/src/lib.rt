@@ -19,5 +19,5 @@ mod spacing;
 mod telling;
 
 pub use page::{Page, Place, Span, cut_line, field, place_of, span_of};
-pub use said::Said;
+pub use said::{Said, push_printed};
 pub use telling::tell_text;

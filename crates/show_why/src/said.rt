@@ -266,12 +266,12 @@ impl Said {
             return;
         }
         out.text(b"refused: ");
-        push_clean(out, self.title.as_slice());
+        push_printed(out, self.title.as_slice());
         out.byte(b'\n');
         if !self.marks.is_empty() {
             self.push_marks(out, page);
         }
-        push_clean(out, self.notes.as_slice());
+        push_printed(out, self.notes.as_slice());
     }
 
     // Where memory was refused to something that is said, it was to all.
@@ -322,7 +322,7 @@ impl Said {
         out.text(b" | ");
         let line = page.text(mark.place.line);
         let shown = line.len().min(SHOWN);
-        push_clean(out, &line[..shown]);
+        push_printed(out, &line[..shown]);
         if shown < line.len() {
             out.text(b"...");
         }
@@ -335,7 +335,7 @@ impl Said {
         out.byte(b' ');
         push_under(out, mark, shown);
         out.byte(b' ');
-        push_clean(out, note);
+        push_printed(out, note);
         out.byte(b'\n')
     }
 
@@ -436,8 +436,8 @@ fn is_clean(text: &[u8]) -> bool {
     true
 }
 
-// The bytes, with a question mark for each that a terminal does not print as it is.
-fn push_clean(out: &mut Words, text: &[u8]) {
+/// Adds the bytes, with a question mark for each that a terminal does not print as it is.
+pub fn push_printed(out: &mut Words, text: &[u8]) {
     for byte in text {
         out.byte(if is_printed(*byte) { *byte } else { b'?' });
     }
