@@ -1,15 +1,15 @@
 -- An input is read piece by piece.
-use Rattle.std.proofs.Common.{◌≡◌, ◌⊎◌, ℕ, ◌<◌, Bool, true, false, cond, eqb, List, suc, get_or, [], ◌∷◌, ◌++◌, length, map, take, drop, Option, Some, None, Result, Ok, Err, IsErrAnd, refl, sym, ap, subst, ◌∙◌, append_assoc, append-nil, take-append-drop, arith, inl, inr}
+use Rattle.std.proofs.Common.{◌≡◌, ℕ, ◌<◌, Bool, true, false, cond, eqb, List, suc, get_or, [], ◌∷◌, ◌++◌, length, map, take, drop, Option, Some, None, Result, Ok, Err, IsErrAnd, refl, sym, ap, subst, ◌∙◌, append_assoc, append-nil, take-append-drop, arith, inl, inr}
 use Rattle.std.specs.Prelude.{◌≢◌}
 use Rattle.std.specs.Io.KnownBytes.{Consumes, IsAtEnd}
 use Rattle.std.proofs.KnownBytes.{Consumes-nil, Consumes-trans}
 use Rattle.std.proofs.lemmas.List.Elements.{All-from_recursion}
 use Rattle.std.proofs.lemmas.List.Splits.{slice_split_none}
 use Rattle.ring_names.specs.declared.refusal.Refusal.{Refusal}
-use Rattle.ring_names.specs.declared.refusal.Refusal.TheVariants.{BadLine, OutOfMemory, ReadFailed, TooLarge}
+use Rattle.ring_names.specs.declared.refusal.Refusal.TheVariants.{BadLine, OutOfMemory, ReadFailed}
 use Rattle.texts.specs.Judging.{map_ok}
 use Rattle.texts.specs.Parts.{fields_of, lines_of}
-use Rattle.texts.specs.Left.{Left, ◌>>=◌, begins_so, one_line, over_at}
+use Rattle.texts.specs.Left.{Left, ◌>>=◌, begins_so, next_number, one_line, over_at}
 use Rattle.texts.specs.Frames.{end_line_at}
 use Rattle.texts.proofs.Cuts.{over}
 use Rattle.texts.proofs.Texts.{appended}
@@ -18,10 +18,11 @@ use Rattle.history_text.specs.Said.{SaidEntry}
 use Rattle.history_stream.specs.declared.reader.Reader.{Reader}
 use Rattle.history_stream.specs.declared.reader.Stage.TheVariants.{First, Entries, Over}
 use Rattle.history_stream.specs.Input.{Tells, IsOutside, IsNext}
-use Rattle.history_stream.specs.Reading.{goes_on, rest_at, resume_at}
-use Rattle.history_stream.specs.State.{Begun, IsReading, IsRun, Stops, Takes, lines_and}
+use Rattle.history_stream.specs.Reading.{IsReadTo, Point, goes_on, read_from, rest_at, resume_at}
+use Rattle.history_parts.specs.Parts.{is_marked}
+use Rattle.history_stream.specs.State.{Begun, IsReading, IsRun, Refuses, Stops, Takes, lines_and, point_of}
 use Rattle.history_stream.proofs.Inputs.{same_end}
-use Rattle.history_stream.specs.Cutting.{HasLong, TakesSome, StopsSome, ReadsAll}
+use Rattle.history_stream.specs.Cutting.{TakesSome, StopsSome, ReadsAll}
 
 abbrev at : ℕ → List (List (List ℕ)) → Left
 at k lines = record { line = k; lines = lines }
@@ -63,59 +64,104 @@ end_over ring said k left b e = ap (λ (t : Bool). ◌>>=◌ {B = List SaidEntry
 
 -- ---- piece after piece
 
+-- what stops after lines that are read stops with them
+module _ (ring : RingValue) (is_in : ℕ → Bool) (from to : Point) (xs ys : List ℕ) (e : Refusal) (on : IsReadTo ring from xs to) where
+  read_on : (zs : List ℕ) (q : Point) → IsReadTo ring to zs q → IsReadTo ring from (xs ++ zs) q
+  read_on zs q f = λ more. ap (read_from ring from) (append_assoc xs zs more) ∙ on (zs ++ more) ∙ f more
+
+  whole_on : (b m r : List ℕ) → ys ≡ b ++ (m ++ r) → xs ++ ys ≡ (xs ++ b) ++ (m ++ r)
+  whole_on b m r is = ap (λ (z : List ℕ). xs ++ z) is ∙ sym (append_assoc xs b (m ++ r))
+
+  pub stops_on : Stops ring is_in to ys e → Stops ring is_in from (xs ++ ys) e
+  stops_on (inl f) = inl (on ys ∙ f)
+  stops_on (inr (k, large, inl h)) = inr (
+    k,
+    large,
+    inl (record {
+      before = xs ++ h.before;
+      run = h.run;
+      behind = h.behind;
+      whole = whole_on h.before h.run h.behind h.whole;
+      stage = h.stage;
+      said = h.said;
+      read = read_on h.before (record { stage = h.stage; said = h.said; line = k }) h.read;
+      is_run = h.is_run;
+      long = h.long;
+    }),
+  )
+  stops_on (inr (k, large, inr h)) = inr (
+    k,
+    large,
+    inr (record {
+      before = xs ++ h.before;
+      line = h.line;
+      behind = h.behind;
+      whole = whole_on h.before h.line h.behind h.whole;
+      said = h.said;
+      last = h.last;
+      read = read_on h.before (record { stage = Entries; said = h.said; line = k }) h.read;
+      one_more = subst (λ (z : List ℕ). IsReadTo ring from z (record { stage = Entries; said = h.said ++ h.last ∷ []; line = next_number k })) (sym (append_assoc xs h.before h.line))
+          (read_on (h.before ++ h.line) (record { stage = Entries; said = h.said ++ h.last ∷ []; line = next_number k }) h.one_more);
+      many = h.many;
+    }),
+  )
+
 -- of the whole text so far lines were read, and this is left
 pub record So (old now : Reader) (whole left : List ℕ) : Type 0 where
   pub done : List ℕ
   pub split : whole ≡ done ++ left
   pub run : IsRun left
-  pub takes : Takes old now (lines_and whole) (lines_and left)
+  pub takes : Takes old now (lines_and done)
 
 pub so_none : (r : Reader) → So r r [] []
 so_none r = record { done = []; split = refl; run = tt; takes = λ ring marks front said so. (said, so, λ more. refl) }
 
--- a text after another
-assoc_lines : (xs ys zs : List ℕ) → lines_and xs (ys ++ zs) ≡ lines_and (xs ++ ys) zs
-assoc_lines xs ys zs = ap lines_of (sym (append_assoc xs ys zs))
+-- lines after others
+pub takes_both : (old mid new : Reader) (xs ys : List ℕ) → Takes old mid (lines_and xs) → Takes mid new (lines_and ys) → Takes old new (lines_and (xs ++ ys))
+takes_both old mid new xs ys first second = λ ring marks front said so. (
+    let a = first ring marks front said so in
+    let b = second ring marks front a.0 a.1 in
+    (b.0, b.1, λ u. ap (read_from ring (point_of old said)) (append_assoc xs ys u) ∙ a.2 (ys ++ u) ∙ b.2 u))
+
+-- what refuses bytes after lines refuses both
+pub refuses_both : (old mid : Reader) (xs ys : List ℕ) (e : Refusal) → Takes old mid (lines_and xs) → Refuses mid ys e → Refuses old (xs ++ ys) e
+refuses_both old mid xs ys e first bad = λ ring marks front said so more. (
+    let a = first ring marks front said so in
+    let from = point_of old said in
+    let on : (t : List ℕ) → read_from ring from (xs ++ t) ≡ read_from ring (point_of mid a.0) t = a.2 in
+    subst (λ (z : List ℕ). Stops ring (is_marked marks) from z e) (sym (append_assoc xs ys more)) (stops_on ring (is_marked marks) from (point_of mid a.0) xs (ys ++ more) e on (bad ring marks front a.0 a.1 more)))
 
 pub so_more : (old mid new : Reader) (whole left more rest : List ℕ) → So old mid whole left → TakesSome mid new (left ++ more) rest → So old new (whole ++ more) rest
 so_more old mid new whole left more rest s t = record {
   done = s.done ++ t.done;
   split = ap (λ (z : List ℕ). z ++ more) s.split ∙ append_assoc s.done left more ∙ ap (λ (z : List ℕ). s.done ++ z) t.whole ∙ sym (append_assoc s.done t.done rest);
   run = t.run;
-  takes = λ ring marks front said so. (
-      let a = s.takes ring marks front said so in
-      let b = t.takes ring marks front a.0 a.1 in (
-        b.0,
-        b.1,
-        λ u. ap (λ (ls : List (List (List ℕ))). resume_at ring old.stage said (at old.line ls)) (sym (assoc_lines whole more u))
-            ∙ a.2 (more ++ u)
-            ∙ ap (λ (ls : List (List (List ℕ))). resume_at ring mid.stage a.0 (at mid.line ls)) (assoc_lines left more u)
-            ∙ b.2 u,
-      ));
+  takes = takes_both old mid new s.done t.done s.takes t.takes;
 }
 
 -- what refuses a piece refuses the text, whatever follows
-pub so_stops : (old mid : Reader) (whole left more : List ℕ) (e : Refusal) → So old mid whole left → StopsSome mid (left ++ more) e → (rest : List ℕ)
-    → (ring : RingValue) (marks : List Bool) (front : Begun) (said : List SaidEntry) → IsReading ring marks front said old
-    → Stops ring marks (resume_at ring old.stage said (at old.line (lines_of ((whole ++ more) ++ rest)))) e ⊎ ((k : ℕ) × (e ≡ TooLarge k) × HasLong ((whole ++ more) ++ rest))
-so_stops old mid whole left more e s (inl bad) rest ring marks front said so =
-    let a = s.takes ring marks front said so in
-    let same = ap (λ (ls : List (List (List ℕ))). resume_at ring old.stage said (at old.line ls)) (sym (assoc_lines whole more rest))
-    ∙ a.2 (more ++ rest)
-    ∙ ap (λ (ls : List (List (List ℕ))). resume_at ring mid.stage a.0 (at mid.line ls)) (assoc_lines left more rest) in
-    inl (subst (λ (r : Result (List SaidEntry) Refusal). Stops ring marks r e) (sym same) (bad ring marks front a.0 a.1 rest))
-so_stops old mid whole left more e s (inr long) rest ring marks front said so =
-    inr (
-      long.0,
-      long.1,
-      record {
+pub so_stops : (old mid : Reader) (whole left more : List ℕ) (e : Refusal) → So old mid whole left → StopsSome mid (left ++ more) e → Refuses old (whole ++ more) e
+so_stops old mid whole left more e s stop = subst (λ (z : List ℕ). Refuses old z e) (sym same) (by stop)
+  where
+    same : whole ++ more ≡ s.done ++ (left ++ more)
+    same = ap (λ (z : List ℕ). z ++ more) s.split ∙ append_assoc s.done left more
+
+    by : StopsSome mid (left ++ more) e → Refuses old (s.done ++ (left ++ more)) e
+    by (inl bad) = refuses_both old mid s.done (left ++ more) e s.takes bad
+    by (inr (large, run, long)) = λ ring marks front said so rest. inr (
+      mid.line,
+      large,
+      inl (record {
         before = s.done;
         run = left ++ more;
         behind = rest;
-        whole = ap (λ (z : List ℕ). z ++ rest) (ap (λ (z : List ℕ). z ++ more) s.split ∙ append_assoc s.done left more) ∙ append_assoc s.done (left ++ more) rest;
-        is_run = long.2;
-        long = long.3;
-      },
+        whole = append_assoc s.done (left ++ more) rest;
+        stage = mid.stage;
+        said = (s.takes ring marks front said so).0;
+        read = (s.takes ring marks front said so).2;
+        is_run = run;
+        long = long;
+      }),
     )
 
 -- ---- the bytes that are told
@@ -171,8 +217,8 @@ stopped old mid new first whole left more a b (Err x) e is s stop t =
       t.got ++ rest.0,
       rest.1,
       λ ne nr ring marks front said so. (
-          let found = so_stops old mid whole left more x s (subst (λ (z : Refusal). StopsSome mid (left ++ more) z) (sym is) (stop (λ m. ne (is ∙ m)))) rest.0 ring marks front said so in
-          subst (λ (z : List ℕ). Stops ring marks (resume_at ring old.stage said (at old.line (lines_of z))) x ⊎ ((k : ℕ) × (x ≡ TooLarge k) × HasLong z)) same found
+          let found = so_stops old mid whole left more x s (subst (λ (z : Refusal). StopsSome mid (left ++ more) z) (sym is) (stop (λ m. ne (is ∙ m)))) ring marks front said so rest.0 in
+          subst (λ (z : List ℕ). Stops ring (is_marked marks) (point_of old said) z x) same found
           ),
     )
 
@@ -181,15 +227,12 @@ pub at_end : (old now : Reader) (first whole left : List ℕ) (a b : Option (Lis
 at_end old now first whole left a b r s t end is = (t.got, told_all a b t.got t.told end, by r is)
   where
     same : (ring : RingValue) (marks : List Bool) (front : Begun) (said : List SaidEntry) (so : IsReading ring marks front said old)
-        → resume_at ring old.stage said (at old.line (lines_of (first ++ t.got))) ≡ resume_at ring now.stage (s.takes ring marks front said so).0 (at now.line (lines_of left))
-    same ring marks front said so =
-        ap (λ (z : List ℕ). resume_at ring old.stage said (at old.line (lines_of z))) (sym t.whole_is ∙ sym (append-nil whole))
-        ∙ (s.takes ring marks front said so).2 []
-        ∙ ap (λ (z : List ℕ). resume_at ring now.stage (s.takes ring marks front said so).0 (at now.line (lines_of z))) (append-nil left)
+        → read_from ring (point_of old said) (first ++ t.got) ≡ resume_at ring now.stage (s.takes ring marks front said so).0 (at now.line (lines_of left))
+    same ring marks front said so = ap (read_from ring (point_of old said)) (sym t.whole_is ∙ s.split) ∙ (s.takes ring marks front said so).2 left
 
     by : (z : Result (Unit {0}) Refusal) → ((ring : RingValue) (said : List SaidEntry) → map_ok (λ _. said) z ≡ resume_at ring now.stage said (at now.line (lines_of left))) → ReadsAll old now (first ++ t.got) z
     by (Ok u) f = λ ring marks front said so. (let x = s.takes ring marks front said so in (x.0, x.1, same ring marks front said so ∙ sym (f ring x.0)))
-    by (Err e) f = λ ne nr ring marks front said so. (let x = s.takes ring marks front said so in inl (inl (same ring marks front said so ∙ sym (f ring x.0))))
+    by (Err e) f = λ ne nr ring marks front said so. (let x = s.takes ring marks front said so in inl (same ring marks front said so ∙ sym (f ring x.0)))
 
 -- ---- as the code has them
 
@@ -198,12 +241,12 @@ run_is [] h = tt
 run_is (x ∷ xs) h = (h 0 (omega arith), run_is xs (λ k l. h (suc k) (omega arith)))
 
 -- all lines that are ended were taken
-pub left_taken : (old new : Reader) (bytes shown left : List ℕ) (n : ℕ) → shown ≡ bytes → Takes old new (lines_and shown) (lines_and (drop n shown)) → IsRun (drop n shown) → left ≡ drop n shown → TakesSome old new bytes left
+pub left_taken : (old new : Reader) (bytes shown left : List ℕ) (n : ℕ) → shown ≡ bytes → Takes old new (lines_and (take n shown)) → IsRun (drop n shown) → left ≡ drop n shown → TakesSome old new bytes left
 left_taken old new bytes shown left n same takes run is = record {
   done = take n shown;
   whole = sym same ∙ sym (take-append-drop n shown) ∙ ap (λ (z : List ℕ). take n shown ++ z) (sym is);
   run = subst IsRun (sym is) run;
-  takes = subst (λ (z : List ℕ). Takes old new (lines_and z) (lines_and left)) same (subst (λ (z : List ℕ). Takes old new (lines_and shown) (lines_and z)) (sym is) takes);
+  takes = takes;
 }
 
 -- there was no line to take
@@ -212,7 +255,7 @@ none_taken r bytes left is run = record {
   done = [];
   whole = sym is;
   run = subst IsRun (sym is) run;
-  takes = subst (λ (z : List ℕ). Takes r r (lines_and bytes) (lines_and z)) (sym is) (λ ring marks front said so. (said, so, λ more. refl));
+  takes = λ ring marks front said so. (said, so, λ more. refl);
 }
 
 abbrev pub SoFar : Reader → Reader → List ℕ → List ℕ → Option (List ℕ) → Option (List ℕ) → Type 0

@@ -1,5 +1,5 @@
 -- A history that is read grows by an entry.
-use Rattle.std.proofs.Common.{◌≡◌, ℕ, ◌+◌, ◌≤◌, Bool, true, false, cond, List, [], ◌∷◌, ◌++◌, length, length-append, Option, Some, None, Ok, Err, refl, sym, ap, subst, ◌∙◌, append_assoc, append-nil, arith}
+use Rattle.std.proofs.Common.{◌≡◌, ℕ, ◌+◌, Bool, true, false, cond, List, [], ◌∷◌, ◌++◌, length, length-append, Option, Some, None, Ok, Err, refl, sym, ap, subst, ◌∙◌, append_assoc, append-nil, arith}
 use Rattle.std.specs.Prelude.{MatchOption, OnOk, Result, is_some, min, option_to_list}
 use Rattle.std.specs.List.{flat_map}
 use Rattle.std.proofs.lemmas.Grind.{flat_map-append}
@@ -33,7 +33,7 @@ use Rattle.history_stream.specs.Reading.{entries_behind, writers_behind}
 use Rattle.history_stream.specs.declared.place.Place.{Place}
 use Rattle.history_stream.specs.Place.{Finds, FindsMore}
 use Rattle.history_stream.specs.Room.{Holds, most}
-use Rattle.history_stream.specs.State.{Begun, is_start, started, Counted, IsReading, Keeps}
+use Rattle.history_stream.specs.State.{Begun, is_start, started, Counted, IsReading, IsTooMany, Keeps}
 
 -- ---- one entry more
 
@@ -206,7 +206,7 @@ module _ (ring : RingValue) (marks : List Bool) (front : Begun) (said : List Sai
 
 -- the last put or get for which there is no room
 pub last_start : (ring : RingValue) (marks : List Bool) (front : Begun) (said : List SaidEntry) (old : Reader) (x : SaidEntry) (entry : Entry) → IsReading ring marks front said old → Counted old
-    → entry ≡ entry_of old.writers x → is_start entry.event ≡ true → old.started ≡ 4294967294 → 4294967295 ≤ started ring (is_marked marks) (entries_behind [] (said ++ x ∷ []))
+    → entry ≡ entry_of old.writers x → is_start entry.event ≡ true → old.started ≡ 4294967294 → IsTooMany ring (is_marked marks) said x
 last_start ring marks front said old x entry so counted entry_is start full =
     let f = or_none ring (is_marked marks) in
     let es = entries_behind [] said in
@@ -219,7 +219,7 @@ last_start ring marks front said old x entry so counted entry_is start full =
     let had = ap (λ (c : CutValue). length c.puts) so.cut_is in
     let got = ap (λ (c : CutValue). length c.gets) so.cut_is in
     let count = counted.same in
-    omega arith
+    (omega arith, omega arith)
 
 pub on_ok : {A E : Type 0} (r : Result A E) (P Q : Type 0) → OnOk r P → (P → Q) → OnOk r Q
 on_ok (Ok x) P Q p f = f p

@@ -7,7 +7,6 @@ use Rattle.ring_names.specs.declared.refusal.Refusal.{Refusal}
 use Rattle.ring_names.specs.declared.refusal.Refusal.TheVariants.{OutOfMemory, ReadFailed, TooLarge}
 use Rattle.texts.specs.Parts.{lines_of}
 use Rattle.texts.specs.Left.{◌>>=◌}
-use Rattle.texts.proofs.Items.{bind_ok, ok_is}
 use Rattle.ring_table.specs.Value.{RingValue, names_of}
 use Rattle.ring_table.specs.Valid.{IsRing}
 use Rattle.plan_runs.specs.declared.event.Entry.{Entry}
@@ -31,12 +30,12 @@ use Rattle.history_stream.specs.Input.{Tells, IsHead, max_input}
 use Rattle.bundle_text.specs.declared.front.Front.{Front}
 use Rattle.bundle_text.specs.Front.{front_at}
 use Rattle.history_stream.specs.Front.{front_text, IsFront}
-use Rattle.history_stream.specs.Reading.{entries_behind, long_reading, resume_at, writers_behind}
+use Rattle.history_stream.specs.Reading.{Point, entries_behind, long_reading, read_from, resume_at, writers_behind}
 use Rattle.history_stream.specs.Place.{Finds, IsPlaceOf}
 use Rattle.history_stream.specs.Room.{Holds}
-use Rattle.history_stream.specs.State.{Begun, IsReading, Stops, started}
+use Rattle.history_stream.specs.State.{Begun, IsReading, IsTooMuch, Stops, point_of, started}
 use Rattle.history_stream.proofs.Pieces.{told_all, told_any, told_rest}
-use Rattle.history_stream.specs.Cutting.{HasLong, HasNoFront, ReadsAll, CutsRest, CutsAll, HasNone, IsNoFront, IsPartOf, IsStart, chosen, part_text, begun_text, IsCut, IsCutOf}
+use Rattle.history_stream.specs.Cutting.{HasNoFront, start_at, ReadsAll, CutsRest, CutsAll, HasNone, IsNoFront, IsPartOf, IsStart, chosen, part_text, begun_text, IsCut, IsCutOf}
 
 -- ---- the partitions that are marked are those that are chosen
 
@@ -71,11 +70,8 @@ starts ring marks front r valid ring_is writers cut held found = record {
 
 module _ (choice : Choice) (front : FrontText) (marks : List Bool) (same : (p : ℕ) → p < front.ring.q → is_marked marks p ≡ is_chosen choice p) (wanted : ℕ) (text : List ℕ) (old new : Reader)
     (start : IsReading front.ring marks (record { text = text; wanted = wanted }) [] old) (text_is : text ≡ front.text.items ++ codes "history 1\n") (stage : old.stage ≡ First) (line : old.line ≡ front.line) (bytes : List ℕ) where
-  abbrev read : Result (List SaidEntry) Refusal
-  read = resume_at front.ring First [] (record { line = front.line; lines = lines_of bytes })
-
-  first_is : resume_at front.ring old.stage [] (record { line = old.line; lines = lines_of bytes }) ≡ read
-  first_is = (λ i. resume_at front.ring (stage i) [] (record { line = line i; lines = lines_of bytes }))
+  from_is : point_of old [] ≡ start_at front.line
+  from_is = λ i. record { stage = stage i; said = []; line = line i }
 
   abbrev begun : Begun
   begun = record { text = text; wanted = wanted }
@@ -94,16 +90,29 @@ module _ (choice : Choice) (front : FrontText) (marks : List Bool) (same : (p : 
       (subst (λ (ns : List (List ℕ)). Holds new.part (text ++ flat_map (entry_line (names_of front.ring) ns) (part_of front.ring (is_marked marks) es)) (length (part_of front.ring (is_marked marks) es))) names held) in
       let body = flat_map (entry_line (names_of front.ring) (writers_behind [] a.0)) (part_of front.ring (is_chosen choice) es) in
       let whole : text ++ body ≡ front.text.items ++ (codes "history 1\n" ++ body) = ap (λ (t : List ℕ). t ++ body) text_is ∙ append_assoc front.text.items (codes "history 1\n") body in
-      (a.0, sym first_is ∙ a.2, subst (λ (t : List ℕ). Holds new.part t (length (part_of front.ring (is_chosen choice) es))) whole now, place)
+      (a.0, ap (λ (p : Point). read_from front.ring p bytes) (sym from_is) ∙ a.2, subst (λ (t : List ℕ). Holds new.part t (length (part_of front.ring (is_chosen choice) es))) whole now, place)
+
+  chosen_stops : (from : Point) (e : Refusal) → Stops front.ring (is_marked marks) from bytes e → Stops front.ring (is_chosen choice) from bytes e
+  chosen_stops from e (inl f) = inl f
+  chosen_stops from e (inr (k, large, inl h)) = inr (k, large, inl h)
+  chosen_stops from e (inr (k, large, inr h)) = inr (
+    k,
+    large,
+    inr (record {
+      before = h.before;
+      line = h.line;
+      behind = h.behind;
+      whole = h.whole;
+      said = h.said;
+      last = h.last;
+      read = h.read;
+      one_more = h.one_more;
+      many = (sym (started_same front.ring choice marks same (entries_behind [] h.said)) ∙ h.many.0, sym (started_same front.ring choice marks same (entries_behind [] (h.said ++ h.last ∷ []))) ∙ h.many.1);
+    }),
+  )
 
   pub rest_err : (e : Refusal) → ReadsAll old new bytes (Err e) → CutsRest choice wanted front bytes (Err e)
-  rest_err e all = λ ne nr. by (all ne nr front.ring marks begun [] start)
-    where
-      by : Stops front.ring marks (resume_at front.ring old.stage [] (record { line = old.line; lines = lines_of bytes })) e ⊎ ((k : ℕ) × (e ≡ TooLarge k) × HasLong bytes)
-          → (read ≡ Err e) ⊎ ((k : ℕ) × (e ≡ TooLarge k) × (HasLong bytes ⊎ ((said : List SaidEntry) → read ≡ Ok said → 4294967295 ≤ started front.ring (is_chosen choice) (entries_behind [] said))))
-      by (inl (inl f)) = inl (sym first_is ∙ f)
-      by (inl (inr f)) = inr (f.0, f.1, inr (λ said h. subst (λ (n : ℕ). 4294967295 ≤ n) (started_same front.ring choice marks same (entries_behind [] said)) (f.2 said (first_is ∙ h))))
-      by (inr f) = inr (f.0, f.1, inl f.2)
+  rest_err e all = λ ne nr. chosen_stops (start_at front.line) e (subst (λ (p : Point). Stops front.ring (is_marked marks) p bytes e) from_is (all ne nr front.ring marks begun [] start))
 
 -- ---- from the first byte
 
@@ -111,25 +120,16 @@ drop_front : (xs ys : List ℕ) → drop (length xs) (xs ++ ys) ≡ ys
 drop_front [] ys = refl
 drop_front (x ∷ xs) ys = drop_front xs ys
 
-more_long : (front bytes : List ℕ) → HasLong bytes → HasLong (front ++ bytes)
-more_long front bytes h = record {
-  before = front ++ h.before;
-  run = h.run;
-  behind = h.behind;
-  whole = ap (λ (z : List ℕ). front ++ z) h.whole ∙ sym (append_assoc front h.before (h.run ++ h.behind));
-  is_run = h.is_run;
-  long = h.long;
-}
-
 module _ (head : List ℕ) (front : FrontText) (value : Front) (rest more : List ℕ) (is : IsFront head front value rest) where
+  behind_is : drop (length (front_text value)) (head ++ more) ≡ rest ++ more
+  behind_is = ap (λ (t : List ℕ). drop (length t) (head ++ more)) (sym is.text_is) ∙ ap (λ (t : List ℕ). drop (length front.text.items) t) (ap (λ (t : List ℕ). t ++ more) is.whole ∙ append_assoc front.text.items rest more) ∙ drop_front front.text.items (rest ++ more)
+
   -- reading goes on after the front
   reads_on : long_reading head (head ++ more) ≡ (resume_at front.ring First [] (record { line = front.line; lines = lines_of (rest ++ more) }) >>= λ said. Ok (value, said))
   unfolding long_reading
   reads_on =
-      let behind : drop (length (front_text value)) (head ++ more) ≡ rest ++ more =
-      ap (λ (t : List ℕ). drop (length t) (head ++ more)) (sym is.text_is) ∙ ap (λ (t : List ℕ). drop (length front.text.items) t) (ap (λ (t : List ℕ). t ++ more) is.whole ∙ append_assoc front.text.items rest more) ∙ drop_front front.text.items (rest ++ more) in
       ap (λ r. r >>= λ x. resume_at x.0.ring First [] (record { line = x.1.line; lines = lines_of (drop (length (front_text x.0)) (head ++ more)) }) >>= λ said. Ok (x.0, said)) is.read
-      ∙ (λ i. resume_at (sym is.ring_is i) First [] (record { line = front.line; lines = lines_of (behind i) }) >>= λ said. Ok (value, said))
+      ∙ (λ i. resume_at (sym is.ring_is i) First [] (record { line = front.line; lines = lines_of (behind_is i) }) >>= λ said. Ok (value, said))
 
   pub all_ok : (choice : Choice) (wanted : ℕ) (part : Unended) → CutsRest choice wanted front (rest ++ more) (Ok part)
       → (v : Front) × (said : List SaidEntry) × (long_reading head (head ++ more) ≡ Ok (v, said)) × Holds part.text (begun_text choice v said) (length (chosen choice v said))
@@ -145,28 +145,11 @@ module _ (head : List ℕ) (front : FrontText) (value : Front) (rest more : List
         place,
       )
 
-  abbrev rest_read : Result (List SaidEntry) Refusal
-  rest_read = resume_at front.ring First [] (record { line = front.line; lines = lines_of (rest ++ more) })
-
-  pub all_err : (choice : Choice) (wanted : ℕ) (e : Refusal) → (rest_read ≡ Err e) ⊎ ((k : ℕ) × (e ≡ TooLarge k) × (HasLong (rest ++ more) ⊎ ((said : List SaidEntry) → rest_read ≡ Ok said → 4294967295 ≤ started front.ring (is_chosen choice) (entries_behind [] said))))
-      → IsCutOf choice wanted head (head ++ more) (Err (Refused e))
-  all_err choice wanted e c = by c
-    where
-      many : ((said : List SaidEntry) → rest_read ≡ Ok said → 4294967295 ≤ started front.ring (is_chosen choice) (entries_behind [] said))
-          → (v : Front) (said : List SaidEntry) → long_reading head (head ++ more) ≡ Ok (v, said) → 4294967295 ≤ started v.ring (is_chosen choice) (entries_behind [] said)
-      many few v said h =
-          let b = bind_ok rest_read (λ s. Ok (value, s)) (v, said) (sym reads_on ∙ h) in
-          let both : (value, b.0) ≡ (v, said) = ok_is _ _ b.2 in
-          let ring : front.ring ≡ v.ring = is.ring_is ∙ ap (λ (p : Front × List SaidEntry). p.0.ring) both in
-          let same : b.0 ≡ said = ap (λ (p : Front × List SaidEntry). p.1) both in
-          subst (λ (r : RingValue). 4294967295 ≤ started r (is_chosen choice) (entries_behind [] said)) ring
-          (subst (λ (s : List SaidEntry). 4294967295 ≤ started front.ring (is_chosen choice) (entries_behind [] s)) same (few b.0 b.1))
-
-      by : (rest_read ≡ Err e) ⊎ ((k : ℕ) × (e ≡ TooLarge k) × (HasLong (rest ++ more) ⊎ ((said : List SaidEntry) → rest_read ≡ Ok said → 4294967295 ≤ started front.ring (is_chosen choice) (entries_behind [] said))))
-          → IsCutOf choice wanted head (head ++ more) (Err (Refused e))
-      by (inl f) = inl (reads_on ∙ ap (λ (r : Result (List SaidEntry) Refusal). r >>= λ said. Ok (value, said)) f)
-      by (inr (k, large, inl long)) = inr (k, large, inl (subst HasLong (sym (ap (λ (z : List ℕ). z ++ more) is.whole ∙ append_assoc front.text.items rest more)) (more_long front.text.items (rest ++ more) long)))
-      by (inr (k, large, inr few)) = inr (k, large, inr (many few))
+  pub all_err : (choice : Choice) (wanted : ℕ) (e : Refusal) → Stops front.ring (is_chosen choice) (start_at front.line) (rest ++ more) e → IsCutOf choice wanted head (head ++ more) (Err (Refused e))
+  all_err choice wanted e (inl f) = inl (reads_on ∙ ap (λ (r : Result (List SaidEntry) Refusal). r >>= λ said. Ok (value, said)) f)
+  all_err choice wanted e (inr (k, large, much)) =
+      let after = subst (λ (z : List ℕ). IsTooMuch front.ring (is_chosen choice) (start_at front.line) z k) (sym behind_is) much in
+      inr (k, large, (value, _, is.read, subst (λ (r : RingValue). IsTooMuch r (is_chosen choice) (start_at front.line) (drop (length (front_text value)) (head ++ more)) k) is.ring_is after))
 
 -- ---- the last line
 

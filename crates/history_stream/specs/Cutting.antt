@@ -1,5 +1,5 @@
 -- What cutting a bundle gives.
-use Rattle.std.specs.Prelude.{◌≡◌, ◌≢◌, ◌⊎◌, ℕ, ◌<◌, ◌≤◌, Bool, true, false, Option, List, [], ◌++◌, length, min, codes, Result, Ok, Err}
+use Rattle.std.specs.Prelude.{◌≡◌, ◌≢◌, ◌⊎◌, ℕ, ◌<◌, ◌≤◌, Bool, true, false, Option, List, [], ◌++◌, length, drop, min, codes, Result, Ok, Err}
 use Rattle.std.specs.List.{flat_map}
 use Rattle.ring_names.specs.declared.refusal.Refusal.{Refusal}
 use Rattle.ring_names.specs.declared.refusal.Refusal.TheVariants.{OutOfMemory, ReadFailed, TooLarge}
@@ -11,7 +11,7 @@ use Rattle.history_text.specs.Said.{SaidEntry}
 use Rattle.history_text.specs.Spelling.{entry_line, history_text}
 use Rattle.history_parts.specs.declared.choice.Choice.{Choice}
 use Rattle.history_parts.specs.Choices.{is_chosen}
-use Rattle.history_parts.specs.Parts.{part_of}
+use Rattle.history_parts.specs.Parts.{is_marked, part_of}
 use Rattle.history_stream.specs.declared.cutting.Part.{Part}
 use Rattle.history_stream.specs.declared.cutting.NoPart.{NoPart}
 use Rattle.history_stream.specs.declared.cutting.NoPart.TheVariants.{Refused, Large}
@@ -27,42 +27,33 @@ use Rattle.history_stream.specs.declared.opening.Tried.TheVariants.{Found, More}
 use Rattle.bundle_text.specs.declared.front.Front.{Front}
 use Rattle.bundle_text.specs.Front.{front_at}
 use Rattle.history_stream.specs.Front.{IsFront, front_text}
-use Rattle.history_stream.specs.Reading.{entries_behind, long_reading, resume_at, writers_behind}
+use Rattle.history_stream.specs.Reading.{Point, entries_behind, long_reading, read_from, writers_behind}
 use Rattle.history_stream.specs.Place.{IsPlaceOf}
 use Rattle.history_stream.specs.Room.{Holds, most}
-use Rattle.history_stream.specs.State.{Begun, IsReading, IsRun, Refuses, Stops, Takes, lines_and, started}
+use Rattle.history_stream.specs.State.{Begun, IsReading, IsRun, IsTooMuch, Refuses, Stops, Takes, lines_and, point_of}
 
 -- the refusal that it is
 abbrev pub refusal_of : NoPart → Refusal
 refusal_of (Refused e) = e
 refusal_of (Large entries bytes) = TooLarge 0
 
--- a run of bytes that is part of no shorter line than may be
-pub record HasLong (bytes : List ℕ) : Type 0 where
-  pub before : List ℕ
-  pub run : List ℕ
-  pub behind : List ℕ
-  pub whole : bytes ≡ before ++ (run ++ behind)
-  pub is_run : IsRun run
-  pub long : max_input < length run
-
 -- lines were read, and what is left has none that is ended
 pub record TakesSome (old new : Reader) (bytes left : List ℕ) : Type 0 where
   pub done : List ℕ
   pub whole : bytes ≡ done ++ left
   pub run : IsRun left
-  pub takes : Takes old new (lines_and bytes) (lines_and left)
+  pub takes : Takes old new (lines_and done)
 
 -- lines were refused, or one is too long
 abbrev pub StopsSome : Reader → List ℕ → Refusal → Type 0
-StopsSome old bytes e = Refuses old (lines_and bytes) e ⊎ ((k : ℕ) × (e ≡ TooLarge k) × IsRun bytes × (max_input < length bytes))
+StopsSome old bytes e = Refuses old bytes e ⊎ ((e ≡ TooLarge old.line) × IsRun bytes × (max_input < length bytes))
 
 -- all lines were read to the end of the text, or refused
 abbrev pub ReadsAll : Reader → Reader → List ℕ → Result (Unit {0}) Refusal → Type 0
 ReadsAll old new bytes (Ok u) = (ring : RingValue) (marks : List Bool) (front : Begun) (said : List SaidEntry) → IsReading ring marks front said old
-    → (next : List SaidEntry) × IsReading ring marks front next new × (resume_at ring old.stage said (record { line = old.line; lines = lines_of bytes }) ≡ Ok next)
+    → (next : List SaidEntry) × IsReading ring marks front next new × (read_from ring (point_of old said) bytes ≡ Ok next)
 ReadsAll old new bytes (Err e) = e ≢ OutOfMemory → e ≢ ReadFailed → (ring : RingValue) (marks : List Bool) (front : Begun) (said : List SaidEntry) → IsReading ring marks front said old
-    → Stops ring marks (resume_at ring old.stage said (record { line = old.line; lines = lines_of bytes })) e ⊎ ((k : ℕ) × (e ≡ TooLarge k) × HasLong bytes)
+    → Stops ring (is_marked marks) (point_of old said) bytes e
 
 -- the first bytes hold no front: they are all, or there are more
 abbrev pub IsNoFront : Head → Refusal → Type 0
@@ -111,10 +102,14 @@ chosen choice front said = part_of front.ring (is_chosen choice) (entries_behind
 abbrev pub part_text : Choice → Front → List SaidEntry → List ℕ
 part_text choice front said = front_text front ++ history_text front.ring (writers_behind [] said) (chosen choice front said)
 
--- more than can be read: a line, or puts and gets
-abbrev pub IsTooMuch : Choice → List ℕ → List ℕ → Type 0
-IsTooMuch choice head bytes = HasLong bytes
-    ⊎ ((front : Front) (said : List SaidEntry) → long_reading head bytes ≡ Ok (front, said) → 4294967295 ≤ started front.ring (is_chosen choice) (entries_behind [] said))
+-- the start of a history, which has that line number
+abbrev pub start_at : ℕ → Point
+start_at line = record { stage = First; said = []; line = line }
+
+-- line k, after the front, is more than can be read
+abbrev pub IsTooMuchOf : Choice → List ℕ → List ℕ → ℕ → Type 0
+IsTooMuchOf choice head bytes k = (front : Front) × (left : Left) × (front_at (record { line = 1; lines = lines_of head }) ≡ Ok (front, left))
+    × IsTooMuch front.ring (is_chosen choice) (start_at left.line) (drop (length (front_text front)) bytes) k
 
 -- the part of a history after its front, up to its last line
 abbrev pub begun_text : Choice → Front → List SaidEntry → List ℕ
@@ -128,7 +123,7 @@ IsCutOf choice wanted head bytes (Ok part) = (front : Front) × (said : List Sai
     × IsPlaceOf front.ring (is_chosen choice) (entries_behind [] said) wanted part.place
 IsCutOf choice wanted head bytes (Err (Large entries size)) = (front : Front) × (said : List SaidEntry) × (long_reading head bytes ≡ Ok (front, said))
     × IsPartOf (part_text choice front said) (length (chosen choice front said)) (Err (Large entries size))
-IsCutOf choice wanted head bytes (Err (Refused e)) = (long_reading head bytes ≡ Err e) ⊎ ((k : ℕ) × (e ≡ TooLarge k) × IsTooMuch choice head bytes)
+IsCutOf choice wanted head bytes (Err (Refused e)) = (long_reading head bytes ≡ Err e) ⊎ ((k : ℕ) × (e ≡ TooLarge k) × IsTooMuchOf choice head bytes k)
 
 -- the same, unless memory ran out or reading failed
 abbrev pub IsCut : Choice → ℕ → List ℕ → Result Part NoPart → Type 0
@@ -139,13 +134,11 @@ IsCut choice wanted bytes (Err (Refused e)) = e ≢ OutOfMemory → e ≢ ReadFa
 
 -- the part so far of a history that was read after its front, or why there is none
 abbrev pub CutsRest : Choice → ℕ → FrontText → List ℕ → Result Unended Refusal → Type 0
-CutsRest choice wanted front bytes (Ok part) = (said : List SaidEntry) × (resume_at front.ring First [] (record { line = front.line; lines = lines_of bytes }) ≡ Ok said)
+CutsRest choice wanted front bytes (Ok part) = (said : List SaidEntry) × (read_from front.ring (start_at front.line) bytes ≡ Ok said)
     × Holds part.text (front.text.items ++ (codes "history 1\n" ++ flat_map (entry_line (names_of front.ring) (writers_behind [] said)) (part_of front.ring (is_chosen choice) (entries_behind [] said))))
     (length (part_of front.ring (is_chosen choice) (entries_behind [] said)))
     × IsPlaceOf front.ring (is_chosen choice) (entries_behind [] said) wanted part.place
-CutsRest choice wanted front bytes (Err e) = e ≢ OutOfMemory → e ≢ ReadFailed → (resume_at front.ring First [] (record { line = front.line; lines = lines_of bytes }) ≡ Err e)
-    ⊎ ((k : ℕ) × (e ≡ TooLarge k) × (HasLong bytes
-    ⊎ ((said : List SaidEntry) → resume_at front.ring First [] (record { line = front.line; lines = lines_of bytes }) ≡ Ok said → 4294967295 ≤ started front.ring (is_chosen choice) (entries_behind [] said))))
+CutsRest choice wanted front bytes (Err e) = e ≢ OutOfMemory → e ≢ ReadFailed → Stops front.ring (is_chosen choice) (start_at front.line) bytes e
 
 -- the same of a bundle
 abbrev pub CutsAll : Choice → ℕ → List ℕ → Result Unended Refusal → Type 0

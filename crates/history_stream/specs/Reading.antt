@@ -1,5 +1,5 @@
 -- Reading a bundle whose history may have any number of entries.
-use Rattle.std.specs.Prelude.{ℕ, Bool, not, List, [], ◌∷◌, length, drop, codes, Result, Ok}
+use Rattle.std.specs.Prelude.{◌≡◌, ℕ, Bool, not, List, [], ◌∷◌, ◌++◌, length, drop, codes, Result, Ok}
 use Rattle.ring_names.specs.declared.refusal.Refusal.{Refusal}
 use Rattle.texts.specs.Parts.{lines_of}
 use Rattle.texts.specs.Left.{Left, ◌>>=◌, is_word, many_from, one_line, over_at}
@@ -42,6 +42,20 @@ abbrev pub resume_at : RingValue → Stage → List SaidEntry → Left → Resul
 resume_at ring First seen s = one_line (header_at (codes "history") (codes "1")) s >>= λ x. rest_at ring seen x.1
 resume_at ring Entries seen s = rest_at ring seen s
 resume_at ring Over seen s = over_at s >>= λ _. Ok seen
+
+-- where reading is: which line comes next, what the lines before it say, and its number
+pub record Point : Type 0 where
+  pub stage : Stage
+  pub said : List SaidEntry
+  pub line : ℕ
+
+-- what is read from there to the end of a text
+abbrev pub read_from : RingValue → Point → List ℕ → Result (List SaidEntry) Refusal
+read_from ring p text = resume_at ring p.stage p.said (record { line = p.line; lines = lines_of text })
+
+-- these bytes are whole lines, and are read without a fault from a point to another: whatever text follows, reading goes on from there
+abbrev pub IsReadTo : RingValue → Point → List ℕ → Point → Type 0
+IsReadTo ring p done q = (more : List ℕ) → read_from ring p (done ++ more) ≡ read_from ring q more
 
 -- a front, read from the first bytes of a text, and a history to the end of the text
 unfoldable pub long_reading : List ℕ → List ℕ → Result (Front × List SaidEntry) Refusal

@@ -1,6 +1,6 @@
 //! A history that is read line by line, and cut.
 
-ghost use Rattle.std.specs.Prelude.{◌≡◌, ◌≢◌, ◌≤◌, ◌<◌, List, codes, length, drop, IfOk, IfErr, OnOk};
+ghost use Rattle.std.specs.Prelude.{◌≡◌, ◌≢◌, ◌≤◌, ◌<◌, List, codes, length, take, drop, IfOk, IfErr, OnOk};
 ghost use Rattle.ring_names.specs.declared.refusal.Refusal.TheVariants.{OutOfMemory};
 ghost use Rattle.texts.specs.Parts.{lines_of};
 ghost use Rattle.texts.specs.Judging.{end_at, map_ok};
@@ -10,7 +10,7 @@ ghost use Rattle.history_stream.specs.Reading.{resume_at};
 ghost use Rattle.texts.specs.Left.{next_number};
 ghost use Rattle.texts.specs.Frames.{header_at};
 ghost use Rattle.history_stream.specs.declared.reader.Stage.TheVariants.{First, Entries, Over};
-ghost use Rattle.history_stream.specs.State.{is_start, Counted, IsRun, Keeps, TakesEntry, RefusesEntry, Takes, Refuses, line_and, lines_and};
+ghost use Rattle.history_stream.specs.State.{is_start, Counted, IsRun, Keeps, TakesEntry, RefusesEntry, Takes, Refuses, RefusesLine, line_and, lines_and};
 
 use crate::place::Place;
 use crate::room::PartText;
@@ -120,8 +120,8 @@ impl<'a> Reader<'a> {
         requires counted { Counted self.old }
         requires stage { self.old.stage ≡ First }
         ensures counted { OnOk result (Counted self.new) }
-        ensures ok { OnOk result (Takes self.old self.new (line_and text.now) lines_of) }
-        ensures err { IfErr result (λ e. Refuses self.old (line_and text.now) e) }
+        ensures ok { OnOk result (Takes self.old self.new (line_and text.now)) }
+        ensures err { IfErr result (λ e. RefusesLine self.old text.now e) }
     {
         first_line(Fields::of(self.line, text))?;
         self.stage = Stage::Entries;
@@ -145,8 +145,8 @@ impl<'a> Reader<'a> {
         requires counted { Counted self.old }
         requires stage { self.old.stage ≡ Entries }
         ensures counted { OnOk result (Counted self.new) }
-        ensures ok { OnOk result (Takes self.old self.new (line_and text.now) lines_of) }
-        ensures err { IfErr result (λ e. e ≢ OutOfMemory → Refuses self.old (line_and text.now) e) }
+        ensures ok { OnOk result (Takes self.old self.new (line_and text.now)) }
+        ensures err { IfErr result (λ e. e ≢ OutOfMemory → RefusesLine self.old text.now e) }
     {
         let mut fields = Fields::of(self.line, text);
         if fields.takes(b"end") {
@@ -161,8 +161,8 @@ impl<'a> Reader<'a> {
     fn take_line(&mut self, alloc: Global, text: &[u8]) -> Result<(), Refusal>
         requires { Counted self.old }
         ensures counted { OnOk result (Counted self.new) }
-        ensures ok { OnOk result (Takes self.old self.new (line_and text.now) lines_of) }
-        ensures err { IfErr result (λ e. e ≢ OutOfMemory → Refuses self.old (line_and text.now) e) }
+        ensures ok { OnOk result (Takes self.old self.new (line_and text.now)) }
+        ensures err { IfErr result (λ e. e ≢ OutOfMemory → RefusesLine self.old text.now e) }
     {
         match self.stage {
             Stage::First => self.take_first(text),
@@ -177,8 +177,8 @@ impl<'a> Reader<'a> {
         ensures counted { OnOk result (Counted self.new) }
         ensures within { IfOk result (λ taken. taken ≤ length bytes.now) }
         ensures run { IfOk result (λ taken. IsRun (drop taken bytes.now)) }
-        ensures ok { IfOk result (λ taken. Takes self.old self.new (lines_and bytes.now) (lines_and (drop taken bytes.now))) }
-        ensures err { IfErr result (λ e. e ≢ OutOfMemory → Refuses self.old (lines_and bytes.now) e) }
+        ensures ok { IfOk result (λ taken. Takes self.old self.new (lines_and (take taken bytes.now))) }
+        ensures err { IfErr result (λ e. e ≢ OutOfMemory → Refuses self.old bytes.now e) }
     {
         let mut taken = 0;
         'lines: loop {

@@ -2,7 +2,7 @@ use Rattle.std.proofs.Common.{◌≢◌, ℕ, List, drop, inl, sym, ap, subst, �
 use Rattle.std.proofs.lemmas.List.{take_rest}
 use Rattle.ring_names.specs.declared.refusal.Refusal.{Refusal}
 use Rattle.ring_names.specs.declared.refusal.Refusal.TheVariants.{OutOfMemory}
-use Rattle.history_stream.specs.State.{Refuses, lines_and}
+use Rattle.history_stream.specs.State.{Refuses}
 use Rattle.history_stream.specs.Cutting.{StopsSome}
 use Rattle.history_stream.proofs.Pieces.{left_taken}
 use Rattle.history_stream.proofs.Takings.{if_err}
@@ -12,7 +12,7 @@ pub returns-in_err-taken-clause-err : goal.returns-in_err-taken-clause-err
 returns-in_err-taken-clause-err c =
     let e = c.in_err-taken.field-0.0 in
     if_err c.from_residual.result e (λ (x : Refusal). x ≢ OutOfMemory → StopsSome c.args.reader.now c.args.left.now.items x) c.from_residual.ensures.1
-    (λ ne. inl (subst (λ (z : List ℕ). Refuses c.args.reader.now (lines_and z) e) c.as_slice.ensures.value (c.in_err-taken.ensures.err ne)))
+    (λ ne. inl (subst (λ (z : List ℕ). Refuses c.args.reader.now z e) c.as_slice.ensures.value (c.in_err-taken.ensures.err ne)))
 
 pub returns-clause-ok : goal.returns-clause-ok
 returns-clause-ok c =

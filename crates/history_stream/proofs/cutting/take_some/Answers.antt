@@ -13,7 +13,6 @@ returns-in-Some-clause-err c = subst (λ (z : List ℕ). IfErr c.take_left.resul
 
 pub returns-then-len-gt-MAX_INPUT-clause-err : goal.returns-then-len-gt-MAX_INPUT-clause-err
 returns-then-len-gt-MAX_INPUT-clause-err c = λ ne. inr (
-  c.args.reader.now.line,
   refl,
   runs_on c.args.left.now.items c.args.more.now c.requires.run (run_is c.args.more.now (λ k l. false_from_ne_true _ (c.in-None.ensures k (omega arith) l))),
   (let size = ap (λ (l : List ℕ). length l) c.in_ok-extend_from_slice.ensures.items in let long : max_input < length (c.args.left.now.items ++ c.args.more.now) = omega arith in long),

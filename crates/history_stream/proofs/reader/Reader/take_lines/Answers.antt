@@ -3,7 +3,7 @@ use Rattle.std.proofs.lemmas.Bool.{false_from_ne_true}
 use Rattle.std.proofs.lemmas.List.{take_rest}
 use Rattle.ring_names.specs.declared.refusal.Refusal.{Refusal}
 use Rattle.ring_names.specs.declared.refusal.Refusal.TheVariants.{OutOfMemory}
-use Rattle.history_stream.specs.State.{IsRun, Refuses, lines_and}
+use Rattle.history_stream.specs.State.{IsRun, Refuses}
 use Rattle.history_stream.proofs.Pieces.{run_is}
 use Rattle.history_stream.proofs.Takings.{if_err, lines_more, lines_stop}
 use Rattle.history_stream.proofs.reader.Reader.take_lines.Goals as goal
@@ -15,7 +15,7 @@ returns-in_err-take_line-in-Some-clause-err c =
     let taken = c.lines.taken in
     let same : taken + c.in-Some.at - taken ≡ c.in-Some.at = omega arith in
     let e = c.in_err-take_line-in-Some.field-0.0 in
-    if_err c.from_residual.result e (λ (x : Refusal). x ≢ OutOfMemory → Refuses c.args.self.now (lines_and bytes) x) c.from_residual.ensures.1
+    if_err c.from_residual.result e (λ (x : Refusal). x ≢ OutOfMemory → Refuses c.args.self.now bytes x) c.from_residual.ensures.1
     (λ ne. lines_stop c.args.self.now c.lines.self bytes (take (length bytes - taken) (drop taken bytes)) (take (taken + c.in-Some.at - taken) (drop taken bytes)) taken c.in-Some.at (taken + c.in-Some.at - taken) (take_rest bytes taken)
     f.0.high (λ k h. false_from_ne_true _ (f.0.before k (omega arith) h)) f.1 same refl c.lines.invariant.takes e (c.in_err-take_line-in-Some.ensures.err ne))
 

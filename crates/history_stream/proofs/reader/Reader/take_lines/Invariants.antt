@@ -1,4 +1,4 @@
-use Rattle.std.proofs.Common.{◌-◌, ◌≤◌, length, drop}
+use Rattle.std.proofs.Common.{◌-◌, ◌≤◌, length, take}
 use Rattle.history_stream.specs.State.{Counted, Takes, lines_and}
 use Rattle.history_stream.proofs.reader.Reader.take_lines.Given as goal
 
@@ -6,7 +6,7 @@ abbrev pub invariant-lines : goal.invariant-lines
 invariant-lines l = record {
   counted : Counted l.self;
   within : l.taken ≤ length l.fn.bytes;
-  takes : Takes l.fn.self l.self (lines_and l.fn.bytes) (lines_and (drop l.taken l.fn.bytes));
+  takes : Takes l.fn.self l.self (lines_and (take l.taken l.fn.bytes));
 }
 
 abbrev pub decreases-lines : goal.decreases-lines

@@ -6,7 +6,7 @@ use Rattle.texts.specs.Judging.{Line, end_at}
 use Rattle.texts.specs.Left.{next_number}
 use Rattle.texts.specs.Parts.{fields_of}
 use Rattle.texts.specs.Frames.{end_line_at}
-use Rattle.history_stream.specs.State.{Refuses, line_and}
+use Rattle.history_stream.specs.State.{RefusesLine}
 use Rattle.history_stream.proofs.Resumes.{end_is}
 use Rattle.history_stream.proofs.Takings.{end_err, end_ok, goes, if_err, next_err, next_ok}
 use Rattle.history_stream.proofs.reader.Reader.take_next.Goals as goal
@@ -33,7 +33,7 @@ pub returns-in_err-take_entry-clause-err : goal.returns-in_err-take_entry-clause
 returns-in_err-take_entry-clause-err c =
     let e = c.in_err-take_entry.field-0.0 in
     let text = c.args.text.now in
-    if_err c.from_residual.result e (λ (x : Refusal). x ≢ OutOfMemory → Refuses c.args.self.now (line_and text) x) c.from_residual.ensures.1
+    if_err c.from_residual.result e (λ (x : Refusal). x ≢ OutOfMemory → RefusesLine c.args.self.now text x) c.from_residual.ensures.1
     (λ ne. next_err c.args.self.now text c.takes.new.self.number c.takes.new.self.fields (c.takes.ensures.line ∙ ap (λ (l : Line). l.number) c.of-fields.ensures)
     (c.takes.ensures.left c.if-takes.false ∙ ap (λ (l : Line). l.fields) c.of-fields.ensures) c.requires.stage
     (goes text (λ x xs h. c.takes.ensures.other c.if-takes.false x xs (ap (λ (l : Line). l.fields) c.of-fields.ensures ∙ h))) e (c.in_err-take_entry.ensures.err ne))
