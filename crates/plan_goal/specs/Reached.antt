@@ -67,9 +67,9 @@ member_wanted ring wanted dead x = is_member wanted.nodes (record { 0 = x }) || 
 abbrev pub HasMembers : RingValue → RingValue → List NodeId → List Planned → Type 0
 HasMembers ring wanted dead plan = (x : ℕ) → x < length ring.nodes → member_after ring plan x ≡ member_wanted ring wanted dead x
 
--- the nodes that a step reads from, gives a slot to, drops or retires, where the slots are served so
+-- the nodes that a step lets join, reads from, gives a slot to, drops or retires, where the slots are served so
 abbrev pub touched : (Slot → Serving) → Step → List NodeId
-touched serve (Join x) = []
+touched serve (Join x) = x ∷ []
 touched serve (Mirror s x) = x ∷ []
 touched serve (Copy s from) = map (λ t. (serve t).owner) (source_slots s from)
 touched serve (Switch s) = []

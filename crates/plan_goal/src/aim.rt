@@ -23,6 +23,8 @@ pub enum Unfit {
     Space,
     /// The node of that number has another name, another allowance, or stands in one of the rings alone.
     Node(u32),
+    /// The node of that number shall join, and is dead.
+    DeadJoiner(u32),
     /// That slot shall go to a node that is dead.
     DeadOwner(Slot),
     /// Of that partition a slot of a dead node shall go to another one, and fewer slots than a read asks for have other owners.
@@ -66,6 +68,22 @@ fn rows<'a>(aim: &Aim<'a>, partition: usize) -> (&'a [NodeId], &'a [NodeId]) {
     (ours, theirs)
 }
 
+// Whether the node becomes a member.
+fn is_joiner(aim: &Aim, node: NodeId) -> bool {
+    !aim.ring.is_member(node) && aim.wanted.is_member(node)
+}
+
+// The first dead node that becomes a member.
+fn dead_joiner(aim: &Aim, dead: &Dead) -> Option<u32> {
+    for number in 0..small(aim.ring.nodes().len()) {
+        let node = NodeId(number);
+        if dead.has(node) && is_joiner(aim, node) {
+            return Some(number);
+        }
+    }
+    None
+}
+
 // The first slot of a partition that goes to a dead node.
 fn dead_owner(aim: &Aim, dead: &Dead, partition: usize) -> Option<Slot> {
     let (ours, theirs) = rows(aim, partition);
@@ -106,6 +124,9 @@ pub fn why_unfit(aim: &Aim) -> Option<Unfit> {
         return Some(Unfit::Node(node));
     }
     let dead = Dead::of(aim.dead);
+    if let Some(node) = dead_joiner(aim, &dead) {
+        return Some(Unfit::DeadJoiner(node));
+    }
     for partition in 0..aim.ring.rows().len() {
         if let Some(slot) = dead_owner(aim, &dead, partition) {
             return Some(Unfit::DeadOwner(slot));
@@ -121,8 +142,7 @@ pub fn why_unfit(aim: &Aim) -> Option<Unfit> {
 pub fn joins(aim: &Aim) -> Result<Vec<u32>, Refusal> {
     let mut nodes = Vec::new(aim.alloc);
     for number in 0..small(aim.ring.nodes().len()) {
-        let node = NodeId(number);
-        if !aim.ring.is_member(node) && aim.wanted.is_member(node) {
+        if is_joiner(aim, NodeId(number)) {
             nodes.push(number)?;
         }
     }

@@ -83,13 +83,14 @@ fn is_step_spared(dead: &Dead, ring: &Ring, present: &Present, step: &Step) -> b
     ensures { result ≡ are_spared dead.now.nodes.now (touched (serving_at ring.now present.now) step.now) }
 {
     match step {
-        Step::Join(_) | Step::Switch(_) => true,
-        Step::Mirror(_, node) | Step::Drop(_, node) | Step::Retire(node) => is_spared(dead, *node),
+        Step::Switch(_) => true,
+        Step::Join(node) | Step::Mirror(_, node) | Step::Drop(_, node) | Step::Retire(node) =>
+            is_spared(dead, *node),
         Step::Copy(slot, source) => is_copy_spared(dead, ring, present, *slot, source),
     }
 }
 
-/// Whether no step of the plan reads from one of these nodes, gives it a slot, drops what it has or retires it. Costs one pass over the plan.
+/// Whether no step of the plan lets one of these nodes join, reads from it, gives it a slot, drops what it has or retires it. Costs one pass over the plan.
 pub fn spares(alloc: Global, ring: &Ring, plan: &Plan, dead: &[NodeId]) -> Result<bool, Refusal>
     requires { Suits ring.now plan.now }
     ensures ok { IfOk result (λ b. IsTrue b → spares ring.now plan.now dead.now ≡ true) }

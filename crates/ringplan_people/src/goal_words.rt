@@ -39,6 +39,11 @@ fn push_unfit(out: &mut Words, goal: &Goal, unfit: Unfit) {
                 &[],
             )
         }
+        Unfit::DeadJoiner(node) => out.fill(
+            b"refused: @ is dead and cannot join: let the change not join it\n",
+            &[name(ring, node)],
+            &[],
+        ),
         Unfit::DeadOwner(slot) => out.fill(
             b"refused: slot # of partition # shall go to a node that is named dead\n",
             &[],
