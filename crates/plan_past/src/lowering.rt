@@ -22,7 +22,7 @@ pub struct Lowered {
     pub by: u32,
 }
 
-// The most mirrors that losses of stores may look at, one after another: each loss looks at all that are taken back before it.
+// The most mirrors that losses of stores may look at: each looks at all that were taken back before it. A run of a plan has too few losses to meet that.
 const MOST_LOOKS: u64 = 4_194_304;
 
 /// The mirrors that were taken back so far, in their order, and by slot how much its generation is lower.
