@@ -230,6 +230,7 @@ def streams():
     owes("commands", (b"", b"", len(commands)), b"", b"", 21)
     owes("a wrong command", run("gaol"), b"", contains(b"unrecognized subcommand"), 2)
     owes("a wrong option before the command", run("--ded", "check"), b"", contains(b"unexpected argument"), 2)
+    owes("a dead node whose name begins with -", run("goal", "--dead=-x", given=read("plan_replace")), b"", contains(b"names -x,"), 2)
     owes("a wrong weight", run("goal", "--weight", "b"), b"", contains(b"--weight <NODE=K>"), 2)
     owes("a wrong number of rounds", run("windows", "--rounds", "0"), b"", contains(b"1..=1000000"), 2)
     ring = read("plan_replace").split(b"change 1\n")[0]

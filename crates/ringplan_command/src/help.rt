@@ -11,7 +11,7 @@ pub(crate) const MORE: &str = "With --help: the formats, an example and the exit
 pub(crate) const FILE: &str = "The bundle; with `-` or without it standard input is read";
 
 pub(crate) const OUTPUT: &str =
-    "Writes to FILE in place of standard output: all of the text, or with another exit status than 0 and 4 nothing";
+    "Writes to FILE in place of standard output: all of the text, or with another exit status than 0 and 4 nothing; links and permissions stay";
 
 pub(crate) const GOAL: &str =
     "Prints a plan that leads to a goal ring, by racks, weights and dead nodes, with its certificate";
@@ -125,10 +125,10 @@ pub(crate) const RATE: &str =
     "Says when the plan can end at the earliest, where one transfer copies N of a size in a second, 1 to 4294967295";
 
 pub(crate) const DEAD: &str =
-    "A node that is dead for good: it leaves, its slots are read from others, and it neither drops nor retires";
+    "A node that is dead for good: it leaves, its slots are read from others, and it does not join, drop or retire; write a name that begins with - as --dead=-NAME";
 
 pub(crate) const GONE: &str =
-    "A node that is dead from here on: no step that is to come asks anything of it; at least one is named";
+    "A node that is dead from here on: no step that is to come asks anything of it; at least one is named; write a name that begins with - as --dead=-NAME";
 
 pub(crate) const BACK: &str =
     "Takes mirrors back that no copy can fill any more: the store must let go of them, as docs/STORES.md says";

@@ -148,7 +148,7 @@ fn ring_left(alloc: Global, approved: &Approved, text: &[u8]) -> Result<Vec<u8>,
     ensures approved { IsApproved approved.now.ring approved.now.plan }
 {
     // The plan is approved, which the prover knows once it is read.
-    let _ = (approved.ring(), approved.plan());
+    let _ = approved.plan();
     ask_switched(alloc, approved, None)?;
     ring_after(alloc, approved, text)
 }
