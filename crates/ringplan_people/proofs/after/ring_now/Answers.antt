@@ -22,10 +22,10 @@ returns c =
     IfOk-weaker c.rewritten.result _ _ (λ text left. ∥∥₁_map c.in_ok-store.ensures.ok (λ x.
     let rows = c.as_slice.ensures.value ∙ c.in_ok-rows.ensures.now x.0 x.1 ∙ ap (λ (r : RingValue). owners_now r (plan_of store) x.0) of ∙ ap (λ (p : List Planned). owners_now ring p x.0) by in
     let members = c.as_slice-2.ensures.value ∙ c.in_ok-members.ensures x.0 x.1 ∙ ap (λ (r : RingValue). members_now r (plan_of store) x.0 (length like.nodes)) of
-        ∙ ap (λ (p : List Planned). members_now ring p x.0 (length like.nodes)) by ∙ ap (λ (r : RingValue). members_now ring plan x.0 (length r.nodes)) is in (
+    ∙ ap (λ (p : List Planned). members_now ring p x.0 (length like.nodes)) by ∙ ap (λ (r : RingValue). members_now ring plan x.0 (length r.nodes)) is in (
       x.0,
       x.2,
       subst (λ (r : RingValue). IsRingOf r text.items (owners_now ring plan x.0) (members_now ring plan x.0 (length ring.nodes))) is
-      (subst (λ (rs : List (List NodeId)). IsRingOf like text.items rs (members_now ring plan x.0 (length ring.nodes))) rows
-      (subst (λ (ms : List Bool). IsRingOf like text.items c.as_slice.result.now ms) members left)),
+          (subst (λ (rs : List (List NodeId)). IsRingOf like text.items rs (members_now ring plan x.0 (length ring.nodes))) rows
+          (subst (λ (ms : List Bool). IsRingOf like text.items c.as_slice.result.now ms) members left)),
     ))) c.rewritten.ensures
