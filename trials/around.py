@@ -409,10 +409,10 @@ def attempt(number: int, kind: Kind, tally: Counter[str]) -> str:
     if status:
         raise Wrong("around: " + said)
     wrong = bundle + history[: -len("end\n")] + "ack 99999 = ok\nend\n"
-    refused, _, owed = ask(["replay"], wrong)
+    line, _, owed = ask(["replay"], wrong)
     answer = ask(words, wrong)
-    if (answer[0], answer[1][: len(refused)], answer[2]) != ("", refused, owed):
-        raise Wrong("a history that is not a run: %s, replay: %s" % (answer[1], refused))
+    if (answer[0], answer[1][: len(line)], answer[2]) != ("", line, owed):
+        raise Wrong("a history that is not a run: %s, replay: %s" % (answer[1], line))
     after = "".join(sections(out)[:3])
     if ask(["check"], after)[0] != "yes\n":
         raise Wrong("the checker refuses")
