@@ -1,5 +1,5 @@
 -- A making with the sizes that were read is asked for as it was without them.
-use Rattle.std.proofs.Common.{◌≡◌, ◌∙◌, ap, subst, sym}
+use Rattle.std.proofs.Common.{◌≡◌, subst, sym}
 use Rattle.ringplan_command.specs.Command.{Asked, AsksMaking}
 use Rattle.ringplan_command.specs.Makings.{MeansMaking}
 use Rattle.ringplan_job.specs.declared.making.Exit.{Exit}

@@ -1,4 +1,4 @@
-use Rattle.std.proofs.Common.{rules, [], subst, refl, sym, inl, inr}
+use Rattle.std.proofs.Common.{rules, [], subst, refl, inl, inr}
 use Rattle.ringplan_job.specs.declared.job.Job.TheVariants.{Check, Replay}
 use Rattle.ringplan_jobs.specs.Answers.{texts_of}
 use Rattle.ringplan_command.specs.Command.{Answers}

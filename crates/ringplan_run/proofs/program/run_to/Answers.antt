@@ -1,4 +1,4 @@
-use Rattle.std.proofs.Common.{◌≡◌, ℕ, List, Option, Some, sym, subst, refl}
+use Rattle.std.proofs.Common.{ℕ, List, Option, Some, sym, subst, refl}
 use Rattle.std.specs.Prelude.{IsSome, String, option_map, string_bytes}
 use Rattle.std.specs.Global.{Global}
 use Rattle.ringplan_jobs.specs.Io.{Prints}

@@ -4,21 +4,21 @@ use Rattle.ringplan_job.specs.declared.making.Making.{Making}
 use Rattle.ringplan_run.proofs.Sized.{even_asked, goal_asked, show_asked}
 use Rattle.ringplan_run.proofs.sizes.with_sizes.Goals as goal
 
-pub returns-in-Goal-clause-same : goal.returns-in-Goal-clause-same
-returns-in-Goal-clause-same g c = λ asked h.
-    let read = c.in_ok-read_options in
+pub returns-in_ok-read_options-in-Goal-clause-same : goal.returns-in_ok-read_options-in-Goal-clause-same
+returns-in_ok-read_options-in-Goal-clause-same g c = λ asked h.
+    let read = c.in_ok-read_options-in-Goal in
     goal_asked asked c.in-Goal.options read.field-0 c.in-Goal.exit read.ensures.same (subst (λ (m : Making). AsksMaking asked m) c.in-Goal.is h)
 
-pub returns-in-Show-clause-same : goal.returns-in-Show-clause-same
-returns-in-Show-clause-same g c = λ asked h.
-    let read = c.in_ok-wish_with_sizes in
+pub returns-in_ok-wish_with_sizes-in-Show-clause-same : goal.returns-in_ok-wish_with_sizes-in-Show-clause-same
+returns-in_ok-wish_with_sizes-in-Show-clause-same g c = λ asked h.
+    let read = c.in_ok-wish_with_sizes-in-Show in
     show_asked asked c.in-Show.wish read.field-0 read.ensures.same (subst (λ (m : Making). AsksMaking asked m) c.in-Show.is h)
 
-pub returns-in-Even-clause-same : goal.returns-in-Even-clause-same
-returns-in-Even-clause-same g c = λ asked h.
-    let read = c.in_ok-read_options-2 in
+pub returns-in_ok-read_options-in-Even-clause-same : goal.returns-in_ok-read_options-in-Even-clause-same
+returns-in_ok-read_options-in-Even-clause-same g c = λ asked h.
+    let read = c.in_ok-read_options-in-Even in
     even_asked asked c.in-Even.options read.field-0 read.ensures.same (subst (λ (m : Making). AsksMaking asked m) c.in-Even.is h)
 
-pub returns-in-State-clause-same : goal.returns-in-State-clause-same
-returns-in-State-clause-same g c = λ asked h.
-    c.in_ok-stated_with_sizes.ensures.same asked (subst (λ (m : Making). AsksMaking asked m) c.in-State.is h)
+pub returns-in_ok-stated_with_sizes-in-State-clause-same : goal.returns-in_ok-stated_with_sizes-in-State-clause-same
+returns-in_ok-stated_with_sizes-in-State-clause-same g c = λ asked h.
+    c.in_ok-stated_with_sizes-in-State.ensures.same asked (subst (λ (m : Making). AsksMaking asked m) c.in-State.is h)
