@@ -35,69 +35,46 @@ fn ends_with<RT: Abort>(rt: &RT, ended: u8, status: u8, shown: &[u8], text: &[u8
     assert_eq!(rt; ended, status);
 }
 
-// The command line ends with this status, and prints a text that contains the other.
+// A command line of two words after the program's name ends with this status, and prints a text that contains the other.
 fn told<RT: AllocGlobal + Files + Eprint + Threads + Wait + Sync + Abort>(
-    rt: &RT,
-    words: &[&str],
-    status: u8,
-    text: &str,
-) -> Result<(), Fail> {
-    let mut output = MemoryWriter::new(rt.alloc(), 4096, 2);
-    ends(
-        rt,
-        run(rt, Screen::Plain, words, &mut Endless, &mut output),
-        status,
-    );
-    shows(rt, output.bytes.as_slice(), text)
-}
-
-// What a command line of two words after the program's name is answered.
-fn told_of<RT: AllocGlobal + Files + Eprint + Threads + Wait + Sync + Abort>(
     rt: &RT,
     first: &str,
     second: &str,
     status: u8,
     text: &str,
 ) -> Result<(), Fail> {
-    told(rt, &["ringplan", first, second], status, text)
+    let mut output = MemoryWriter::new(rt.alloc(), 4096, 2);
+    let words = ["ringplan", first, second];
+    ends(
+        rt,
+        run(
+            rt,
+            Screen::Plain,
+            words.as_slice(),
+            &mut Endless,
+            &mut output,
+        ),
+        status,
+    );
+    shows(rt, output.bytes.as_slice(), text)
 }
 
 #[test]
 fn helps_printed(rt: HostRuntime) -> Result<(), Fail> {
-    told_of(&rt, "--help", "-h", 0, "migrate")?;
-    told_of(&rt, "migrate", "-h", 0, "checks nothing")?;
-    told_of(&rt, "check", "--help", 0, "Exit status")?;
-    told_of(&rt, "play", "--help", 0, "for each event")?;
-    told_of(&rt, "plan", "--help", 0, "change 1")?;
-    told_of(&rt, "play", "--help", 0, "Example: ringplan play examples/")?;
-    told_of(&rt, "play", "-h", 0, "With --help: the formats")?;
-    told_of(&rt, "goal", "--help", 0, "goal ring")?;
-    told_of(&rt, "--version", "-h", 0, "ringplan 1.0.0")?;
-    told_of(&rt, "completions", "-h", 0, "bash, zsh or fish")?;
-    told_of(&rt, "help", "check", 0, "Exit status")
-}
-
-#[test]
-fn mistakes_told(rt: HostRuntime) -> Result<(), Fail> {
-    told(
-        &rt,
-        &["ringplan", "verify"],
-        2,
-        "error: unrecognized subcommand 'verify'",
-    )?;
-    told_of(
-        &rt,
-        "check",
-        "--fast",
-        2,
-        "error: unexpected argument '--fast'",
-    )?;
-    told(
-        &rt,
-        &["ringplan", "check", "one", "other"],
-        2,
-        "error: unexpected argument 'other'",
-    )
+    told(&rt, "--help", "-h", 0, "migrate")?;
+    told(&rt, "migrate", "-h", 0, "checks nothing")?;
+    told(&rt, "check", "--help", 0, "Exit status")?;
+    told(&rt, "check", "-h", 0, "--workers <K>")?;
+    told(&rt, "drive", "-h", 0, "--workers <K>")?;
+    told(&rt, "drive", "--help", 0, "--json")?;
+    told(&rt, "play", "--help", 0, "for each event")?;
+    told(&rt, "plan", "--help", 0, "change 1")?;
+    told(&rt, "play", "--help", 0, "Example: ringplan play examples/")?;
+    told(&rt, "play", "-h", 0, "With --help: the formats")?;
+    told(&rt, "goal", "--help", 0, "goal ring")?;
+    told(&rt, "--version", "-h", 0, "ringplan 1.0.0")?;
+    told(&rt, "completions", "-h", 0, "bash, zsh or fish")?;
+    told(&rt, "help", "check", 0, "Exit status")
 }
 
 // The command line ends with this status, and prints nothing.
@@ -112,7 +89,18 @@ fn silent<RT: AllocGlobal + Files + Eprint + Threads + Wait + Sync + Abort>(
 }
 
 #[test]
-fn people_told_on_standard_error(rt: HostRuntime) {
+fn mistakes_told_on_standard_error(rt: HostRuntime) {
+    silent(&rt, &["ringplan", "verify"], 2);
+    silent(&rt, &["ringplan", "check", "--fast"], 2);
+    silent(&rt, &["ringplan", "check", "one", "other"], 2);
+    silent(&rt, &["ringplan", "check", "--json"], 2);
+    silent(&rt, &["ringplan", "check", "--workers"], 2);
+    silent(&rt, &["ringplan", "check", "--workers", "0"], 2);
+    silent(&rt, &["ringplan", "check", "--workers=65"], 2);
+    silent(&rt, &["ringplan", "check", "--workers", "two"], 2);
+    silent(&rt, &["ringplan", "play", "--workers", "2"], 2);
+    silent(&rt, &["ringplan", "drive", "--workers=0"], 2);
+    silent(&rt, &["ringplan", "drive", "--workers=65"], 2);
     silent(&rt, &["ringplan", "goal", "--fast"], 2);
     silent(&rt, &["ringplan", "goal", "--weight", "b"], 2);
     silent(&rt, &["ringplan", "windows", "--rounds", "0"], 2);
@@ -126,41 +114,6 @@ fn people_told_on_standard_error(rt: HostRuntime) {
 fn files_that_are_not_there(rt: HostRuntime) {
     silent(&rt, &["ringplan", "check", "none.bundle"], 3);
     silent(&rt, &["ringplan", "show", "none.bundle"], 3);
-}
-
-#[test]
-fn workers_limited(rt: HostRuntime) -> Result<(), Fail> {
-    told_of(&rt, "check", "-h", 0, "--workers <K>")?;
-    told_of(&rt, "check", "--workers", 2, "error:")?;
-    told(&rt, &["ringplan", "check", "--workers", "0"], 2, "1..=64")?;
-    told_of(&rt, "check", "--workers=65", 2, "1..=64")?;
-    told(
-        &rt,
-        &["ringplan", "check", "--workers", "two"],
-        2,
-        "error: invalid value 'two'",
-    )?;
-    told(
-        &rt,
-        &["ringplan", "play", "--workers", "2"],
-        2,
-        "error: unexpected argument '--workers'",
-    )
-}
-
-#[test]
-fn drives_limited(rt: HostRuntime) -> Result<(), Fail> {
-    told_of(&rt, "drive", "-h", 0, "--workers <K>")?;
-    told_of(&rt, "drive", "--help", 0, "--json")?;
-    told_of(&rt, "drive", "--workers=0", 2, "1..=64")?;
-    told_of(&rt, "drive", "--workers=65", 2, "1..=64")?;
-    told_of(
-        &rt,
-        "check",
-        "--json",
-        2,
-        "error: unexpected argument '--json'",
-    )
 }
 
 // The text begins with the other.
@@ -229,7 +182,7 @@ fn is_called_once<RT: Abort>(rt: &RT, calls: usize) {
 #[test]
 fn a_write_that_takes_nothing(rt: HostRuntime) {
     let mut output = MemoryWriter::new(rt.alloc(), 0, 9);
-    let words = ["ringplan"];
+    let words = ["ringplan", "--version"];
     let ended = run(
         &rt,
         Screen::Plain,
