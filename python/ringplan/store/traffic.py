@@ -103,12 +103,18 @@ class Run:
                 self.store.attempt(partial(self.store.handoff, slot, keeper))
             time.sleep(self.load.handoffs)
 
+    def settle(self) -> None:
+        """Ends what is in doubt at each slot whose nodes answer."""
+        for slot in self.store.all_slots():
+            self.store.attempt(partial(self.store.settle, slot))
+
     def bury(self) -> None:
-        """Kills the servers that are dead for good, each while it keeps no hint: a copy that lists the slot of such a hint would wait for ever."""
+        """Kills the servers that are dead for good, each while it keeps no hint and nothing is in doubt: who asks the dead for either would wait for ever."""
         for member in (self.store.by_name[name] for name in self.dead):
             while member not in self.store.dead:
+                self.settle()
                 with member.alone():
-                    if not any(member in slot.keepers for slot in self.store.all_slots()):
+                    if not any(member in slot.keepers or slot.doubts for slot in self.store.all_slots()):
                         member.node.kill()
                         self.store.dead.add(member)
                         self.store.note_down(member)
@@ -117,8 +123,7 @@ class Run:
     def sweep(self) -> None:
         """Ends what is in doubt, and reads each key at all its slots once: what was lost unseen is seen now."""
         self.heal()
-        for slot in self.store.all_slots():
-            self.store.attempt(partial(self.store.settle, slot))
+        self.settle()
         draw = self.draw("sweep")
         for key in sorted({put.key for put in self.store.puts}):
             if not self.store.dead:
