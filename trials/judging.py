@@ -337,7 +337,7 @@ class Machine:
         return step not in self.done and self.done.issuperset(self.steps[step][1])
 
     def do(self, step: int) -> bool:
-        """Does a step that is no copy, if it may be done now."""
+        """Does a step other than a copy, if it may be done now."""
         (kind, *fields), after = self.steps[step]
         if not self.is_ready(step):
             return False
