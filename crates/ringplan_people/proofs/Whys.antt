@@ -12,7 +12,7 @@ use Rattle.ringplan_job.specs.declared.job.Job.TheVariants.{Check}
 use Rattle.ringplan_jobs.specs.Answers.{status_of}
 use Rattle.ringplan_jobs.specs.Verdict.{MakesIf}
 use Rattle.ringplan_jobs.proofs.Verdicts.{verdict-good}
-use Rattle.ringplan_people.specs.Studies.{HasApproved, of_plan}
+use Rattle.ringplan_people.specs.Studies.{HasApproved, of_plan, unbegun}
 use Rattle.ringplan_people.specs.Why.{AnswersCheck, HasKept}
 
 not_zero : (a b : Bool) → ◌≡◌ {A = ℕ} (if a then 2 else (if b then 3 else 1)) 0 → ⊥
@@ -32,7 +32,7 @@ check_no bytes b e read is other = (rw (verdict-good bytes b read, is other) ref
 pub yes_of_check : (bytes text : List ℕ) (status : ℕ) → AnswersCheck bytes text status → status ≡ 0 → HasKept bytes
 yes_of_check bytes text status (Ok found, makes, begins) zero =
     let b = makes.1.0 in
-    (b.ring, b.plan, of_plan b makes.1.1 refl refl, makes.1.2)
+    (b.ring, b.plan, unbegun (of_plan b makes.1.1 refl refl), makes.1.2)
 yes_of_check bytes text status (Err e, makes, begins) zero = absurd (not_zero _ _ (sym begins.2 ∙ zero))
 
 -- an approved plan keeps its promises

@@ -20,11 +20,15 @@ use Rattle.plan_runs.specs.World.{World, is_member_now}
 use Rattle.ring_core.specs.Tables.{owners_now}
 use Rattle.plan_bundles.specs.Rings.{IsRingOf, flags, members_after}
 
--- the ring and the plan of a bundle: those that its texts say, without a history or with one that is a run of the plan; or its ring, and a plan that makes its change
+-- the ring and the plan of a bundle without a history: those of its texts, or its ring and a plan that makes its change
+pub data IsPlanOf (bytes : List ℕ) (ring : RingValue) (plan : List Planned) : Type 0 where
+  of_plan : (b : Bundle) → whole_text (bundle_at kind.Check) bytes ≡ Ok b → b.ring ≡ ring → b.plan ≡ plan → IsPlanOf bytes ring plan
+  of_change : (w : Wanted) → whole_text wanted_at bytes ≡ Ok w → w.ring ≡ ring → fulfils plan w.change.joins w.change.leaves ≡ true → IsPlanOf bytes ring plan
+
+-- the ring and the plan of a bundle, which may have a history that is a run of the plan
 pub data IsStudyOf (bytes : List ℕ) (ring : RingValue) (plan : List Planned) : Type 0 where
-  of_plan : (b : Bundle) → whole_text (bundle_at kind.Check) bytes ≡ Ok b → b.ring ≡ ring → b.plan ≡ plan → IsStudyOf bytes ring plan
+  unbegun : IsPlanOf bytes ring plan → IsStudyOf bytes ring plan
   of_history : (p : Parts) → whole_text replay_at bytes ≡ Ok p → p.0 ≡ ring → p.1.0 ≡ plan → IsHistory ring plan p.1.1.1.0 → IsStudyOf bytes ring plan
-  of_change : (w : Wanted) → whole_text wanted_at bytes ≡ Ok w → w.ring ≡ ring → fulfils plan w.change.joins w.change.leaves ≡ true → IsStudyOf bytes ring plan
 
 -- the bundle's plan is one that the checker accepts, so it keeps its promises
 abbrev pub HasApproved : List ℕ → Type 0
@@ -60,7 +64,7 @@ IsLeftAt ring plan history text = ∥ ((w : World) × IsRun ring plan history w 
 abbrev pub IsLeftNow : List ℕ → List ℕ → Type 0
 IsLeftNow bytes text = (ring : RingValue) × (plan : List Planned) × (history : List Entry) × IsRecorded bytes ring plan history × IsLeftAt ring plan history text
 
--- the text is that of the bundle's ring, with the owners after the last step of its plan, and with the members that were or joined, and did not retire
+-- the text is that of the ring of a bundle without a history, with the owners after the last step of its plan, and with the members that were or joined, and did not retire
 abbrev pub IsLeftBy : List ℕ → List ℕ → Type 0
-IsLeftBy bytes text = (ring : RingValue) × (plan : List Planned) × IsStudyOf bytes ring plan × IsApproved ring plan
+IsLeftBy bytes text = (ring : RingValue) × (plan : List Planned) × IsPlanOf bytes ring plan × IsApproved ring plan
     × IsRingOf ring text (last_owners ring plan) (members_after ring plan (length ring.nodes))

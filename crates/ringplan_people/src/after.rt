@@ -1,14 +1,12 @@
 //! The ring that a plan leaves, or what a history has done of it.
 
 ghost use Rattle.std.specs.Prelude.{◌≡◌, ◌≤◌, ◌⊎◌, length, IfOk};
-ghost use Rattle.plan_check.specs.Approval.{IsApproved};
-ghost use Rattle.plan_moves.specs.Owners.{last_owners};
-ghost use Rattle.plan_bundles.specs.Rings.{IsRingOf, members_after};
 ghost use Rattle.plan_runs.specs.World.{World as TheWorld};
 ghost use Rattle.ring_core.specs.World.{Meets, plan_of, ring_of};
-ghost use Rattle.ringplan_people.specs.Studies.{IsLeftAt, IsLeftBy, IsLeftNow, members_now};
+ghost use Rattle.ringplan_people.specs.Studies.{IsLeftAt, IsLeftBy, IsLeftNow, IsPlanOf, members_now};
 
-use crate::study::{Study, accepted, studied};
+use crate::changing::study_change;
+use crate::study::{Study, accepted, studied, study_plan};
 use crate::why::push_words_of;
 use helpers::Words;
 use history_text::read_replay;
@@ -141,16 +139,16 @@ fn after_history(alloc: Global, bytes: &[u8]) -> Result<Vec<u8>, Refusal>
     ring_now(alloc, &found.approved, bundle.history.as_slice(), text)
 }
 
-// The text of the ring that an approved plan leaves. Where it leaves a slot with a mirror, that is `WrongStage` at the step that sets it.
-fn ring_left(alloc: Global, approved: &Approved, text: &[u8]) -> Result<Vec<u8>, Refusal>
-    ensures ring { IfOk result (λ text. IsRingOf approved.now.ring text.items (last_owners approved.now.ring approved.now.plan)
-        (members_after approved.now.ring approved.now.plan (length approved.now.ring.nodes))) }
-    ensures approved { IsApproved approved.now.ring approved.now.plan }
+// The text of the ring that the plan of a bundle leaves. If it leaves a slot with a mirror, that is `WrongStage` at the step that sets it.
+fn ring_left(alloc: Global, found: &Study, bytes: &[u8]) -> Result<Vec<u8>, Refusal>
+    requires { IsPlanOf bytes.now found.now.approved.ring found.now.approved.plan }
+    ensures { IfOk result (λ text. IsLeftBy bytes.now text.items) }
 {
+    let approved = &found.approved;
     // The plan is approved, which the prover knows once it is read.
     let _ = approved.plan();
     ask_switched(alloc, approved, None)?;
-    ring_after(alloc, approved, text)
+    ring_after(alloc, approved, &bytes[..front(bytes, 1)])
 }
 
 /// The text of the ring that the plan of a bundle leaves, or what a history has done of it: the same nodes, with the owners and the members behind
@@ -160,11 +158,11 @@ pub fn after_bundle(alloc: Global, bytes: &[u8]) -> Result<Vec<u8>, Refusal>
     // The checker accepted the plan. It is the ring that the plan leaves, or the one to which the bundle's history has led.
     ensures after { IfOk result (λ text. IsLeftNow bytes.now text.items ⊎ IsLeftBy bytes.now text.items) }
 {
-    if let Kind::History = kind_of(bytes) {
-        return after_history(alloc, bytes);
+    match kind_of(bytes) {
+        Kind::Change => ring_left(alloc, &study_change(alloc, bytes)?, bytes),
+        Kind::Plan => ring_left(alloc, &study_plan(alloc, bytes)?, bytes),
+        Kind::History => after_history(alloc, bytes),
     }
-    let found = studied(alloc, bytes)?;
-    ring_left(alloc, &found.approved, &bytes[..front(bytes, 1)])
 }
 
 /// Adds why `after_bundle` refuses a bundle with `WrongStage` at the step: which steps must come first where a history has begun a move, that the plan leaves a mirror,

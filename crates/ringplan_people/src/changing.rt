@@ -3,7 +3,7 @@
 ghost use Rattle.std.specs.Prelude.{◌≡◌, true, None, IfOk};
 ghost use Rattle.plan_text.specs.Changes.{fulfils};
 ghost use Rattle.plan_text.specs.Valid.{Suits};
-ghost use Rattle.ringplan_people.specs.Studies.{IsStudyOf};
+ghost use Rattle.ringplan_people.specs.Studies.{IsPlanOf};
 
 use crate::study::{Study, accepted};
 use change_text::{Wanted, read_wanted};
@@ -50,7 +50,7 @@ fn proposal_of(alloc: Global, wanted: &Wanted, text: &[u8]) -> Result<Proposal, 
 
 /// The ring of a bundle with a change, and a plan that makes it.
 pub(crate) fn study_change(alloc: Global, bytes: &[u8]) -> Result<Study, Refusal>
-    ensures of { IfOk result (λ s. IsStudyOf bytes.now s.approved.ring s.approved.plan) }
+    ensures of { IfOk result (λ s. IsPlanOf bytes.now s.approved.ring s.approved.plan) }
     ensures history { IfOk result (λ s. s.history ≡ None) }
 {
     let text = plan_bundle(alloc, bytes)?;

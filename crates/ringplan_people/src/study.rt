@@ -2,7 +2,7 @@
 
 ghost use Rattle.std.specs.Prelude.{◌≡◌, None, IfOk, IfSome};
 ghost use Rattle.plan_text.specs.Valid.{Suits};
-ghost use Rattle.ringplan_people.specs.Studies.{IsStudyOf, IsRecorded};
+ghost use Rattle.ringplan_people.specs.Studies.{IsPlanOf, IsStudyOf, IsRecorded};
 
 use crate::changing::study_change;
 use history_text::read_replay;
@@ -45,9 +45,9 @@ pub(crate) fn accepted(alloc: Global, ring: Ring, plan: Plan, cert: Cert) -> Res
     }
 }
 
-// A bundle without a history.
-fn study_plan(alloc: Global, bytes: &[u8]) -> Result<Study, Refusal>
-    ensures of { IfOk result (λ s. IsStudyOf bytes.now s.approved.ring s.approved.plan) }
+/// A bundle with a plan, and without a history.
+pub(crate) fn study_plan(alloc: Global, bytes: &[u8]) -> Result<Study, Refusal>
+    ensures of { IfOk result (λ s. IsPlanOf bytes.now s.approved.ring s.approved.plan) }
     ensures history { IfOk result (λ s. s.history ≡ None) }
 {
     let bundle = read_bundle(alloc, Sections::Check, bytes)?;
