@@ -1,80 +1,26 @@
 //! Whether no step that is to come asks anything of the dead.
 
-ghost use Rattle.std.specs.Prelude.{◌≡◌, ◌<◌, ◌||◌, true, map, nat_lt, IsTrue, IfOk, IfErr};
-ghost use Rattle.std.specs.List.{list_all};
+ghost use Rattle.std.specs.Prelude.{◌≡◌, ◌||◌, true, IsTrue, IfOk, IfErr};
 ghost use Rattle.ring_names.specs.declared.refusal.Refusal.TheVariants.{OutOfMemory};
-ghost use Rattle.plan_text.specs.Valid.{Suits, source_suits, step_suits};
-ghost use Rattle.plan_stage.specs.Parties.{source_slots};
+ghost use Rattle.plan_text.specs.Valid.{Suits, step_suits};
 ghost use Rattle.plan_runs.specs.World.{World as TheWorld};
 ghost use Rattle.plan_cover.specs.Looking.Serving.{serving_at};
-ghost use Rattle.plan_goal.specs.Reached.{is_spared, are_spared};
+ghost use Rattle.plan_goal.specs.Reached.{are_spared};
 ghost use Rattle.ring_core.specs.World.{Meets};
 ghost use Rattle.plan_around.specs.Apart.{asked, mirrors, is_whole, AreApart};
 
 use crate::over::is_over;
 use plan_cover::Present;
-use plan_goal::is_among;
-use plan_text::{Plan, Source, Step};
+use plan_goal::{Dead, is_copy_spared, is_spared};
+use plan_text::{Plan, Step};
 use ring_core::World;
-use ring_names::{NodeId, Refusal, Slot};
+use ring_names::{NodeId, Refusal};
 use ring_table::Ring;
 use std::alloc::Global;
 
-// Whether the node is not dead.
-fn is_spared(dead: &[NodeId], node: NodeId) -> bool
-    ensures { result ≡ is_spared dead.now node }
-{
-    !is_among(dead, node)
-}
-
-// Whether no owner of the listed slots of a partition is dead.
-fn are_owners_spared(
-    dead: &[NodeId],
-    ring: &Ring,
-    present: &Present,
-    partition: u32,
-    from: &[u32],
-) -> bool
-    requires partition { partition < ring.now.q }
-    requires indexes { list_all (λ i. nat_lt i ring.now.n) from.now ≡ true }
-    ensures { result ≡ are_spared dead.now (map (λ s. (serving_at ring.now present.now s).owner)
-        (map (λ i. record { partition = partition; index = i }) from.now)) }
-{
-    let Some((index, others)) = from.split_first() else {
-        return true;
-    };
-    let slot = Slot {
-        partition,
-        index: *index,
-    };
-    is_spared(dead, present.at(ring, slot).owner)
-        && are_owners_spared(dead, ring, present, partition, others)
-}
-
-// Whether a copy reads from no dead node.
-fn is_source_spared(
-    dead: &[NodeId],
-    ring: &Ring,
-    present: &Present,
-    slot: Slot,
-    source: &Source,
-) -> bool
-    requires partition { slot.partition < ring.now.q }
-    requires index { slot.index < ring.now.n }
-    requires suits { source_suits ring.now source.now ≡ true }
-    ensures { result ≡ are_spared dead.now (map (λ s. (serving_at ring.now present.now s).owner) (source_slots slot source.now)) }
-{
-    match source {
-        Source::Owner => is_spared(dead, present.at(ring, slot).owner),
-        Source::Slots(from) => {
-            are_owners_spared(dead, ring, present, slot.partition, from.as_slice())
-        }
-    }
-}
-
 // Whether the slot's mirror is not dead, if it has one.
-fn is_mirror_spared(dead: &[NodeId], mirror: Option<NodeId>) -> bool
-    ensures { result ≡ are_spared dead.now (mirrors mirror) }
+fn is_mirror_spared(dead: &Dead, mirror: Option<NodeId>) -> bool
+    ensures { result ≡ are_spared dead.now.nodes.now (mirrors mirror) }
 {
     match mirror {
         Some(node) => is_spared(dead, node),
@@ -83,9 +29,9 @@ fn is_mirror_spared(dead: &[NodeId], mirror: Option<NodeId>) -> bool
 }
 
 // Whether the step asks nothing of a dead node.
-fn is_unasked(dead: &[NodeId], ring: &Ring, present: &Present, step: &Step) -> bool
+fn is_unasked(dead: &Dead, ring: &Ring, present: &Present, step: &Step) -> bool
     requires { step_suits ring.now step.now ≡ true }
-    ensures { result ≡ are_spared dead.now (asked (serving_at ring.now present.now) step.now) }
+    ensures { result ≡ are_spared dead.now.nodes.now (asked (serving_at ring.now present.now) step.now) }
 {
     match step {
         Step::Switch(_) => true,
@@ -94,7 +40,7 @@ fn is_unasked(dead: &[NodeId], ring: &Ring, present: &Present, step: &Step) -> b
         }
         Step::Copy(slot, source) => {
             is_mirror_spared(dead, present.at(ring, *slot).mirror)
-                && is_source_spared(dead, ring, present, *slot, source)
+                && is_copy_spared(dead, ring, present, *slot, source)
         }
     }
 }
@@ -102,7 +48,7 @@ fn is_unasked(dead: &[NodeId], ring: &Ring, present: &Present, step: &Step) -> b
 // Whether the step is over, or asks nothing of a dead node.
 fn is_step_apart(
     store: &World,
-    dead: &[NodeId],
+    dead: &Dead,
     ring: &Ring,
     present: &Present,
     step: &Step,
@@ -110,7 +56,7 @@ fn is_step_apart(
 ) -> bool
     requires { step_suits ring.now step.now ≡ true }
     ensures { IsTrue result → (w : TheWorld) → Meets store.now w
-        → (w.done number || is_whole w number || are_spared dead.now (asked (serving_at ring.now present.now) step.now)) ≡ true }
+        → (w.done number || is_whole w number || are_spared dead.now.nodes.now (asked (serving_at ring.now present.now) step.now)) ≡ true }
 {
     is_unasked(dead, ring, present, step) || is_over(store, step, number)
 }
@@ -127,10 +73,11 @@ pub(crate) fn are_apart(
     ensures apart { IfOk result (λ b. IsTrue b → (w : TheWorld) → Meets store.now w → AreApart ring.now plan.now dead.now w) }
     ensures memory { IfErr result (λ e. e ≡ OutOfMemory) }
 {
+    let flagged = Dead::of(dead);
     let mut present = Present::new(alloc, ring)?;
     for number in 0..plan.len() {
         let step = plan.step(number);
-        if !is_step_apart(store, dead, ring, &present, step, number) {
+        if !is_step_apart(store, &flagged, ring, &present, step, number) {
             return Ok(false);
         }
         present.act(ring, step);

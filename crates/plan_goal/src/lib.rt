@@ -16,7 +16,8 @@ mod sparing;
 
 pub use aim::{Aim, Unfit, why_unfit};
 pub use alike::is_like;
+pub use dead::Dead;
 pub use proposal::propose;
 pub use reaching::reach;
 pub use reading::{Goal, read_goal};
-pub use sparing::is_among;
+pub use sparing::{is_among, is_copy_spared, is_spared};

@@ -31,8 +31,8 @@ pub fn is_among(nodes: &[NodeId], node: NodeId) -> bool
     is_number_of(nodes, node.0)
 }
 
-// Whether the node is not dead.
-fn is_spared(dead: &Dead, node: NodeId) -> bool
+/// Whether the node is not dead.
+pub fn is_spared(dead: &Dead, node: NodeId) -> bool
     ensures { result ≡ is_spared dead.now.nodes.now node }
 {
     !dead.has(node)
@@ -62,8 +62,8 @@ fn are_owners_spared(
         && are_owners_spared(dead, ring, present, partition, others)
 }
 
-// Whether a copy reads from no dead node.
-fn is_copy_spared(dead: &Dead, ring: &Ring, present: &Present, slot: Slot, source: &Source) -> bool
+/// Whether a copy reads from no dead node.
+pub fn is_copy_spared(dead: &Dead, ring: &Ring, present: &Present, slot: Slot, source: &Source) -> bool
     requires partition { slot.partition < ring.now.q }
     requires index { slot.index < ring.now.n }
     requires suits { source_suits ring.now source.now ≡ true }

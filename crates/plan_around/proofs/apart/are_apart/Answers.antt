@@ -1,8 +1,12 @@
-use Rattle.std.proofs.Common.{◌∙◌, arith}
+use Rattle.std.proofs.Common.{◌≡◌, ◌∙◌, ◌||◌, List, true, subst, arith}
+use Rattle.ring_names.specs.declared.ids.NodeId.{NodeId}
 use Rattle.plan_text.specs.Valid.{step_suits}
+use Rattle.plan_runs.specs.World.{World}
 use Rattle.plan_cover.specs.Looking.Serving.{serving_at}
 use Rattle.plan_cover.proofs.Served.{serving-first, step-passes, present-next}
+use Rattle.plan_goal.specs.Reached.{are_spared}
 use Rattle.ring_core.specs.World.{Meets}
+use Rattle.plan_around.specs.Apart.{asked, is_whole}
 use Rattle.plan_around.proofs.Asking.{apart-more}
 use Rattle.plan_around.proofs.apart.are_apart.Goals as goal
 
@@ -26,8 +30,10 @@ loop-number-preserved c =
     let n = c.loop-number.number in
     let t = c.step-step.result.now in
     let serve = serving_at ring c.loop-number.present in
+    let here = subst (λ (xs : List NodeId). (w : World) → Meets c.args.store.now w → (w.done n || is_whole w n || are_spared xs (asked serve t)) ≡ true)
+    c.of-flagged.ensures (c.is_step_apart.ensures c.if-not-is_step_apart.false) in
     record {
-      told = apart-more ring plan c.args.dead.now (Meets c.args.store.now) n t serve c.step-step.ensures.value c.loop-number.invariant.present (c.is_step_apart.ensures c.if-not-is_step_apart.false) c.loop-number.invariant.told;
+      told = apart-more ring plan c.args.dead.now (Meets c.args.store.now) n t serve c.step-step.ensures.value c.loop-number.invariant.present here c.loop-number.invariant.told;
       present = λ s. present-next ring plan s n t (serve s) (serving_at ring c.act.new.self s) c.step-step.ensures.value (c.loop-number.invariant.present s) (c.act.ensures.serving s);
       room = c.act.ensures.room;
     }
