@@ -1,5 +1,5 @@
 -- Windows of a plan: bundles that are done one after the other.
-use Rattle.std.specs.Prelude.{◌≡◌, ℕ, ◌-◌, List, [], ◌∷◌, ◌++◌, Option, Some, None, length, slice_get}
+use Rattle.std.specs.Prelude.{◌≡◌, ℕ, ◌-◌, ◌+◌, List, [], ◌∷◌, ◌++◌, Option, Some, None, length, slice_get}
 use Rattle.std.specs.List.{concat}
 use Rattle.ring_table.specs.Value.{RingValue}
 use Rattle.ring_table.specs.Valid.{IsRing}
@@ -11,6 +11,8 @@ use Rattle.plan_cert.specs.Spelling.{cert_text}
 use Rattle.plan_moves.specs.Owners.{last_owners}
 use Rattle.plan_check.specs.Certified.{IsCertified}
 use Rattle.plan_check.specs.Headline.{KeepsPromises}
+use Rattle.plan_bundles.specs.declared.windows.Asked.{Asked}
+use Rattle.plan_bundles.specs.declared.windows.Asked.TheVariants.{All, After, Found}
 use Rattle.plan_bundles.specs.Cuts.{IsCut}
 use Rattle.plan_bundles.specs.Rings.{IsRingOf, members_after}
 
@@ -40,6 +42,19 @@ AreWindowsOf ring plan texts = (plans : List (List Planned)) × (last : List ℕ
 abbrev pub IsAsked : List (List ℕ) → Option ℕ → List ℕ → Type 0
 IsAsked texts (Some number) text = slice_get texts (number - 1) ≡ Some text
 IsAsked texts None text = text ≡ concat texts
+
+-- what is kept once these texts were made
+abbrev pub Keeps : Option ℕ → List (List ℕ) → Asked → Type 0
+Keeps None texts (All text) = text.items ≡ concat texts
+Keeps (Some number) texts (After left) = left + length texts ≡ number - 1
+Keeps (Some number) texts (Found text) = slice_get texts (number - 1) ≡ Some text.items
+Keeps None texts (After left) = ⊥
+Keeps None texts (Found text) = ⊥
+Keeps (Some number) texts (All text) = ⊥
+
+-- the same of windows of these plans
+abbrev pub AreKept : List ℕ → List (List Planned) → Option ℕ → Asked → List ℕ → Type 0
+AreKept first plans only asked last = (texts : List (List ℕ)) × AreWindows first texts plans last × Keeps only texts asked
 
 -- the text is what is asked for of windows of the plan
 abbrev pub AreAskedOf : RingValue → List Planned → Option ℕ → List ℕ → Type 0

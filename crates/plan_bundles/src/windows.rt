@@ -1,9 +1,9 @@
 //! A plan in windows, each a bundle of its own over the ring that the one before it leaves.
 
-ghost use Rattle.std.specs.Prelude.{◌≡◌, map, IfOk};
-ghost use Rattle.std.specs.List.{concat};
+ghost use Rattle.std.specs.Prelude.{ℕ, List, [], ◌∷◌, ◌++◌, Option, IfOk};
 ghost use Rattle.plan_check.specs.Approval.{IsApproved};
-ghost use Rattle.plan_bundles.specs.Windows.{IsWindow, AreWindows, AreWindowsOf, IsAsked, AreAskedOf};
+ghost use Rattle.plan_bundles.specs.declared.windows.Asked.TheVariants.{After};
+ghost use Rattle.plan_bundles.specs.Windows.{IsWindow, AreKept, AreAskedOf, IsAsked, Keeps};
 
 use crate::cutting::cut;
 use crate::pieces::is_cut;
@@ -45,10 +45,67 @@ fn window_over(alloc: Global, before: &[u8], plan: Plan) -> Result<Window, Refus
     }
 }
 
+// What is kept of the texts of windows.
+#[derive(Drop)]
+enum Asked {
+    // All, one after the other.
+    All(Vec<u8>),
+    // None yet: so many windows come before the one that is asked for.
+    After(u32),
+    // The one that is asked for.
+    Found(Vec<u8>),
+}
+
+impl Asked {
+    // What is kept before the first window.
+    fn new(alloc: Global, only: Option<u32>) -> Asked
+        ensures { Keeps only [] result }
+    {
+        match only {
+            Some(number) => Asked::After(number.saturating_sub(1)),
+            None => Asked::All(Vec::new(alloc)),
+        }
+    }
+
+    // With the text of one window more, which so many come before.
+    fn pass(left: u32, text: Vec<u8>) -> Asked
+        ensures { (only : Option ℕ) (texts : List (List ℕ)) → Keeps only texts (After left) → Keeps only (texts ++ text.items ∷ []) result }
+    {
+        if left == 0 {
+            return Asked::Found(text);
+        }
+        Asked::After(left - 1)
+    }
+
+    // With the text of one window more.
+    fn add(self, text: Vec<u8>) -> Result<Asked, Refusal>
+        ensures { IfOk result (λ asked. (only : Option ℕ) (texts : List (List ℕ)) → Keeps only texts self → Keeps only (texts ++ text.items ∷ []) asked) }
+    {
+        match self {
+            Asked::All(mut all) => {
+                all.extend_from_slice(text.as_slice())?;
+                Ok(Asked::All(all))
+            }
+            Asked::After(left) => Ok(Asked::pass(left, text)),
+            Asked::Found(found) => Ok(Asked::Found(found)),
+        }
+    }
+
+    // What is asked for.
+    fn end(self) -> Result<Vec<u8>, Refusal>
+        ensures { IfOk result (λ v. (only : Option ℕ) (texts : List (List ℕ)) → Keeps only texts self → IsAsked texts only v.items) }
+    {
+        match self {
+            Asked::All(text) | Asked::Found(text) => Ok(text),
+            Asked::After(_) => Err(Refusal::NoPlan),
+        }
+    }
+}
+
 // Windows one after the other, and the text of the ring that they leave.
 #[derive(Drop)]
 struct Windows {
-    texts: Vec<Vec<u8>>,
+    asked: Asked,
     next: Vec<u8>,
 }
 
@@ -58,71 +115,21 @@ fn all_windows(
     first: &[u8],
     plans: Vec<Plan>,
     mut room: Room,
+    only: Option<u32>,
 ) -> Result<Windows, Refusal>
-    ensures { IfOk result (λ w. AreWindows first.now (map (λ t. t.items) w.texts.items) plans.items w.next.items) }
+    ensures { IfOk result (λ w. AreKept first.now plans.items only w.asked w.next.items) }
 {
-    let mut texts = Vec::new(alloc);
+    let mut asked = Asked::new(alloc, only);
     let mut next = Vec::from_slice(alloc, first)?;
     for plan in plans {
         room.ask()?;
         let window = window_over(alloc, next.as_slice(), plan)?;
         room.take(window.text.as_slice());
-        texts.push(window.text)?;
+        asked = asked.add(window.text)?;
         next = window.next;
     }
     room.ask()?;
-    Ok(Windows { texts, next })
-}
-
-// The windows of an approved plan, each of so many rounds of copies.
-fn windows_of(alloc: Global, approved: &Approved, width: u32) -> Result<Vec<Vec<u8>>, Refusal>
-    ensures windows { IfOk result (λ texts.
-        AreWindowsOf approved.now.ring approved.now.plan (map (λ t. t.items) texts.items)) }
-    ensures approved { IsApproved approved.now.ring approved.now.plan }
-{
-    let (ring, plan) = (approved.ring(), approved.plan());
-    let first = write_ring(alloc, ring)?;
-    let rounds = rounds(alloc, plan)?;
-    let pieces = cut(alloc, ring, plan, rounds.as_slice(), width)?;
-    if !is_cut(alloc, plan, &pieces)? {
-        return Err(Refusal::NoPlan);
-    }
-    let room = Room::new(ring, first.as_slice(), pieces.plans.len());
-    let windows = all_windows(alloc, first.as_slice(), pieces.plans, room)?;
-    let rows = last_owners(alloc, ring, plan)?;
-    let members = members_left(alloc, ring, plan)?;
-    ask_ring(
-        alloc,
-        ring,
-        windows.next.as_slice(),
-        rows.as_slice(),
-        members.as_slice(),
-    )?;
-    Ok(windows.texts)
-}
-
-// The texts one after the other.
-fn joined(alloc: Global, texts: &[Vec<u8>]) -> Result<Vec<u8>, Refusal>
-    ensures { IfOk result (λ v. v.items ≡ concat (map (λ t. t.items) texts.now)) }
-{
-    let mut out = Vec::new(alloc);
-    for text in texts {
-        out.extend_from_slice(text.as_slice())?;
-    }
-    Ok(out)
-}
-
-// What is asked for of the texts.
-fn asked(alloc: Global, texts: &[Vec<u8>], only: Option<u32>) -> Result<Vec<u8>, Refusal>
-    ensures { IfOk result (λ v. IsAsked (map (λ t. t.items) texts.now) only v.items) }
-{
-    let Some(number) = only else {
-        return joined(alloc, texts);
-    };
-    match texts.get(number.saturating_sub(1) as usize) {
-        Some(text) => Ok(Vec::from_slice(alloc, text.as_slice())?),
-        None => Err(Refusal::NoPlan),
-    }
+    Ok(Windows { asked, next })
 }
 
 /// An approved plan in windows of so many rounds of copies, each the texts of a ring, a plan and its certificate, over the ring that the window before leaves; or the window of
@@ -138,6 +145,23 @@ pub fn cut_plan(
     ensures windows { IfOk result (λ text. AreAskedOf approved.now.ring approved.now.plan only text.items) }
     ensures approved { IsApproved approved.now.ring approved.now.plan }
 {
-    let texts = windows_of(alloc, approved, width)?;
-    asked(alloc, texts.as_slice(), only)
+    let (ring, plan) = (approved.ring(), approved.plan());
+    let first = write_ring(alloc, ring)?;
+    let rounds = rounds(alloc, plan)?;
+    let pieces = cut(alloc, ring, plan, rounds.as_slice(), width)?;
+    if !is_cut(alloc, plan, &pieces)? {
+        return Err(Refusal::NoPlan);
+    }
+    let room = Room::new(ring, first.as_slice(), pieces.plans.len());
+    let windows = all_windows(alloc, first.as_slice(), pieces.plans, room, only)?;
+    let rows = last_owners(alloc, ring, plan)?;
+    let members = members_left(alloc, ring, plan)?;
+    ask_ring(
+        alloc,
+        ring,
+        windows.next.as_slice(),
+        rows.as_slice(),
+        members.as_slice(),
+    )?;
+    windows.asked.end()
 }

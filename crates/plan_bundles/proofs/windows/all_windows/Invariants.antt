@@ -1,6 +1,5 @@
-use Rattle.std.proofs.Common.{map}
-use Rattle.plan_bundles.specs.Windows.{AreWindows}
+use Rattle.plan_bundles.specs.Windows.{AreKept}
 use Rattle.plan_bundles.proofs.windows.all_windows.Given as goal
 
 abbrev pub invariant-loop-plan : goal.invariant-loop-plan
-invariant-loop-plan l = AreWindows l.first (map (λ t. t.items) l.texts.items) l.yielded l.next.items
+invariant-loop-plan l = AreKept l.first l.yielded l.fn.only l.asked l.next.items
