@@ -347,41 +347,6 @@ impl<'a> Seats<'a> {
         self.members.role(node) == Role::Joins && self.load(node) <= self.members.part(node)
     }
 
-    // Whether two of the owners have slots of the partition in one rack.
-    fn share(&self, owners: &[u32], partition: usize) -> bool {
-        let racks = &self.members.racks;
-        let end = self.place(partition, self.slots);
-        for one in self.place(partition, 0)..end {
-            for other in one.saturating_add(1)..end {
-                if racks.of(at(owners, one)) == racks.of(at(owners, other)) {
-                    return true;
-                }
-            }
-        }
-        false
-    }
-
-    // In how many partitions two of the owners have slots in one rack.
-    fn count_shared(&self, owners: &[u32]) -> u32 {
-        let mut shared = 0u32;
-        for partition in 0..self.partitions {
-            if self.share(owners, partition) {
-                shared = shared.saturating_add(1);
-            }
-        }
-        shared
-    }
-
-    /// How many partitions had two slots in one rack before.
-    pub fn shared_before(&self) -> u32 {
-        self.count_shared(&self.first)
-    }
-
-    /// How many partitions have two slots in one rack.
-    pub fn shared(&self) -> u32 {
-        self.count_shared(&self.now)
-    }
-
     /// How many slots have another owner than before.
     pub fn moved(&self) -> u32 {
         let mut moved = 0u32;

@@ -5,14 +5,12 @@ ghost use Rattle.plan_bundles.specs.Rings.{flags};
 ghost use Rattle.plan_bundles.specs.Goals.{AreNamed, HasChangedMembers, IsGoalReached, IsLed, IsSizedAsAsked, IsSizedBy, IsWishReached, LeadsFrom, is_changed_member};
 ghost use Rattle.plan_bundles.specs.Goals.{leaves_too, with_dead as the_change_with_dead};
 
-use crate::evenness::push_even_by_sizes;
 use crate::rings::rewritten;
 use crate::sections::{Kind, kind_of};
 use crate::sized::{are_kept, sizes_of, weights_of};
 use change_text::{Change, Wanted, read_wanted};
-use helpers::Words;
 use plan_goal::{Goal, is_among, reach, read_goal};
-use plan_maker::{Wish, Wished, push_words, wished};
+use plan_maker::{Wish, wished};
 use ring_names::{Listed, Names, NodeId, Refusal};
 use ring_table::{Ring, read_ring, write_ring};
 use ringplan_job::Options;
@@ -184,7 +182,7 @@ fn placed(
     ring: &Ring,
     change: &Change,
     options: &Options,
-) -> Result<Wished, Refusal> {
+) -> Result<Vec<Listed<NodeId>>, Refusal> {
     let asked = asked_for(alloc, ring, options)?;
     wished(alloc, ring, &wish(&asked, change))
 }
@@ -199,7 +197,7 @@ fn wished_ring(
     ensures { IfOk result (λ wanted. HasChangedMembers ring.now change.now wanted) }
 {
     let placed = placed(alloc, ring, change, options)?;
-    wanted_ring(alloc, ring, change, placed.rows.as_slice())
+    wanted_ring(alloc, ring, change, placed.as_slice())
 }
 
 // Asks whether each slot may have its owner in the wanted ring by the sizes. Where it may not, that is `NoPlan`.
@@ -275,31 +273,11 @@ pub fn wish_bundle(alloc: Global, bytes: &[u8], options: &Options) -> Result<Vec
     lead(alloc, Goal { ring, wanted }, nodes.as_slice())
 }
 
-// The ring of a bundle, and its change in which each dead member leaves too.
-fn read_change(alloc: Global, bytes: &[u8], options: &Options) -> Result<Wanted, Refusal> {
+/// The ring of a change, and the ring that is wished for.
+pub fn wished_goal(alloc: Global, bytes: &[u8], options: &Options) -> Result<Goal, Refusal> {
     let Wanted { ring, change } = read_wanted(alloc, bytes)?;
     let nodes = nodes_of(alloc, &ring, options.dead.as_slice())?;
     let change = with_dead(&ring, change, nodes.as_slice())?;
-    Ok(Wanted { ring, change })
-}
-
-/// Says in words how far from even the ring is that is wished for, also by sizes where these are asked for, and what becomes of racks. Refused as `wish_bundle` is, but that no plan is made.
-pub fn wish_words(alloc: Global, bytes: &[u8], options: &Options) -> Result<Vec<u8>, Refusal> {
-    let Wanted { ring, change } = read_change(alloc, bytes, options)?;
-    let asked = asked_for(alloc, &ring, options)?;
-    let wish = wish(&asked, &change);
-    let placed = wished(alloc, &ring, &wish)?;
-    let mut words = Words::new(alloc);
-    push_words(&mut words, &ring, &wish, &placed);
-    if let Some(sizes) = &asked.sizes {
-        push_even_by_sizes(alloc, &mut words, &ring, &placed, sizes.as_slice())?;
-    }
-    Ok(words.end()?)
-}
-
-/// The ring of a change, and the ring that is wished for.
-pub fn wished_goal(alloc: Global, bytes: &[u8], options: &Options) -> Result<Goal, Refusal> {
-    let Wanted { ring, change } = read_change(alloc, bytes, options)?;
     let wanted = wished_ring(alloc, &ring, &change, options)?;
     Ok(Goal { ring, wanted })
 }

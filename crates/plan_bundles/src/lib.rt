@@ -3,7 +3,6 @@
 
 mod cert;
 mod cutting;
-mod evenness;
 mod goal;
 mod groups;
 mod pieces;
@@ -14,7 +13,7 @@ mod sized;
 mod windows;
 
 pub use cert::{cert_bundle, found_bundle, push_excess};
-pub use goal::{goal_bundle, led_bundle, nodes_of, wish_bundle, wish_words, wished_goal};
+pub use goal::{goal_bundle, led_bundle, nodes_of, wish_bundle, wished_goal};
 pub use rings::{rewritten, ring_after};
 pub use room::MAX_WINDOWS;
 pub use sections::{Kind, front, kind_of};

@@ -77,9 +77,9 @@ fn add_row(loads: &mut Vec<u64>, size: u32, row: &[NodeId]) -> Result<(), Refusa
     add_row(loads, size, more)
 }
 
-/// What each of so many nodes stores.
+// What each of so many nodes stores.
 #[tactic(auto, using(crate::proofs::FirstNumbers::loads_none, crate::proofs::FirstNumbers::loads_more))]
-pub(crate) fn loads_of(
+fn loads_of(
     alloc: Global,
     sizes: &[u32],
     rows: &[Listed<NodeId>],

@@ -9,7 +9,6 @@ mod crowds;
 mod filling;
 mod giving;
 mod maker;
-mod outcome;
 mod pairs;
 mod ranks;
 mod sizing;
@@ -17,10 +16,7 @@ mod spreading;
 mod swapping;
 mod takers;
 mod thinning;
-mod tidings;
 
 pub use choice::wished;
 pub use find_flow::Wish;
 pub use maker::make;
-pub use outcome::Wished;
-pub use tidings::push_words;

@@ -46,7 +46,7 @@ pub fn make<'a>(
     let handover = Handover {
         alloc,
         ring,
-        rows: wished.rows.as_slice(),
+        rows: wished.as_slice(),
         turnover,
         dead: &[],
     };

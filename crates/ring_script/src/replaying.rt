@@ -16,8 +16,8 @@ use ring_table::Ring;
 use std::alloc::Global;
 use std::mem::forget;
 
-/// What is printed of a history that is a run: `yes`, the line of owners of each partition, and `end`.
-pub fn write_owners(alloc: Global, ring: &Ring, rows: &[Listed<NodeId>]) -> Result<Vec<u8>, Refusal>
+// What is printed of a history that is a run: `yes`, the line of owners of each partition, and `end`.
+fn write_owners(alloc: Global, ring: &Ring, rows: &[Listed<NodeId>]) -> Result<Vec<u8>, Refusal>
     requires { length rows.now ≡ ring.now.q }
     ensures text { IfOk result (λ v. v.items ≡ rows_text ring.now rows.now) }
     ensures memory { IfErr result (λ e. e ≡ OutOfMemory) }

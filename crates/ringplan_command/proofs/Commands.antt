@@ -23,11 +23,11 @@ use Rattle.ringplan_command.specs.declared.word.Word.{Word}
 use Rattle.ringplan_command.specs.declared.command.Format.{Format}
 use Rattle.ringplan_command.specs.declared.command.Format.TheVariants as form
 use Rattle.ringplan_command.specs.declared.command.Request.{Request}
-use Rattle.ringplan_command.specs.declared.command.Request.TheVariants.{Do, CheckBy, State, StateBy, Judge, StateJudge, Part, Drive, Make, Describe, Help, Mistaken, OutOfMemory}
+use Rattle.ringplan_command.specs.declared.command.Request.TheVariants.{Do, CheckBy, State, StateBy, Part, Drive, Make, Describe, Help, Mistaken, OutOfMemory}
 use Rattle.ringplan_job.specs.declared.job.Job.{Job}
 use Rattle.ringplan_job.specs.declared.job.Job.TheVariants.{Check, Migrate, Plan, Play, Replay}
 use Rattle.ringplan_command.specs.Command.{Answers, Asked, IsMistaken, IsRefused, AsksGuide, AsksWord, IsInFormat, IsOfGuide, IsOfWord, IsTurnedAway, MeansFormat, TakesValues, WantsHelp}
-use Rattle.ringplan_command.specs.Command.{Task, asked, asked_by, by_drive, by_judge, by_workers, format_named, in_json, only, option_named, part_texts, rows_named, json_named, task_named, to_describe, to_do, to_drive, to_judge, to_make, to_part, word_of_making, asks_just}
+use Rattle.ringplan_command.specs.Command.{Task, asked, asked_by, by_drive, by_workers, format_named, in_json, only, option_named, part_texts, rows_named, json_named, task_named, to_describe, to_do, to_drive, to_make, to_part, word_of_making, asks_just}
 use Rattle.ringplan_job.specs.declared.making.Color.{Color}
 use Rattle.ringplan_job.specs.declared.making.Color.TheVariants.{Auto, Always, Never}
 use Rattle.ringplan_command.specs.Makings.{MeansColor, but_text}
@@ -118,18 +118,11 @@ pub replay_stated : (sub : Option (List ℕ × List Row)) → task_named sub ≡
 replay_stated sub is json = rw (is, json) refl
 
 -- one whose form is none that there is is refused
-pub bad_form : (sub : Option (List ℕ × List Row)) (task : Task) (text : List ℕ) → task_named sub ≡ task → task ≢ to_drive → json_named task sub ≡ Some text → text ≢ codes "json" → IsRefused (asked_by [] sub)
-bad_form sub task text is no_drive some other = inr (inr (inr (inl (text, ap (λ (t : Task). json_named t sub) is ∙ some, other, λ drive. no_drive (sym is ∙ drive)))))
-
--- a judge names what it names
-pub judge_given : (sub : Option (List ℕ × List Row)) → task_named sub ≡ to_judge → format_named sub ≡ None → asked_by [] sub ≡ by_judge (option_named (codes "parts") sub) (option_named (codes "workers") sub)
-judge_given sub is none = rw (is, none) refl
-
-pub judge_stated : (sub : Option (List ℕ × List Row)) → task_named sub ≡ to_judge → format_named sub ≡ Some (codes "json") → asked_by [] sub ≡ in_json (by_judge (option_named (codes "parts") sub) (option_named (codes "workers") sub))
-judge_stated sub is json = rw (is, json) refl
+pub bad_form : (sub : Option (List ℕ × List Row)) (task : Task) (text : List ℕ) → task_named sub ≡ task → json_named task sub ≡ Some text → text ≢ codes "json" → IsRefused (asked_by [] sub)
+bad_form sub task text is some other = inr (inr (inl (text, ap (λ (t : Task). json_named t sub) is ∙ some, other)))
 
 -- a drive names what it names
-pub drive_given : (sub : Option (List ℕ × List Row)) → task_named sub ≡ to_drive → asked_by [] sub ≡ by_drive (option_named (codes "workers") sub) (option_named (codes "json") sub)
+pub drive_given : (sub : Option (List ℕ × List Row)) → task_named sub ≡ to_drive → asked_by [] sub ≡ by_drive (option_named (codes "workers") sub) (format_named sub)
 drive_given sub is = rw is refl
 
 -- one whose text is no number is refused
@@ -138,10 +131,6 @@ bad_given sub is h = inr (inl (rw is h))
 
 pub bad_driven : (sub : Option (List ℕ × List Row)) → task_named sub ≡ to_drive → HasNoNumber 64 (option_named (codes "workers") sub) → IsRefused (asked_by [] sub)
 bad_driven sub is h = inr (inl (rw is h))
-
-pub bad_judged : (sub : Option (List ℕ × List Row)) → task_named sub ≡ to_judge → HasNoNumber 64 (option_named (codes "workers") sub) ⊎ HasNoNumber 4096 (option_named (codes "parts") sub) → IsRefused (asked_by [] sub)
-bad_judged sub is (inl h) = inr (inl (rw is h))
-bad_judged sub is (inr h) = inr (inr (inl (rw is h)))
 
 module _ {E : Type 0} (G : List ℕ → Result ℕ E → Type 0) (parses : (bs : List ℕ) (s : Result ℕ E) → G bs s → ParsesUnsigned 32 10 bs s) (o : Option (List ℕ)) (r : Result (Option ℕ) E)
     (none : o ≡ None → r ≡ Ok None) (value : (t : List ℕ) → o ≡ Some t → TriesOne G t r) where
@@ -179,9 +168,8 @@ none_helped kinds e (inr h) = let P : Kinds → Type 0 = IsAmong DisplayVersion 
 none_refused : (job : Job) (asked : Asked) → asked ≡ only job → IsRefused asked → ⊥
 none_refused job asked e (inl h) = none_mistaken _ (ap (λ x. x.faults) e) h
 none_refused job asked e (inr (inl (t, is, h))) = let none : Some t ≡ None = sym is ∙ ap (λ x. x.workers) e in absurd cc
-none_refused job asked e (inr (inr (inl (t, is, h)))) = let none : Some t ≡ None = sym is ∙ ap (λ x. x.parts) e in absurd cc
-none_refused job asked e (inr (inr (inr (inl (text, is, other, task))))) = let none : Some text ≡ None = sym is ∙ ap (λ x. x.json) e in absurd cc
-none_refused job asked e (inr (inr (inr (inr (task, is, values))))) =
+none_refused job asked e (inr (inr (inl (text, is, other)))) = let none : Some text ≡ None = sym is ∙ ap (λ x. x.json) e in absurd cc
+none_refused job asked e (inr (inr (inr (task, is, values)))) =
     let same : task ≡ to_do job = ap (λ x. x.task) (sym is ∙ e) in
     absurd (subst (λ (t : Task). TakesValues t) same values)
 
@@ -192,8 +180,6 @@ turned_away asked (Do _) h is = absurd is
 turned_away asked (CheckBy _) h is = absurd is
 turned_away asked (State _) h is = absurd is
 turned_away asked (StateBy _) h is = absurd is
-turned_away asked (Judge _) h is = absurd is
-turned_away asked (StateJudge _) h is = absurd is
 turned_away asked (Part _) h is = absurd is
 turned_away asked (Drive _ _) h is = absurd is
 turned_away asked (Make _) h is = absurd is
@@ -228,13 +214,11 @@ formed asked json format plain stated (Err e) means none some bad is = tt
 -- what a command for people makes answers a line that asks for it, and so does its refusal
 pub of_word : {E : Type 0} (asked : Asked) (w : Word) (rows : List Row) (r : Result Request E) → AsksWord asked w rows → IfOk r (IsOfWord w rows) → IfOk r (Answers asked)
 of_word asked w rows (Ok (Make making)) e h = (rows, e ∙ ap (λ (v : Word). asks_just (to_make v rows)) (sym h.0), h.1)
-of_word asked w rows (Ok (Mistaken text)) e h = inr (inr (inr (inr (to_make w rows, e, h))))
+of_word asked w rows (Ok (Mistaken text)) e h = inr (inr (inr (to_make w rows, e, h)))
 of_word asked w rows (Ok (Do _)) e h = absurd h
 of_word asked w rows (Ok (CheckBy _)) e h = absurd h
 of_word asked w rows (Ok (State _)) e h = absurd h
 of_word asked w rows (Ok (StateBy _)) e h = absurd h
-of_word asked w rows (Ok (Judge _)) e h = absurd h
-of_word asked w rows (Ok (StateJudge _)) e h = absurd h
 of_word asked w rows (Ok (Part _)) e h = absurd h
 of_word asked w rows (Ok (Drive _ _)) e h = absurd h
 of_word asked w rows (Ok (Describe _)) e h = absurd h
@@ -261,14 +245,12 @@ color_stays (Some text) c d same (inr (inr (e, is))) = inr (inr (e, same (λ bad
 -- a text about the program answers a line that asks for it, and so does its refusal
 pub of_guide : {E : Type 0} (asked : Asked) (guide : Guide) (r : Result Request E) → AsksGuide asked guide → IfOk r (IsOfGuide guide) → IfOk r (Answers asked)
 of_guide asked guide (Ok (Describe text)) e h = (guide, e)
-of_guide asked guide (Ok (Mistaken text)) e h = inr (inr (inr (inr (to_describe guide, e, h))))
+of_guide asked guide (Ok (Mistaken text)) e h = inr (inr (inr (to_describe guide, e, h)))
 of_guide asked guide (Ok (Make _)) e h = absurd h
 of_guide asked guide (Ok (Do _)) e h = absurd h
 of_guide asked guide (Ok (CheckBy _)) e h = absurd h
 of_guide asked guide (Ok (State _)) e h = absurd h
 of_guide asked guide (Ok (StateBy _)) e h = absurd h
-of_guide asked guide (Ok (Judge _)) e h = absurd h
-of_guide asked guide (Ok (StateJudge _)) e h = absurd h
 of_guide asked guide (Ok (Part _)) e h = absurd h
 of_guide asked guide (Ok (Drive _ _)) e h = absurd h
 of_guide asked guide (Ok (Help _)) e h = absurd h
@@ -310,8 +292,6 @@ no_job (Do _) is job = is
 no_job (CheckBy _) is job = is
 no_job (State _) is job = is
 no_job (StateBy _) is job = is
-no_job (Judge _) is job = is
-no_job (StateJudge _) is job = is
 no_job (Part _) is job = is
 no_job (Drive _ _) is job = is
 no_job (Make _) is job = is
@@ -329,8 +309,6 @@ job_asked job asked (Do other) e h =
 job_asked job asked (CheckBy k) e (text, is, h) = let same : by_workers text ≡ only job = sym is ∙ e in let none : Some text ≡ None = ap (λ x. x.workers) same in absurd cc
 job_asked job asked (State other) e h = let none : Some (codes "json") ≡ None = ap (λ x. x.json) (sym h ∙ e) in absurd cc
 job_asked job asked (StateBy k) e (text, is, h) = let none : Some (codes "json") ≡ None = ap (λ x. x.json) (sym is ∙ e) in absurd cc
-job_asked job asked (Judge how) e (parts, workers, is, h) = let task : to_judge ≡ to_do job = ap (λ x. x.task) (sym is ∙ e) in absurd cc
-job_asked job asked (StateJudge how) e (parts, workers, is, h) = let task : to_judge ≡ to_do job = ap (λ x. x.task) (sym is ∙ e) in absurd cc
 job_asked job asked (Part wish) e (texts, is, h) = let task : to_part texts ≡ to_do job = ap (λ x. x.task) (sym is ∙ e) in absurd cc
 job_asked job asked (Drive k form) e h =
     let same : by_drive h.0 h.1 ≡ only job = sym h.2 ∙ e in

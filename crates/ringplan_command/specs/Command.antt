@@ -9,18 +9,17 @@ use Rattle.ringplan_command.specs.Files.{text_named}
 use Rattle.ringplan_command.specs.Makings.{MeansMaking, but_text}
 use Rattle.ringplan_command.specs.Numbers.{HasNoNumber, IsCount, IsNumberTo}
 use Rattle.ringplan_command.specs.Parts.{MeansPart, PartTexts}
-use Rattle.ringplan_command.specs.Tree.{drive_word, judge_word, part_word, ringplan, word_of}
+use Rattle.ringplan_command.specs.Tree.{drive_word, part_word, ringplan, word_of}
 use Rattle.ringplan_command.specs.declared.command.Request.{Request}
-use Rattle.ringplan_command.specs.declared.command.Request.TheVariants.{Do, CheckBy, State, StateBy, Judge, StateJudge, Part, Drive, Make, Describe, Help, Mistaken, OutOfMemory}
+use Rattle.ringplan_command.specs.declared.command.Request.TheVariants.{Do, CheckBy, State, StateBy, Part, Drive, Make, Describe, Help, Mistaken, OutOfMemory}
 use Rattle.ringplan_command.specs.declared.word.Guide.{Guide}
 use Rattle.ringplan_command.specs.declared.word.Guide.TheVariants.{Completions, Manual}
 use Rattle.ringplan_command.specs.declared.word.Word.{Word}
 use Rattle.ringplan_command.specs.declared.word.Word.TheVariants as people
 use Rattle.ringplan_job.specs.declared.making.Making.{Making}
-use Rattle.ringplan_job.specs.declared.making.Making.TheVariants.{Why, Bundle, Cert, After, Show, Draw, Steps, Moves, Windows, Goal, Even, Around, State as StateMaking}
+use Rattle.ringplan_job.specs.declared.making.Making.TheVariants.{Why, Cert, After, Show, Draw, Steps, Moves, Windows, Goal, Around, State as StateMaking}
 use Rattle.ringplan_job.specs.declared.making.Statement.{Statement}
 use Rattle.ringplan_job.specs.declared.making.Statement.TheVariants as stated
-use Rattle.ringplan_command.specs.declared.counts.Shares.{Shares}
 use Rattle.ringplan_command.specs.declared.parts.PartWish.{PartWish}
 use Rattle.ringplan_command.specs.declared.command.Format.{Format}
 use Rattle.ringplan_command.specs.declared.command.Format.TheVariants as format
@@ -44,29 +43,24 @@ word_of_making (Draw wish) = people.Draw
 word_of_making Steps = people.Steps
 word_of_making Moves = people.Steps
 word_of_making (Goal options exit) = people.Goal
-word_of_making (Even options) = people.Goal
 word_of_making (Around options back) = people.Around
 word_of_making (Windows cut) = people.Windows
-word_of_making Bundle = people.Bundle
 word_of_making Cert = people.Cert
 word_of_making After = people.After
 
--- what is to be done: a job, a judge, a part, a drive, what a command for people makes by the rows of its options, or a text about the program
+-- what is to be done: a job, a part, a drive, what a command for people makes by the rows of its options, or a text about the program
 pub data Task : Type 0 where
   to_do : Job → Task
-  to_judge : Task
   to_part : PartTexts → Task
   to_drive : Task
   to_make : Word → List Row → Task
   to_describe : Guide → Task
 
--- what the words of a command line ask: how they fail, and where they do not, what is to be done, and the texts of the workers, of the parts and of
--- the form that are named
+-- what the words of a command line ask: how they fail, and where they do not, what is to be done, and the texts of the workers and of the form that are named
 pub record Asked : Type 0 where
   pub faults : Kinds
   pub task : Task
   pub workers : Option (List ℕ)
-  pub parts : Option (List ℕ)
   pub json : Option (List ℕ)
 
 -- the subcommand has that name
@@ -84,8 +78,8 @@ job_named subcommand = if is_named Play subcommand then Play else (if is_named P
 -- the command for people of a subcommand, by its name
 abbrev pub more_named : Option (List ℕ × List Row) → Option Word
 more_named subcommand = if is_word (codes "goal") subcommand then Some people.Goal else (if is_word (codes "windows") subcommand then Some people.Windows
-    else (if is_word (codes "bundle") subcommand then Some people.Bundle else (if is_word (codes "cert") subcommand then Some people.Cert
-    else (if is_word (codes "after") subcommand then Some people.After else (if is_word (codes "around") subcommand then Some people.Around else None)))))
+    else (if is_word (codes "cert") subcommand then Some people.Cert else (if is_word (codes "after") subcommand then Some people.After
+    else (if is_word (codes "around") subcommand then Some people.Around else None))))
 
 abbrev pub word_named : Option (List ℕ × List Row) → Option Word
 word_named subcommand = if is_word (codes "why") subcommand then Some people.Why else (if is_word (codes "show") subcommand then Some people.Show
@@ -115,36 +109,29 @@ rows_named subcommand = option_map_or (λ x. x.1) subcommand []
 
 -- what it asks to be done
 abbrev pub task_named : Option (List ℕ × List Row) → Task
-task_named subcommand = if is_word drive_word subcommand then to_drive else (if is_word judge_word subcommand then to_judge else (if is_word part_word subcommand then to_part (part_texts subcommand)
-    else option_map_or to_describe (guide_named subcommand) (option_map_or (λ w. to_make w (rows_named subcommand)) (word_named subcommand) (to_do (job_named subcommand)))))
+task_named subcommand = if is_word drive_word subcommand then to_drive else (if is_word part_word subcommand then to_part (part_texts subcommand)
+    else option_map_or to_describe (guide_named subcommand) (option_map_or (λ w. to_make w (rows_named subcommand)) (word_named subcommand) (to_do (job_named subcommand))))
 
--- the text of the workers; but for `check`, `judge` and `drive`, no subcommand names them
+-- the text of the workers; but for `check` and `drive`, no subcommand names them
 abbrev pub workers_named : Task → Option (List ℕ × List Row) → Option (List ℕ)
 workers_named (to_do Check) subcommand = option_named (codes "workers") subcommand
-workers_named to_judge subcommand = option_named (codes "workers") subcommand
 workers_named to_drive subcommand = option_named (codes "workers") subcommand
 workers_named task subcommand = None
-
--- the text of the parts; but for `judge`, no subcommand names them
-abbrev pub parts_named : Task → Option (List ℕ × List Row) → Option (List ℕ)
-parts_named to_judge subcommand = option_named (codes "parts") subcommand
-parts_named task subcommand = None
 
 abbrev pub format_named : Option (List ℕ × List Row) → Option (List ℕ)
 format_named subcommand = but_text (option_and_then (λ x. first_of (codes "format") x.1) subcommand)
 
--- the text of the form; but for `drive`, `check`, `replay` and `judge`, no subcommand names one
+-- the text of the form; but for `drive`, `check` and `replay`, no subcommand names one
 abbrev pub json_named : Task → Option (List ℕ × List Row) → Option (List ℕ)
 json_named (to_do Check) subcommand = format_named subcommand
 json_named (to_do Replay) subcommand = format_named subcommand
-json_named to_judge subcommand = format_named subcommand
-json_named to_drive subcommand = option_named (codes "json") subcommand
+json_named to_drive subcommand = format_named subcommand
 json_named task subcommand = None
 
 -- what a line with these faults and this subcommand asks
 abbrev pub asked_by : Kinds → Option (List ℕ × List Row) → Asked
 asked_by faults subcommand = let task = task_named subcommand in
-    record { faults = faults; task = task; workers = workers_named task subcommand; parts = parts_named task subcommand; json = json_named task subcommand }
+    record { faults = faults; task = task; workers = workers_named task subcommand; json = json_named task subcommand }
 
 -- what these words ask
 abbrev pub asked : List (List ℕ) → Asked
@@ -152,63 +139,47 @@ asked words = asked_by (fault_of ringplan words) (subcommand_of ringplan words)
 
 -- just that job
 abbrev pub only : Job → Asked
-only job = record { faults = []; task = to_do job; workers = None; parts = None; json = None }
+only job = record { faults = []; task = to_do job; workers = None; json = None }
 
 -- a check by workers, of which the text tells how many
 abbrev pub by_workers : List ℕ → Asked
-by_workers text = record { faults = []; task = to_do Check; workers = Some text; parts = None; json = None }
+by_workers text = record { faults = []; task = to_do Check; workers = Some text; json = None }
 
 -- what is asked, with an answer as JSON
 abbrev pub in_json : Asked → Asked
 in_json asked = record asked { json = Some (codes "json") }
 
--- a judge, with those texts of parts and workers, if they are named
-abbrev pub by_judge : Option (List ℕ) → Option (List ℕ) → Asked
-by_judge parts workers = record { faults = []; task = to_judge; workers = workers; parts = parts; json = None }
-
 -- a drive, with those texts of workers and form, if they are named
 abbrev pub by_drive : Option (List ℕ) → Option (List ℕ) → Asked
-by_drive workers json = record { faults = []; task = to_drive; workers = workers; parts = None; json = json }
+by_drive workers json = record { faults = []; task = to_drive; workers = workers; json = json }
 
 abbrev pub IsWorkers : List ℕ → ℕ → Type 0
 IsWorkers text k = IsNumberTo 64 text k
-
--- so many parts, at most 4,096, and workers, at most 64, are meant: one worker where none are named, and as many parts as workers
-abbrev pub AreShares : Option (List ℕ) → Option (List ℕ) → ℕ → ℕ → Type 0
-AreShares parts workers m k = IsCount 4096 k parts m × IsCount 64 1 workers k
-
--- what is asked is a judge of m parts by k workers
-abbrev pub AsksJudge : Asked → ℕ → ℕ → Type 0
-AsksJudge asked m k = (parts workers : Option (List ℕ)) × (asked ≡ by_judge parts workers) × AreShares parts workers m k
-
--- what is asked is that, with an answer as JSON
-abbrev pub AsksJsonJudge : Asked → ℕ → ℕ → Type 0
-AsksJsonJudge asked m k = (parts workers : Option (List ℕ)) × (asked ≡ in_json (by_judge parts workers)) × AreShares parts workers m k
 
 -- what is asked is a check by k workers
 abbrev pub AsksBy : Asked → ℕ → Type 0
 AsksBy asked k = (text : List ℕ) × (asked ≡ by_workers text) × IsWorkers text k
 
--- what is asked is that job; a check may be by workers, and a replay by a judge
+-- what is asked is that job; a check may be by workers
 abbrev pub Asks : Asked → Job → Type 0
-Asks asked job = (asked ≡ only job) ⊎ (((job ≡ Check) × ((k : ℕ) × AsksBy asked k)) ⊎ ((job ≡ Replay) × ((m k : ℕ) × AsksJudge asked m k)))
+Asks asked job = (asked ≡ only job) ⊎ ((job ≡ Check) × ((k : ℕ) × AsksBy asked k))
 
 -- what is asked is a check by k workers, with an answer as JSON
 abbrev pub AsksJsonBy : Asked → ℕ → Type 0
 AsksJsonBy asked k = (text : List ℕ) × (asked ≡ in_json (by_workers text)) × IsWorkers text k
 
--- what is asked is that job with an answer as JSON; a check may be by workers, and a replay by a judge
+-- what is asked is that job with an answer as JSON; a check may be by workers
 abbrev pub AsksJson : Asked → Job → Type 0
-AsksJson asked job = (asked ≡ in_json (only job)) ⊎ (((job ≡ Check) × ((k : ℕ) × AsksJsonBy asked k)) ⊎ ((job ≡ Replay) × ((m k : ℕ) × AsksJsonJudge asked m k)))
+AsksJson asked job = (asked ≡ in_json (only job)) ⊎ ((job ≡ Check) × ((k : ℕ) × AsksJsonBy asked k))
 
 -- so many workers are meant: one where none are named
 abbrev pub IsMany : Option (List ℕ) → ℕ → Type 0
 IsMany workers k = IsCount 64 1 workers k
 
--- the form is the one that is named: a report where `--json` stands, and else a history
+-- the form is the one that is named: a report for `json`, and a history if none is named
 abbrev pub IsForm : Option (List ℕ) → Form → Type 0
-IsForm json Report = json ≡ Some (codes "true")
-IsForm json History = json ≡ Some (codes "true") → ⊥
+IsForm json Report = json ≡ Some (codes "json")
+IsForm json History = json ≡ None
 
 -- what is asked is a drive by k workers, printed in that form
 abbrev pub AsksDrive : Asked → ℕ → Form → Type 0
@@ -222,9 +193,9 @@ WantsHelp kinds = IsAmong DisplayHelp kinds ⊎ IsAmong DisplayVersion kinds
 abbrev pub IsMistaken : Kinds → Type 0
 IsMistaken kinds = (k : ErrorKind) × (k ≢ DisplayHelp) × (k ≢ DisplayVersion) × IsAmong k kinds
 
--- a form of answers is named that there is not; that of a drive is another one
+-- a form of answers is named that there is not
 abbrev pub HasNoFormat : Asked → Type 0
-HasNoFormat asked = (text : List ℕ) × (asked.json ≡ Some text) × (text ≢ codes "json") × (asked.task ≢ to_drive)
+HasNoFormat asked = (text : List ℕ) × (asked.json ≡ Some text) × (text ≢ codes "json")
 
 -- what was read of the text of the form of answers
 abbrev pub MeansFormat : Option (List ℕ) → Format → Type 0
@@ -232,14 +203,9 @@ MeansFormat json format.Text = json ≡ None
 MeansFormat json format.Json = json ≡ Some (codes "json")
 MeansFormat json format.Unknown = (text : List ℕ) × (json ≡ Some text) × (text ≢ codes "json")
 
--- what was read of the texts of parts and workers
-abbrev pub MeansShares : Option (List ℕ) → Option (List ℕ) → Option Shares → Type 0
-MeansShares parts workers (Some shares) = AreShares parts workers shares.parts shares.workers
-MeansShares parts workers None = HasNoNumber 64 workers ⊎ HasNoNumber 4096 parts
-
 -- just that, with no number of workers and no form
 abbrev pub asks_just : Task → Asked
-asks_just task = record { faults = []; task = task; workers = None; parts = None; json = None }
+asks_just task = record { faults = []; task = task; workers = None; json = None }
 
 -- what is asked is just what a command for people makes by these rows of options
 abbrev pub AsksWord : Asked → Word → List Row → Type 0
@@ -268,9 +234,9 @@ TakesValues (to_describe Completions) = ⊤
 TakesValues (to_part texts) = (wish : PartWish) → MeansPart texts wish → ⊥
 TakesValues task = ⊥
 
--- the line is refused: for its words, for its workers or parts, for the form of its answer, or for such a value
+-- the line is refused: for its words, for its workers, for the form of its answer, or for such a value
 abbrev pub IsRefused : Asked → Type 0
-IsRefused asked = IsMistaken asked.faults ⊎ (HasNoNumber 64 asked.workers ⊎ (HasNoNumber 4096 asked.parts ⊎ (HasNoFormat asked ⊎ ((task : Task) × (asked ≡ asks_just task) × TakesValues task))))
+IsRefused asked = IsMistaken asked.faults ⊎ (HasNoNumber 64 asked.workers ⊎ (HasNoFormat asked ⊎ ((task : Task) × (asked ≡ asks_just task) × TakesValues task)))
 
 -- what a command line that asks so is taken for, memory aside
 abbrev pub Answers : Asked → Request → Type 0
@@ -278,8 +244,6 @@ Answers asked (Do job) = asked ≡ only job
 Answers asked (CheckBy workers) = AsksBy asked workers
 Answers asked (State job) = asked ≡ in_json (only job)
 Answers asked (StateBy workers) = AsksJsonBy asked workers
-Answers asked (Judge shares) = AsksJudge asked shares.parts shares.workers
-Answers asked (StateJudge shares) = AsksJsonJudge asked shares.parts shares.workers
 Answers asked (Part wish) = AsksPart asked wish
 Answers asked (Drive workers form) = AsksDrive asked workers form
 Answers asked (Make making) = AsksMaking asked making

@@ -4,7 +4,7 @@ use Rattle.std.specs.Str.{bytes_eq}
 use Rattle.clap.specs.Words.{Row, first_of, subcommand_of}
 use Rattle.ringplan_command.specs.Tree.{ringplan}
 use Rattle.ringplan_command.specs.declared.command.Request.{Request}
-use Rattle.ringplan_command.specs.declared.command.Request.TheVariants.{Do, CheckBy, State, StateBy, Judge, StateJudge, Part, Drive, Make, Describe}
+use Rattle.ringplan_command.specs.declared.command.Request.TheVariants.{Do, CheckBy, State, StateBy, Part, Drive, Make, Describe}
 use Rattle.ringplan_command.specs.declared.files.Files.{Files}
 
 -- the names of files that are read and written, where they are no standard stream
@@ -42,8 +42,6 @@ IsJob (Do job) = ⊤
 IsJob (CheckBy workers) = ⊤
 IsJob (State job) = ⊤
 IsJob (StateBy workers) = ⊤
-IsJob (Judge shares) = ⊤
-IsJob (StateJudge shares) = ⊤
 IsJob (Part wish) = ⊤
 IsJob (Drive workers form) = ⊤
 IsJob (Make making) = ⊤

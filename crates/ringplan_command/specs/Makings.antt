@@ -13,7 +13,7 @@ use Rattle.ringplan_job.specs.declared.making.DrawWish.{DrawWish}
 use Rattle.ringplan_job.specs.declared.making.Exit.{Exit}
 use Rattle.ringplan_job.specs.declared.making.Exit.TheVariants.{Printed, Steps as StepsExit}
 use Rattle.ringplan_job.specs.declared.making.Making.{Making}
-use Rattle.ringplan_job.specs.declared.making.Making.TheVariants.{Why, Bundle, Cert, After, Show, Draw, Steps, Moves, Windows, Goal, Even, Around, State}
+use Rattle.ringplan_job.specs.declared.making.Making.TheVariants.{Why, Cert, After, Show, Draw, Steps, Moves, Windows, Goal, Around, State}
 use Rattle.ringplan_job.specs.declared.making.Picture.{Picture}
 use Rattle.ringplan_job.specs.declared.making.Picture.TheVariants.{Map, Rounds}
 use Rattle.ringplan_job.specs.declared.making.Shape.{Shape}
@@ -93,12 +93,11 @@ MeansCut rows cut = IsCount 1000000 1 (one_of (codes "rounds") rows) cut.rounds 
 abbrev pub MeansStatement : List Row → Statement → Type 0
 MeansStatement rows stated.Why = ⊤
 MeansStatement rows (stated.Show wish) = MeansWish rows wish
-MeansStatement rows (stated.Goal options exit) = IsUnset (codes "even") rows × MeansNodes rows options × MeansExit rows exit
+MeansStatement rows (stated.Goal options exit) = MeansNodes rows options × MeansExit rows exit
 
 -- the making is what the options ask for; of weights nothing is said
 abbrev pub MeansMaking : List Row → Making → Type 0
 MeansMaking rows (Why color) = InWords rows × MeansColor (first_of (codes "color") rows) color
-MeansMaking rows Bundle = ⊤
 MeansMaking rows Cert = ⊤
 MeansMaking rows After = ⊤
 MeansMaking rows (Show wish) = InWords rows × MeansWish rows wish
@@ -106,7 +105,6 @@ MeansMaking rows (Draw wish) = MeansPicture rows wish.picture × MeansByte (firs
 MeansMaking rows Steps = IsUnset (codes "moves") rows
 MeansMaking rows Moves = IsSet (codes "moves") rows
 MeansMaking rows (Windows cut) = MeansCut rows cut
-MeansMaking rows (Goal options exit) = InWords rows × (IsUnset (codes "even") rows × MeansNodes rows options × MeansExit rows exit)
-MeansMaking rows (Even options) = InWords rows × (IsSet (codes "even") rows × MeansNodes rows options)
+MeansMaking rows (Goal options exit) = InWords rows × (MeansNodes rows options × MeansExit rows exit)
 MeansMaking rows (Around options back) = MeansDead rows options × MeansBack rows back
 MeansMaking rows (State statement) = InJson rows × MeansStatement rows statement

@@ -20,10 +20,6 @@ word_of Replay = codes "replay"
 abbrev pub drive_word : List ℕ
 drive_word = codes "drive"
 
--- the word that asks for a judge
-abbrev pub judge_word : List ℕ
-judge_word = codes "judge"
-
 -- the word that asks for a part
 abbrev pub part_word : List ℕ
 part_word = codes "part"
@@ -47,9 +43,6 @@ list_option word = record (text_option word) { action = Some Append }
 -- an option with a number from the one to the other
 abbrev pub number_option : List ℕ → ℕ → ℕ → Rule
 number_option word least most = record (text_option word) { parser = Some (parser.Signed (pos least) (pos most)) }
-
-abbrev pub parts_option : Rule
-parts_option = number_option (codes "parts") 1 4096
 
 abbrev pub workers_option : Rule
 workers_option = number_option (codes "workers") 1 64
@@ -89,15 +82,12 @@ check_app = with_rule (with_rule (job_app (codes "check")) workers_option) (text
 abbrev pub replay_app : App
 replay_app = with_rule (job_app (codes "replay")) (text_option (codes "format"))
 
-abbrev pub judge_app : App
-judge_app = with_rule (with_rule (with_rule (job_app judge_word) parts_option) workers_option) (text_option (codes "format"))
-
 abbrev pub part_app : App
 part_app = with_rule (with_rule (with_rule (with_rule (job_app part_word) (number_option (codes "of") 1 4096)) (number_option (codes "part") 0 4095)) (text_option (codes "partitions")))
     (number_option (codes "map") 0 999999)
 
 abbrev pub drive_app : App
-drive_app = with_rule (with_rule (job_app drive_word) workers_option) (flag_option (codes "json"))
+drive_app = with_rule (with_rule (job_app drive_word) workers_option) (text_option (codes "format"))
 
 -- a subcommand with words for people, which may be in colours or JSON
 abbrev pub words_app : List ℕ → App
@@ -125,7 +115,7 @@ nodes_app = with_rule (with_rule (with_rule (with_rule (job_app (codes "goal")) 
     (text_option (codes "sizes"))
 
 abbrev pub goal_app : App
-goal_app = with_rule (with_rule (with_rule nodes_app (flag_option (codes "even"))) (flag_option (codes "exit-code"))) (text_option (codes "format"))
+goal_app = with_rule (with_rule nodes_app (flag_option (codes "exit-code"))) (text_option (codes "format"))
 
 abbrev pub around_app : App
 around_app = with_rule (with_rule (job_app (codes "around")) (record (list_option (codes "dead")) { required = true })) (flag_option (codes "back"))
@@ -143,8 +133,8 @@ abbrev pub first_commands : App
 first_commands = with (with (with (with (with (with (with (with top_app goal_app) around_app) show_app) draw_app) check_app) why_app) steps_app) windows_app
 
 abbrev pub bundle_commands : App
-bundle_commands = with (with (with (with (with (with (with (with (with (with first_commands drive_app) (job_app (codes "play"))) replay_app) judge_app) part_app) (job_app (codes "after")))
-    (job_app (codes "bundle"))) (job_app (codes "cert"))) (job_app (codes "plan"))) (job_app (codes "migrate"))
+bundle_commands = with (with (with (with (with (with (with (with first_commands drive_app) (job_app (codes "play"))) replay_app) part_app) (job_app (codes "after")))
+    (job_app (codes "cert"))) (job_app (codes "plan"))) (job_app (codes "migrate"))
 
 abbrev pub ringplan : App
 ringplan = with (with bundle_commands completions_app) (guide_app (codes "man"))

@@ -1,22 +1,22 @@
 //! The command line.
 
 ghost use Rattle.std.specs.Prelude.{◌≡◌, List, ◌⊎◌, ◌↔◌, ◌∷◌, [], IfOk, IsTrue, codes, drop, map};
-ghost use Rattle.clap.specs.Words.{Row, first_of, found_of, one_text, rows_of, subcommand_rows_of};
-ghost use Rattle.ringplan_command.specs.Command.{Answers, Asked, word_of_making, IsForm, IsInFormat, asked, asked_by, job_named, task_named};
+ghost use Rattle.clap.specs.Words.{Row, first_of, found_of, rows_of, subcommand_rows_of};
+ghost use Rattle.ringplan_command.specs.Command.{Answers, Asked, word_of_making, IsInFormat, asked, asked_by, job_named, task_named};
 ghost use Rattle.ringplan_command.specs.Makings.{MeansMaking, but_text};
-ghost use Rattle.ringplan_command.specs.Command.{IsTurnedAway, MeansFormat, part_texts, rows_named, to_describe, to_do, to_drive, to_judge, to_make, to_part};
+ghost use Rattle.ringplan_command.specs.Command.{IsTurnedAway, MeansFormat, part_texts, rows_named, to_describe, to_do, to_drive, to_make, to_part};
 ghost use Rattle.ringplan_command.specs.Tree.{word_of};
 ghost use Rattle.ringplan_command.specs.Files.{IsJob, files_in, files_named, files_of, no_files};
 ghost use Rattle.ringplan_job.specs.declared.job.Job.{Job};
 
-use crate::counts::{Count, MOST_WORKERS, Shares, count_of, shares_of};
+use crate::counts::{Count, MOST_WORKERS, count_of};
 use crate::files::Files;
 use crate::form::Form;
 use crate::guides::write_guide;
-use crate::help::{NO_FORMAT, NO_PART, NO_SHARES, NO_WORKERS};
+use crate::help::{NO_FORMAT, NO_PART, NO_WORKERS, SUCCESSORS};
 use crate::line::{make_line, mistaken};
 use crate::parts::{PartWish, part_of};
-use crate::reading::{has_flag, text_of};
+use crate::reading::text_of;
 use crate::tree::command;
 use crate::word::{Guide, Word, guide_of, people_word};
 use clap::error::ErrorKind;
@@ -43,10 +43,6 @@ pub enum Request {
     State(Job),
     /// To check a bundle by that many workers, 1 to 64, and to print the answer as JSON.
     StateBy(u32),
-    /// To judge a bundle's history part by part.
-    Judge(Shares),
-    /// To judge a bundle's history part by part, and to print the answer as JSON.
-    StateJudge(Shares),
     /// To cut a bundle's history, of any length, to a part.
     Part(PartWish),
     /// To run a bundle's plan by that many workers, 1 to 64, with a client for each script, and to print its outcome in that form.
@@ -93,8 +89,7 @@ impl Request {
         match self {
             Request::Do(_) | Request::CheckBy(_) | Request::Drive(_, _) => true,
             Request::State(_) | Request::StateBy(_) => true,
-            Request::Judge(_) | Request::StateJudge(_) | Request::Part(_) => true,
-            Request::Make(_) | Request::Describe(_) => true,
+            Request::Part(_) | Request::Make(_) | Request::Describe(_) => true,
             Request::Help(_) | Request::Mistaken(_) | Request::OutOfMemory => false,
         }
     }
@@ -134,7 +129,7 @@ fn try_parse<S: AsStr>(alloc: Global, words: &[S]) -> Result<CommandLine, AllocE
     match command(alloc)?.try_get_matches_from(words) {
         Ok(matches) => line_of(alloc, &matches),
         Err(error) => {
-            let text = format!(in alloc; "{error}")?.into_bytes();
+            let text = with_successor(format!(in alloc; "{error}")?)?;
             match error.kind() {
                 ErrorKind::OutOfMemory => Ok(alone(Request::OutOfMemory)),
                 ErrorKind::DisplayHelp | ErrorKind::DisplayVersion => Ok(alone(Request::Help(
@@ -144,6 +139,17 @@ fn try_parse<S: AsStr>(alloc: Global, words: &[S]) -> Result<CommandLine, AllocE
             }
         }
     }
+}
+
+// The text of a refused line, and what to type in place of a word that there was.
+fn with_successor(text: String) -> Result<Vec<u8>, AllocError> {
+    let mut text = text;
+    for (fault, words) in SUCCESSORS.iter() {
+        if text.starts_with(fault) {
+            text.push_str(words)?;
+        }
+    }
+    Ok(text.into_bytes())
 }
 
 // A line without a fault.
@@ -166,9 +172,6 @@ fn request_of(alloc: Global, matches: &ArgMatches) -> Result<Request, AllocError
 {
     if matches.subcommand_matches("drive").is_some() {
         return drive_line(alloc, matches);
-    }
-    if matches.subcommand_matches("judge").is_some() {
-        return judge_line(alloc, matches);
     }
     if matches.subcommand_matches("part").is_some() {
         return part_line(alloc, matches);
@@ -229,26 +232,6 @@ fn replay_line(alloc: Global, matches: &ArgMatches) -> Result<Request, AllocErro
     )
 }
 
-// What a line that asks for a judge asks for, by the parts, the workers and the form of the answer that it names.
-fn judge_line(alloc: Global, matches: &ArgMatches) -> Result<Request, AllocError>
-    requires { task_named (subcommand_rows_of matches.now) ≡ to_judge }
-    ensures { IfOk result (Answers (asked_by [] (subcommand_rows_of matches.now))) }
-{
-    let Some((_, options)) = matches.subcommand() else {
-        unreachable!()
-    };
-    let format = format_of(options);
-    match shares_of(options) {
-        Some(shares) => in_format(
-            alloc,
-            format,
-            Request::Judge(shares),
-            Request::StateJudge(shares),
-        ),
-        None => mistaken(alloc, NO_SHARES),
-    }
-}
-
 // What a line that asks for a part asks for.
 fn part_line(alloc: Global, matches: &ArgMatches) -> Result<Request, AllocError>
     requires { task_named (subcommand_rows_of matches.now) ≡ to_part (part_texts (subcommand_rows_of matches.now)) }
@@ -271,12 +254,24 @@ fn drive_line(alloc: Global, matches: &ArgMatches) -> Result<Request, AllocError
     let Some((_, options)) = matches.subcommand() else {
         unreachable!()
     };
-    let form = form_of(options);
+    let format = format_of(options);
     match count_of(options, "workers", 1, MOST_WORKERS) {
-        Count::Unnamed => Ok(Request::Drive(1, form)),
-        Count::Many(workers) => Ok(Request::Drive(workers, form)),
+        Count::Unnamed => drive_by(alloc, format, 1),
+        Count::Many(workers) => drive_by(alloc, format, workers),
         Count::NoNumber => mistaken(alloc, NO_WORKERS),
     }
+}
+
+// A drive by that many workers, printed in that form.
+fn drive_by(alloc: Global, format: Format, workers: u32) -> Result<Request, AllocError>
+    ensures { IfOk result (IsInFormat format (Request.Drive workers Form.History) (Request.Drive workers Form.Report)) }
+{
+    in_format(
+        alloc,
+        format,
+        Request::Drive(workers, Form::History),
+        Request::Drive(workers, Form::Report),
+    )
 }
 
 // What a line with a command for people asks for.
@@ -341,16 +336,6 @@ fn in_format(
         Format::Json => Ok(stated),
         Format::Unknown => mistaken(alloc, NO_FORMAT),
     }
-}
-
-// The form that is named.
-fn form_of(options: &ArgMatches) -> Form
-    ensures { IsForm (one_text (found_of options.now) (codes "json")) result }
-{
-    if has_flag(options, "json") {
-        return Form::Report;
-    }
-    Form::History
 }
 
 // The job that is named by the subcommand.

@@ -53,15 +53,6 @@ pub(crate) const DRIVE: &str =
 
 pub(crate) const REPLAY: &str = "Says whether a history is a run of the plan";
 
-pub(crate) const JUDGE: &str =
-    "Says what replay says of a history, which it judges part by part, by threads";
-
-pub(crate) const PARTS: &str =
-    "Judges in K parts, 1 to 4096: partition p is of part p modulo K; without it in as many as there are workers";
-
-pub(crate) const JUDGES: &str =
-    "Judges by W threads, 1 to 64, each of which has one part in memory at a time; without it by one";
-
 pub(crate) const PART: &str =
     "Prints the bundle of what some partitions see of a history, which may have any number of entries";
 
@@ -78,9 +69,6 @@ pub(crate) const ENTRY: &str =
 
 pub(crate) const PLAN: &str =
     "Prints a plan for a change, with its certificate, without regard to racks, weights and dead nodes";
-
-pub(crate) const BUNDLE: &str =
-    "Prints ring, plan and certificate in one text; for a change it makes the plan first";
 
 pub(crate) const CERT: &str =
     "Prints ring and plan with a certificate that it finds, whether or not the bundle has one";
@@ -106,8 +94,8 @@ pub(crate) const WORKERS: &str =
 
 pub(crate) const DRIVERS: &str = "Does the steps by K threads, 1 to 64; without it by one";
 
-pub(crate) const JSON: &str =
-    "Prints a report in place of the history: one line of JSON, with the events, who finished each step, and how many workers there were";
+pub(crate) const REPORT: &str =
+    "Prints the history as text, or as json a report in one line: the events, who finished each step, and how many workers there were; without it as text";
 
 pub(crate) const MOVES: &str =
     "Prints a line for each slot that moves, in place of one for each step";
@@ -142,9 +130,6 @@ pub(crate) const RACKS_APART: &str =
 pub(crate) const SIZES: &str =
     "Makes the goal ring even by sizes: lines of a partition and a number, ascending; the others have 1, and 0 is a partition without keys";
 
-pub(crate) const EVEN: &str =
-    "Says in words how far from even the goal ring is, in place of a plan";
-
 pub(crate) const EXIT_CODE: &str =
     "Ends with status 4 where the plan that is printed has steps, and with 0 where it has none";
 
@@ -154,9 +139,6 @@ pub(crate) const ONLY: &str = "Prints the window of that number alone, counted f
 
 pub(crate) const NO_WORKERS: &[u8; 105] =
     b"error: invalid value for '--workers <K>': not a number from 1 to 64\n\nFor more information, try '--help'.\n";
-
-pub(crate) const NO_SHARES: &[u8; 141] =
-    b"error: invalid value for '--parts <K>' or '--workers <W>': not a number from 1 to 4096, or from 1 to 64\n\nFor more information, try '--help'.\n";
 
 pub(crate) const NO_PART: &[u8; 153] =
     b"error: a part is named by '--of <K>' and '--part <I>' with I below K, or by '--partitions <A-B>' with A not above B\n\nFor more information, try '--help'.\n";
@@ -173,9 +155,6 @@ pub(crate) const NO_FORMAT: &[u8; 100] =
 pub(crate) const NO_COLOR: &[u8; 106] =
     b"error: invalid value for '--color <WHEN>': not auto, always or never\n\nFor more information, try '--help'.\n";
 
-pub(crate) const NO_EVEN: &[u8; 78] =
-    b"error: '--even' is in words, not in json\n\nFor more information, try '--help'.\n";
-
 pub(crate) const NO_RATE: &[u8; 80] =
     b"error: '--rate <N>' wants '--sizes <FILE>'\n\nFor more information, try '--help'.\n";
 
@@ -189,11 +168,31 @@ pub const NO_WORDS: &[u8; 123] =
 pub(crate) const NO_SHELL: &[u8; 95] =
     b"error: invalid value for '<SHELL>': not bash, zsh or fish\n\nFor more information, try '--help'.\n";
 
+/// How the text of a line begins whose word is no longer there, and the line that says what to type instead.
+pub(crate) const SUCCESSORS: &[(&str, &str); 4] = &[
+    (
+        "error: unrecognized subcommand 'judge'",
+        "ringplan: there is no `judge`: use `replay`, or `part` for histories of more than 1,000,000 entries\n",
+    ),
+    (
+        "error: unrecognized subcommand 'bundle'",
+        "ringplan: there is no `bundle`: use `goal` for a change, and `cert` for a plan\n",
+    ),
+    (
+        "error: unexpected argument '--even'",
+        "ringplan: there is no `--even`: use `show`, which says how even a ring is\n",
+    ),
+    (
+        "error: unexpected argument '--json'",
+        "ringplan: there is no `--json`: use `--format json`\n",
+    ),
+];
+
 pub(crate) const STREAMS: &str = "\
 Example: ringplan goal --racks-behind . examples/plan_grow.bundle
 
 A bundle is the text of a ring, then one of these: a change; a plan and its certificate; these and then a script or a history.
-Standard output has what the command prints. `plan`, `check`, `play`, `drive`, `replay`, `judge` and `migrate` print their refusals there too:
+Standard output has what the command prints. `plan`, `check`, `play`, `drive`, `replay` and `migrate` print their refusals there too:
 one line of `no`, the refusal's number and its values. The other commands print refusals on standard error, with why.
 
 Exit status:
@@ -224,7 +223,7 @@ Example: ringplan drive --workers 3 examples/drive_a_move_by_three.bundle
 Input: the texts of a ring, a plan, its certificate and 1 to 8 scripts. A script has `put`, `get`, `down` and `up` lines alone, and the numbers
 after `seen` count its own `get` lines from 0.
 Standard output: `yes`, and the text of the history: each event that was answered, with its reply, in the order in which they happened. It is a
-run of the plan that finishes every step; with several threads chance decides which one of many. With `--json` one line of JSON instead. Or one
+run of the plan that finishes every step; with several threads chance decides which one of many. With `--format json` one line of JSON instead. Or one
 line of `no`, the refusal's number and its values.
 
 Exit status:
@@ -253,19 +252,6 @@ Input: the texts of a ring, a plan, its certificate and a history: `history 1`, 
 Standard output: where the history is a run of the plan with these replies, `yes`, the owners of each partition's slots after the last entry, and
 `end`. Else `no 70`, the place of the first entry, counted from 0, that cannot have happened so, and the number by which its event would be refused,
 or 0 where it would be answered otherwise. Where the plan or a text is refused, one line of `no`.
-With `--format json` an object in one line instead: `answer`, and of a no `name`, `number` and `values`.
-
-Exit status:
-  0  the history is a run of the plan
-  1  the plan is refused, or the history is no run of it (`no 70`)
-  2  a text or the command line is refused
-  3  out of memory (at an entry too), or an input or output failed";
-
-pub(crate) const JUDGE_STREAMS: &str = "\
-Example: ringplan judge --parts 8 --workers 4 examples/replay_a_move.bundle
-
-Input: the texts of a ring, a plan, its certificate and a history, as for `replay`.
-Standard output: what `replay` prints, byte for byte. A part has all steps, and of the puts, gets and hints those of its partitions.
 With `--format json` an object in one line instead: `answer`, and of a no `name`, `number` and `values`.
 
 Exit status:
@@ -319,14 +305,6 @@ the fault and `-` under what belongs to it, and new lines in place of some of th
 bundle with them: `then the checker says yes` where it does.
 
 Exit status: 0 yes, 1 no plan, one that is refused, or a history that is no run, 2 a text or the command line is refused, 3 memory, input or output";
-
-pub(crate) const BUNDLE_STREAMS: &str = "\
-Example: ringplan bundle examples/plan_replace.bundle -o planned.bundle
-
-Input: a bundle: a ring with a change, or with a plan and its certificate.
-Standard output: the texts of the ring, a plan and its certificate, which `ringplan check` accepts. Standard error: else what `why` prints.
-
-Exit status: 0 printed, 1 no plan or one that is refused, 2 a text or the command line is refused, 3 memory, input or output";
 
 pub(crate) const CERT_STREAMS: &str = "\
 Example: ringplan cert examples/no_certificate.bundle -o certified.bundle

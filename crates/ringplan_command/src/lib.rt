@@ -17,7 +17,7 @@ mod tree;
 mod word;
 
 pub use command::{CommandLine, Request, parse};
-pub use counts::{MOST_PARTS, Shares};
+pub use counts::MOST_PARTS;
 pub use files::Files;
 pub use form::Form;
 pub use help::NO_WORDS;

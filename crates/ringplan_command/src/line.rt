@@ -8,7 +8,7 @@ ghost use Rattle.ringplan_command.specs.Makings.{MeansBack, MeansByte, MeansColo
 use crate::command::{Format, Request, format_of};
 use crate::counts::Count;
 use crate::files::named;
-use crate::help::{NO_BYTE, NO_COLOR, NO_EVEN, NO_FORMAT, NO_RATE, NO_WEIGHT, NO_WINDOW};
+use crate::help::{NO_BYTE, NO_COLOR, NO_FORMAT, NO_RATE, NO_WEIGHT, NO_WINDOW};
 use crate::naming::{names_of, weights_of};
 use crate::reading::{is_set, number_of, text_of};
 use crate::word::Word;
@@ -33,7 +33,6 @@ pub(crate) fn make_line(
         Word::Why => why_line(alloc, options),
         Word::Cert => Ok(Request::Make(Making::Cert)),
         Word::After => Ok(Request::Make(Making::After)),
-        Word::Bundle => Ok(Request::Make(Making::Bundle)),
         Word::Steps => Ok(Request::Make(lines_of(options))),
         Word::Windows => windows_line(alloc, options),
         Word::Show => show_line(alloc, options),
@@ -226,18 +225,16 @@ fn goal_line(alloc: Global, matches: &ArgMatches) -> Result<Request, AllocError>
     goal_of(alloc, matches, options)
 }
 
-// A plan that leads to the goal ring, in words or JSON, or how even that is.
+// A plan that leads to the goal ring, as text or JSON.
 fn goal_of(alloc: Global, matches: &ArgMatches, options: Options) -> Result<Request, AllocError>
     requires { MeansNodes (rows_of (found_of matches.now)) options }
     ensures { IfOk result (IsOfWord Word.Goal (rows_of (found_of matches.now))) }
 {
     let exit = exit_of(matches);
-    match (format_of(matches), is_set(matches, "even")) {
-        (Format::Text, true) => Ok(Request::Make(Making::Even(options))),
-        (Format::Text, false) => Ok(Request::Make(Making::Goal(options, exit))),
-        (Format::Json, true) => mistaken(alloc, NO_EVEN),
-        (Format::Json, false) => Ok(Request::Make(Making::State(Statement::Goal(options, exit)))),
-        (Format::Unknown, _) => mistaken(alloc, NO_FORMAT),
+    match format_of(matches) {
+        Format::Text => Ok(Request::Make(Making::Goal(options, exit))),
+        Format::Json => Ok(Request::Make(Making::State(Statement::Goal(options, exit)))),
+        Format::Unknown => mistaken(alloc, NO_FORMAT),
     }
 }
 

@@ -8,8 +8,8 @@ ghost use Rattle.ringplan_command.specs.Numbers.{MeansCount};
 use crate::counts::{Count, count_of};
 use clap::ArgMatches;
 
-/// Whether the flag is on the line.
-pub(crate) fn has_flag(options: &ArgMatches, word: &str) -> bool
+// Whether the flag is on the line.
+fn has_flag(options: &ArgMatches, word: &str) -> bool
     ensures { IsTrue result ↔ (one_text (found_of options.now) word.now ≡ Some (codes "true")) }
 {
     matches!(options.try_get_one::<bool>(word), Ok(Some(true)))

@@ -4,17 +4,17 @@ ghost use Rattle.std.specs.Prelude.{◌≡◌, false, codes, IfOk};
 ghost use Rattle.clap.specs.Words.{App, rule_of, with_rule, with_subcommand};
 ghost use Rattle.ringplan_command.specs.Tree.{IsApp, cut_option, draw_app, drive_app, flag_option, goal_app, job_app, ringplan, show_app};
 ghost use Rattle.ringplan_command.specs.Tree.{around_app, check_app, file_argument, output_option, rate_option, steps_app, text_option, top_app};
-ghost use Rattle.ringplan_command.specs.Tree.{completions_app, guide_app, judge_app, nodes_app, number_option, part_app, parts_option, replay_app, shell_argument, why_app, windows_app, words_app, workers_option};
+ghost use Rattle.ringplan_command.specs.Tree.{completions_app, guide_app, nodes_app, number_option, part_app, replay_app, shell_argument, why_app, windows_app, words_app, workers_option};
 
 use crate::help::{
-    ABOUT, AFTER, AFTER_STREAMS, ALL, AROUND, AROUND_STREAMS, BACK, BUNDLE, BUNDLE_STREAMS, CERT,
-    CERT_STREAMS, CHECK, CHECK_STREAMS, COLOR, COMPLETIONS, COMPLETIONS_STREAMS, DEAD, DRAW,
-    DRAW_STREAMS, DRIVE, DRIVE_STREAMS, DRIVERS, ENTRY, EVEN, EXIT_CODE, FILE, FORMAT, GOAL,
-    GOAL_STREAMS, GONE, JSON, JUDGE, JUDGE_STREAMS, JUDGES, MANUAL, MANUAL_STREAMS, MAP, MIGRATE,
-    MIGRATE_STREAMS, MORE, MOVED_SIZES, MOVES, OF, ONLY, OUTPUT, PART, PART_NUMBER, PART_STREAMS,
-    PARTITIONS, PARTS, PLAN, PLAN_STREAMS, PLAY, PLAY_STREAMS, RACK_COLUMNS, RACKS, RACKS_APART,
-    RATE, REPLAY, REPLAY_STREAMS, ROUNDS, SHELL, SHOW, SHOW_STREAMS, SIZES, STEPS, STEPS_STREAMS,
-    STREAMS, VERSION, WEIGHT, WHY, WHY_STREAMS, WINDOWS, WINDOWS_STREAMS, WORKERS,
+    ABOUT, AFTER, AFTER_STREAMS, ALL, AROUND, AROUND_STREAMS, BACK, CERT, CERT_STREAMS, CHECK,
+    CHECK_STREAMS, COLOR, COMPLETIONS, COMPLETIONS_STREAMS, DEAD, DRAW, DRAW_STREAMS, DRIVE,
+    DRIVE_STREAMS, DRIVERS, ENTRY, EXIT_CODE, FILE, FORMAT, GOAL, GOAL_STREAMS, GONE, MANUAL,
+    MANUAL_STREAMS, MAP, MIGRATE, MIGRATE_STREAMS, MORE, MOVED_SIZES, MOVES, OF, ONLY, OUTPUT,
+    PART, PART_NUMBER, PART_STREAMS, PARTITIONS, PLAN, PLAN_STREAMS, PLAY, PLAY_STREAMS,
+    RACK_COLUMNS, RACKS, RACKS_APART, RATE, REPLAY, REPLAY_STREAMS, REPORT, ROUNDS, SHELL, SHOW,
+    SHOW_STREAMS, SIZES, STEPS, STEPS_STREAMS, STREAMS, VERSION, WEIGHT, WHY, WHY_STREAMS, WINDOWS,
+    WINDOWS_STREAMS, WORKERS,
 };
 use clap::{Arg, ArgAction, Command, value_parser};
 use std::alloc::{AllocError, Global};
@@ -60,20 +60,12 @@ fn option<'a>(alloc: Global, word: &'a str, value: &'a str, help: &'a str) -> Ar
         .help(help)
 }
 
-// `--workers`, with a number from 1 to 64.
-fn workers<'a>(alloc: Global, value: &'a str, help: &'a str) -> Arg<'a>
+// `--workers K`, with K from 1 to 64.
+fn workers<'a>(alloc: Global, help: &'a str) -> Arg<'a>
     ensures rule { rule_of result ≡ workers_option }
     ensures local { result.global ≡ false }
 {
-    option(alloc, "workers", value, help).value_parser(value_parser!(u32).range(1..=64))
-}
-
-// `--parts K`, with K from 1 to 4,096.
-fn parts<'a>(alloc: Global) -> Arg<'a>
-    ensures rule { rule_of result ≡ parts_option }
-    ensures local { result.global ≡ false }
-{
-    option(alloc, "parts", "K", PARTS).value_parser(value_parser!(u32).range(1..=4_096))
+    option(alloc, "workers", "K", help).value_parser(value_parser!(u32).range(1..=64))
 }
 
 // `--of K`, with K from 1 to 4,096.
@@ -176,7 +168,7 @@ fn check<'a>(alloc: Global) -> Made<'a>
     ensures { IfOk result (IsApp check_app) }
 {
     let command = job(alloc, "check", CHECK, CHECK_STREAMS);
-    let command = with_arg(command, workers(alloc, "K", WORKERS));
+    let command = with_arg(command, workers(alloc, WORKERS));
     with_arg(command, option(alloc, "format", "FORMAT", FORMAT))
 }
 
@@ -184,15 +176,6 @@ fn replay<'a>(alloc: Global) -> Made<'a>
     ensures { IfOk result (IsApp replay_app) }
 {
     let command = job(alloc, "replay", REPLAY, REPLAY_STREAMS);
-    with_arg(command, option(alloc, "format", "FORMAT", FORMAT))
-}
-
-fn judge<'a>(alloc: Global) -> Made<'a>
-    ensures { IfOk result (IsApp judge_app) }
-{
-    let command = job(alloc, "judge", JUDGE, JUDGE_STREAMS);
-    let command = with_arg(command, parts(alloc));
-    let command = with_arg(command, workers(alloc, "W", JUDGES));
     with_arg(command, option(alloc, "format", "FORMAT", FORMAT))
 }
 
@@ -209,8 +192,8 @@ fn drive<'a>(alloc: Global) -> Made<'a>
     ensures { IfOk result (IsApp drive_app) }
 {
     let command = job(alloc, "drive", DRIVE, DRIVE_STREAMS);
-    let command = with_arg(command, workers(alloc, "K", DRIVERS));
-    with_arg(command, flag(alloc, "json", JSON))
+    let command = with_arg(command, workers(alloc, DRIVERS));
+    with_arg(command, option(alloc, "format", "FORMAT", REPORT))
 }
 
 // A subcommand with words for people, which may be in colours or JSON.
@@ -277,7 +260,6 @@ fn goal<'a>(alloc: Global) -> Made<'a>
     ensures { IfOk result (IsApp goal_app) }
 {
     let command = goal_of_nodes(alloc);
-    let command = with_arg(command, flag(alloc, "even", EVEN));
     let command = with_arg(command, flag(alloc, "exit-code", EXIT_CODE));
     with_arg(command, option(alloc, "format", "FORMAT", FORMAT))
 }
@@ -318,10 +300,8 @@ pub(crate) fn command<'a>(alloc: Global) -> Result<Command<'a>, AllocError>
     let line = with(line, drive(alloc));
     let line = with(line, job(alloc, "play", PLAY, PLAY_STREAMS));
     let line = with(line, replay(alloc));
-    let line = with(line, judge(alloc));
     let line = with(line, part(alloc));
     let line = with(line, job(alloc, "after", AFTER, AFTER_STREAMS));
-    let line = with(line, job(alloc, "bundle", BUNDLE, BUNDLE_STREAMS));
     let line = with(line, job(alloc, "cert", CERT, CERT_STREAMS));
     let line = with(line, job(alloc, "plan", PLAN, PLAN_STREAMS));
     let line = with(line, job(alloc, "migrate", MIGRATE, MIGRATE_STREAMS));

@@ -15,7 +15,6 @@ pub enum Word {
     Steps,
     Goal,
     Windows,
-    Bundle,
     Cert,
     After,
     Around,
@@ -71,9 +70,6 @@ fn more_of(matches: &ArgMatches) -> Option<Word>
     }
     if matches.subcommand_matches("windows").is_some() {
         return Some(Word::Windows);
-    }
-    if matches.subcommand_matches("bundle").is_some() {
-        return Some(Word::Bundle);
     }
     if matches.subcommand_matches("cert").is_some() {
         return Some(Word::Cert);

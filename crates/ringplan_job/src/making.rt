@@ -137,8 +137,6 @@ pub enum Back {
 pub enum Making {
     /// Why it is refused, or what a yes says.
     Why(Color),
-    /// Ring, plan and certificate in one text.
-    Bundle,
     /// Ring, plan and a certificate that is found, whether or not the bundle has one.
     Cert,
     /// The ring that the plan, or what a history has done of it, leaves.
@@ -155,8 +153,6 @@ pub enum Making {
     Windows(Cut),
     /// A plan that leads to the ring that is wished for.
     Goal(Options, Exit),
-    /// In words how far from even that ring is.
-    Even(Options),
     /// Another plan around nodes that died in the middle of a change, with the history that goes on by it.
     Around(Options, Back),
     /// An object of JSON.

@@ -1,10 +1,9 @@
-//! The jobs of the program over bytes: what comes of a bundle, with its exit status. No job here starts a thread but a check and a judge by workers.
+//! The jobs of the program over bytes: what comes of a bundle, with its exit status. No job here starts a thread but a check by workers.
 #![tactic(auto)]
 
 mod answer;
 mod bundle;
 mod input;
-mod judging;
 mod output;
 mod replaying;
 mod stating;
@@ -16,7 +15,6 @@ pub use bundle::{
 };
 pub use bundle_text::MAX_INPUT;
 pub use input::read_all;
-pub use judging::judge_bundle_by;
 pub use output::write_all;
 pub use replaying::replay_bundle;
 pub use ring_script::{Kind, read_bundle};

@@ -13,11 +13,10 @@ use Rattle.plan_goal.specs.Proposals.{IsProposed}
 use Rattle.plan_lines.specs.Lines.{steps_text}
 use Rattle.plan_lines.specs.MoveLines.{moves_text}
 use Rattle.ringplan_jobs.specs.Answers.{refused_status}
-use Rattle.ringplan_jobs.specs.Verdict.{TextsKeepPromises}
 use Rattle.ringplan_job.specs.declared.making.Exit.TheVariants as exit
 use Rattle.ringplan_job.specs.declared.making.Making.{Making}
 use Rattle.ringplan_job.specs.declared.options.Options.{Options}
-use Rattle.ringplan_job.specs.declared.making.Making.TheVariants.{Why, Bundle, Cert, After, Show, Draw, Steps, Moves, Windows, Goal, Even, Around, State}
+use Rattle.ringplan_job.specs.declared.making.Making.TheVariants.{Why, Cert, After, Show, Draw, Steps, Moves, Windows, Goal, Around, State}
 use Rattle.ringplan_job.specs.declared.making.Color.{Color}
 use Rattle.ringplan_job.specs.declared.making.Statement.{Statement}
 use Rattle.ringplan_job.specs.declared.making.Statement.TheVariants as statements
@@ -28,10 +27,9 @@ use Rattle.plan_around.specs.Around.{IsAround}
 use Rattle.ringplan_people.specs.Studies.{IsStudyOf, HasApproved, IsShown, IsLeftBy, IsLeftNow}
 use Rattle.ringplan_people.specs.Why.{HasKept, IsWhy}
 
--- the text is a first part of the bytes; or it is that of the bytes' ring, of a plan that makes their change, and of its certificate
-pub data IsBundleOf (bytes text : List ℕ) : Type 0 where
-  own : (rest : List ℕ) → bytes ≡ text ++ rest → IsBundleOf bytes text
-  planned : (w : Wanted) (more : List ℕ) → whole_text wanted_at bytes ≡ Ok w → IsProposed w.ring w.change more → text ≡ ring_text w.ring ++ more → IsBundleOf bytes text
+-- the text is that of the bytes' ring, of a plan that makes their change, and of its certificate
+abbrev pub IsBundleOf : List ℕ → List ℕ → Type 0
+IsBundleOf bytes text = (w : Wanted) × (more : List ℕ) × (whole_text wanted_at bytes ≡ Ok w) × IsProposed w.ring w.change more × (text ≡ ring_text w.ring ++ more)
 
 -- the text has a certificate for the ring and the plan with which the bytes begin, or for those of a bundle that is made of their change
 abbrev pub IsCertOf : List ℕ → List ℕ → Type 0
@@ -41,9 +39,8 @@ IsCertOf bytes text = IsCertifiedText bytes text ⊎ ((whole : List ℕ) × IsBu
 abbrev pub OfPlan : (RingValue → List Planned → Type 0) → List ℕ → Type 0
 OfPlan claim bytes = (ring : RingValue) × (plan : List Planned) × IsStudyOf bytes ring plan × IsApproved ring plan × claim ring plan
 
--- the text is what is asked for of the bytes; of a summary and a picture only the plan is promised, or of a summary that the bytes are a ring's; of how even a ring is, nothing
+-- the text is what is asked for of the bytes; of a summary and a picture only the plan is promised, or of a summary that the bytes are a ring's
 abbrev pub IsMade : Making → List ℕ → List ℕ → Type 0
-IsMade Bundle bytes text = TextsKeepPromises text × IsBundleOf bytes text
 IsMade Cert bytes text = IsCertOf bytes text
 IsMade After bytes text = IsLeftNow bytes text ⊎ IsLeftBy bytes text
 IsMade (Show wish) bytes text = IsShown bytes
@@ -52,7 +49,6 @@ IsMade Steps bytes text = OfPlan (λ ring plan. text ≡ steps_text ring plan) b
 IsMade Moves bytes text = OfPlan (λ ring plan. text ≡ moves_text ring plan) bytes
 IsMade (Windows cut) bytes text = OfPlan (λ ring plan. AreAskedOf ring plan cut.only text) bytes
 IsMade (Goal options status) bytes text = IsLed bytes options text
-IsMade (Even options) bytes text = ⊤
 IsMade (Around options back) bytes text = IsAround bytes (map (λ name. name.items) options.dead.items) back text
 IsMade (Why color) bytes text = ⊥
 IsMade (State statement) bytes text = ⊥

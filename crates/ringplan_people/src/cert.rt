@@ -1,24 +1,38 @@
 //! A certificate for a bundle, and why there is none.
 
 ghost use Rattle.std.specs.Prelude.{IfOk};
-ghost use Rattle.ringplan_people.specs.Made.{IsCertOf};
+ghost use Rattle.ringplan_people.specs.Made.{IsBundleOf, IsCertOf};
 
-use crate::bundle::texts_of;
 use crate::why::push_words_of;
+use change_text::read_wanted;
 use helpers::Words;
 use plan_bundles::{Kind, cert_bundle, found_bundle, kind_of, push_excess};
 use ring_names::Refusal;
+use ring_table::write_ring;
+use ringplan_jobs::plan_bundle;
 use std::alloc::Global;
 
 // What is said where the search for a certificate was given up.
 const GIVEN_UP: &[u8; 268] =
     b"refused: the search for fewer chains was given up after 100,000,000 looks\n  Some node has more chains than it may have transfers open. Fewer may be enough, so a certificate may exist.\n  Let copies of that node wait directly for earlier ones: then no search is needed.\n";
 
+// The ring's text, and behind it a plan that makes the change, with its certificate.
+fn planned(alloc: Global, bytes: &[u8]) -> Result<Vec<u8>, Refusal>
+    ensures { IfOk result (λ text. IsBundleOf bytes.now text.items) }
+{
+    let plan = plan_bundle(alloc, bytes)?;
+    // The planner has taken the ring, so it is read again.
+    let wanted = read_wanted(alloc, bytes)?;
+    let mut text = write_ring(alloc, &wanted.ring)?;
+    text.extend_from_slice(plan.as_slice())?;
+    Ok(text)
+}
+
 // A certificate for a bundle with a change: a plan is made first.
 fn cert_of_change(alloc: Global, bytes: &[u8]) -> Result<Vec<u8>, Refusal>
     ensures { IfOk result (λ text. IsCertOf bytes.now text.items) }
 {
-    let text = texts_of(alloc, bytes)?;
+    let text = planned(alloc, bytes)?;
     cert_bundle(alloc, text.as_slice())
 }
 
@@ -35,7 +49,7 @@ pub(crate) fn cert_of(alloc: Global, bytes: &[u8]) -> Result<Vec<u8>, Refusal>
 // A certificate for the plan of a bundle that may have a change: none where there is no plan, or a text is at fault.
 fn found_of(alloc: Global, bytes: &[u8]) -> Result<Option<Vec<u8>>, Refusal> {
     let found = match kind_of(bytes) {
-        Kind::Change => match texts_of(alloc, bytes) {
+        Kind::Change => match planned(alloc, bytes) {
             Ok(text) => found_bundle(alloc, text.as_slice()),
             Err(refusal) => Err(refusal),
         },

@@ -1,8 +1,7 @@
-//! What is made of bundles for people: plans in words and pictures, whole bundles, plans that lead to a ring that is wished for, and the ring that a plan leaves.
+//! What is made of bundles for people: plans in words and pictures, plans that lead to a ring that is wished for, and the ring that a plan leaves.
 #![tactic(auto)]
 
 mod after;
-mod bundle;
 mod cert;
 mod changing;
 mod goal_words;
@@ -19,7 +18,6 @@ mod why;
 mod windows;
 
 pub use after::after_bundle;
-pub use bundle::whole_bundle;
 pub use plan_bundles::{cert_bundle, goal_bundle, wish_bundle};
 pub use reporting::{Report, report_bundle, report_unread};
 pub use show::{draw_bundle, show_bundle};

@@ -7,7 +7,6 @@ ghost use Rattle.ringplan_people.specs.Made.{IsMade, IsMadeWith, IsRefusal, IsRe
 ghost use Rattle.ringplan_people.specs.Why.{IsWhy};
 
 use crate::after::{after_bundle, push_open};
-use crate::bundle::whole_bundle;
 use crate::cert::{cert_of, push_why_none};
 use crate::goal_words::{push_dead_leavers, push_goal_words, push_names, push_shown_limit};
 use crate::show::{draw_bundle, show_bundle};
@@ -17,7 +16,7 @@ use crate::why::{push_words_of, why_bundle};
 use crate::windows::{push_windows_words, windows_bundle};
 use helpers::Words;
 use plan_around::around_bundle;
-use plan_bundles::{front, led_bundle, wish_words};
+use plan_bundles::{front, led_bundle};
 use ring_names::Refusal;
 use ringplan_job::{Color, Exit, Making, Options, Statement};
 use ringplan_jobs::{Answer, answer_of};
@@ -43,7 +42,6 @@ fn make_of(
 {
     match making {
         Making::Why(_) | Making::State(_) => unreachable!(),
-        Making::Bundle => whole_bundle(alloc, bytes),
         Making::Cert => cert_of(alloc, bytes),
         Making::After => after_bundle(alloc, bytes),
         Making::Show(wish) => show_bundle(alloc, bytes, wish),
@@ -52,7 +50,6 @@ fn make_of(
         Making::Moves => moves_bundle(alloc, bytes),
         Making::Windows(cut) => windows_bundle(alloc, bytes, *cut),
         Making::Goal(options, _) => led_bundle(alloc, bytes, options),
-        Making::Even(options) => wish_words(alloc, bytes, options),
         Making::Around(options, back) => {
             around_bundle(alloc, bytes, options.dead.as_slice(), *back, notes)
         }
@@ -167,9 +164,7 @@ pub(crate) fn push_said(
         (Making::Cert, _) => push_why_none(alloc, out, bytes, refusal),
         (Making::After, Refusal::WrongStage(step)) => push_open(alloc, out, bytes, *step),
         (Making::Windows(_), _) => push_windows_words(alloc, out, bytes, refusal),
-        (Making::Goal(options, _) | Making::Even(options), _) => {
-            push_goal_words(alloc, out, bytes, options, refusal)
-        }
+        (Making::Goal(options, _), _) => push_goal_words(alloc, out, bytes, options, refusal),
         (Making::Show(wish), Refusal::TooLarge(_)) => {
             push_shown_limit(alloc, out, bytes, &wish.options, refusal)
         }

@@ -86,7 +86,7 @@ ran_asked job asked told old new result e h = let P : Asked → Type 0 = λ k. R
 -- a check by workers
 pub ran_by : (asked : Asked) (k : ℕ) (told old new : Option (List ℕ)) (found : Result (List ℕ) Refusal) (result : ℕ) → AsksBy asked k
     → (bytes : List ℕ) × Tells told bytes × Finds Check bytes found → PrintsFound old new found result → Ran asked told old new result
-ran_by asked k told old new found result e h prints = ran_found asked Check told old new found result (inr (inl (refl, (k, e)))) h prints
+ran_by asked k told old new found result e h prints = ran_found asked Check told old new found result (inr (refl, (k, e))) h prints
 
 -- what is made for people is printed
 pub ran_report : (asked : Asked) (making : Making) (told old new : Option (List ℕ)) (result : ℕ) → AsksMaking asked making

@@ -3,7 +3,7 @@ use Rattle.std.proofs.Common.{◌≡◌, subst, sym}
 use Rattle.ringplan_command.specs.Command.{Asked, AsksMaking}
 use Rattle.ringplan_command.specs.Makings.{MeansMaking}
 use Rattle.ringplan_job.specs.declared.making.Exit.{Exit}
-use Rattle.ringplan_job.specs.declared.making.Making.TheVariants.{Even, Goal, Show, State}
+use Rattle.ringplan_job.specs.declared.making.Making.TheVariants.{Goal, Show, State}
 use Rattle.ringplan_job.specs.declared.making.Statement.TheVariants as statements
 use Rattle.ringplan_job.specs.declared.making.Wish.{Wish}
 use Rattle.ringplan_job.specs.declared.options.Options.{Options}
@@ -12,9 +12,6 @@ use Rattle.ringplan_run.specs.Run.{unsized, unsized_wish}
 module _ (asked : Asked) where
   pub goal_asked : (options made : Options) (exit : Exit) → unsized made ≡ unsized options → AsksMaking asked (Goal options exit) → AsksMaking asked (Goal made exit)
   goal_asked options made exit same (rows, asks, means) = (rows, asks, subst (λ (o : Options). MeansMaking rows (Goal o exit)) (sym same) means)
-
-  pub even_asked : (options made : Options) → unsized made ≡ unsized options → AsksMaking asked (Even options) → AsksMaking asked (Even made)
-  even_asked options made same (rows, asks, means) = (rows, asks, subst (λ (o : Options). MeansMaking rows (Even o)) (sym same) means)
 
   pub show_asked : (wish made : Wish) → unsized_wish made ≡ unsized_wish wish → AsksMaking asked (Show wish) → AsksMaking asked (Show made)
   show_asked wish made same (rows, asks, means) = (rows, asks, subst (λ (w : Wish). MeansMaking rows (Show w)) (sym same) means)

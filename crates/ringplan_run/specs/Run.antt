@@ -16,7 +16,7 @@ use Rattle.ringplan_command.specs.declared.parts.PartWish.{PartWish}
 use Rattle.ringplan_command.specs.declared.word.Guide.{Guide}
 use Rattle.ringplan_job.specs.declared.job.Job.{Job}
 use Rattle.ringplan_job.specs.declared.making.Making.{Making}
-use Rattle.ringplan_job.specs.declared.making.Making.TheVariants.{Even, Goal, Show, State}
+use Rattle.ringplan_job.specs.declared.making.Making.TheVariants.{Goal, Show, State}
 use Rattle.ringplan_job.specs.declared.making.Statement.{Statement}
 use Rattle.ringplan_job.specs.declared.making.Wish.{Wish}
 use Rattle.ringplan_job.specs.declared.options.Options.{Options}
@@ -40,7 +40,6 @@ AreNamedBy statement = ⊥
 
 abbrev pub NamesSizes : Making → Type 0
 NamesSizes (Goal options exit) = ⊤
-NamesSizes (Even options) = ⊤
 NamesSizes (Show wish) = ⊤
 NamesSizes (State statement) = AreNamedBy statement
 NamesSizes making = ⊥
@@ -63,7 +62,6 @@ StatesSizes statement = ⊤
 
 abbrev pub HasSizes : Making → Type 0
 HasSizes (Goal options exit) = HasSizesOf options
-HasSizes (Even options) = HasSizesOf options
 HasSizes (Show wish) = HasSizesOf wish.options
 HasSizes (State statement) = StatesSizes statement
 HasSizes making = ⊤

@@ -11,18 +11,16 @@ ghost use Rattle.ringplan_jobs.specs.Outcomes.{Finds};
 ghost use Rattle.ringplan_run.specs.Run.{FindsDrive, HasSizes, IsWritten, PrintsFound, PrintsStated, Reports, Runs, RunsTo, Shows, ShowsReport, told_by};
 ghost use Rattle.ringplan_job.specs.declared.job.Job.{Job};
 ghost use Rattle.ringplan_job.specs.declared.making.Making.{Making};
-ghost use Rattle.ringplan_job.specs.declared.job.Job.TheVariants.{Check, Replay};
+ghost use Rattle.ringplan_job.specs.declared.job.Job.TheVariants.{Check};
 
 use crate::driving::drive_bundle;
 use crate::files::{Limit, open, save, say};
 use crate::parting::print_part;
 use crate::sizes::with_sizes;
 use ring_names::Refusal;
-use ringplan_command::{CommandLine, Files as Named, Form, NO_WORDS, Request, Shares, parse};
+use ringplan_command::{CommandLine, Files as Named, Form, NO_WORDS, Request, parse};
 use ringplan_job::{Making, Screen};
-use ringplan_jobs::{
-    Job, answer_bytes, answer_check, answer_of, judge_bundle_by, read_all, stated_of, write_all,
-};
+use ringplan_jobs::{Job, answer_bytes, answer_check, answer_of, read_all, stated_of, write_all};
 use ringplan_people::{Report, report_bundle, report_unread};
 use std::alloc::Global;
 use std::convert::AsStr;
@@ -46,10 +44,10 @@ const STEPS: u8 = 4;
 /// Runs a command line, whose first word is the program's name, and returns the exit status: 0 for what was printed, for yes and for help, 1 for a plan
 /// that is refused or that there is none of, for a drive that broke off and for a history that is no run, 2 for a text or a command line that is
 /// refused, 3 where memory, an input or an output failed, and 4 for a plan with steps where `goal --exit-code` asks for that. `plan`, `check`, `play`, `drive`,
-/// `replay`, `judge` and `migrate` print refusals of a bundle on the output, the other commands on standard error. What is wrong with a command line goes to standard error.
+/// `replay` and `migrate` print refusals of a bundle on the output, the other commands on standard error. What is wrong with a command line goes to standard error.
 ///
 /// Words for people have colours where the screen has them, or the line says so. Where the line names a file, that is read in place of the input; where it names one with `-o`, what would be printed with status 0 or 4 is written there. It
-/// waits for the threads that `drive`, `judge` and `check --workers` ask for; every other line that names a job is done by `run_alone`.
+/// waits for the threads that `drive` and `check --workers` ask for; every other line that names a job is done by `run_alone`.
 pub fn run<
     RT: AllocGlobal + Files + Eprint + Threads + Wait + Sync,
     S: AsStr,
@@ -149,14 +147,6 @@ fn run_request<RT: AllocGlobal + Files + Eprint + Threads + Wait + Sync, R: Read
         }
         Request::StateBy(workers) => {
             let found = answer_input_by(rt, alloc, workers, input);
-            state(alloc, found, output)
-        }
-        Request::Judge(shares) => {
-            let found = judge_input(rt, alloc, shares, input);
-            tell(alloc, found, output)
-        }
-        Request::StateJudge(shares) => {
-            let found = judge_input(rt, alloc, shares, input);
             state(alloc, found, output)
         }
         Request::Part(wish) => print_part(rt, wish, input, output),
@@ -310,19 +300,6 @@ fn answer_input_by<RT: Threads + Wait + Sync, R: Read + Drop>(
 {
     let bytes = read_all(alloc, input)?;
     answer_check(rt, alloc, workers, bytes.as_slice())
-}
-
-// The text that a judge makes of the whole input.
-fn judge_input<RT: Threads + Sync, R: Read + Drop>(
-    rt: &RT,
-    alloc: Global,
-    shares: Shares,
-    input: &mut R,
-) -> Result<Vec<u8>, Refusal>
-    ensures { (bytes : List ℕ) × Tells (R.remaining input.old) bytes × Finds Replay bytes (texts_of result) }
-{
-    let bytes = read_all(alloc, input)?;
-    judge_bundle_by(rt, alloc, shares.parts, shares.workers, bytes.as_slice())
 }
 
 // The text that a drive makes of the whole input.

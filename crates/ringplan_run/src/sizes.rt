@@ -110,7 +110,6 @@ pub(crate) fn with_sizes<RT: AllocGlobal + Files + Eprint>(
     match making {
         Making::Goal(options, exit) => Ok(Making::Goal(read_options(rt, options)?, exit)),
         Making::Show(wish) => Ok(Making::Show(wish_with_sizes(rt, wish)?)),
-        Making::Even(options) => Ok(Making::Even(read_options(rt, options)?)),
         Making::State(statement) => Ok(Making::State(stated_with_sizes(rt, statement)?)),
         other => Ok(other),
     }

@@ -32,4 +32,3 @@ pub use ring::ring_summary;
 pub use scene::Scene;
 pub use shown::{AllShown, Shown};
 pub use volumes::Volumes;
-pub use writing::push_long;

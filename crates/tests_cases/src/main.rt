@@ -2,8 +2,7 @@
 //! `check`, `migrate`, `play`, `plan`, `drive` and `replay` among them say which subcommand is meant from there on, at first `check`; `report` means a drive
 //! whose report is printed, and `race` one by three workers, of which the first line is printed, since the others are left to chance. Of a bundle that is
 //! accepted, no first part may be: how many are is printed where it is not none. A check is also made by 1, 3 and 64 workers: how many of them
-//! say otherwise is printed where it is not none. What is replayed is also judged in 1, 3 and 64 parts by 1 and by 4 workers, in both forms: how often
-//! the answer is another one is printed where it is not none. Of each play the history of its answered events is replayed, and that history with a fault at
+//! say otherwise is printed where it is not none. Of each play the history of its answered events is replayed, and that history with a fault at
 //! each place: of how many a replay says otherwise than the play does is printed where it is not none. Of each drive the history that it prints is
 //! replayed, and it is said where a replay does not say yes to it. The words of `people.rt` ask for what is printed for people.
 #![tactic(auto)]
@@ -107,7 +106,7 @@ fn told<RT: Runtime + AllocGlobal + Threads + Wait + Sync>(
     path: &str,
 ) -> io::Result<Answer> {
     match asked {
-        Asked::Report => said(rt, &["ringplan", "drive", "--json"], path),
+        Asked::Report => said(rt, &["ringplan", "drive", "--format", "json"], path),
         Asked::Race => said(rt, &["ringplan", "drive", "--workers", "3"], path),
         _ => said(rt, &["ringplan", subcommand(asked)], path),
     }
@@ -133,7 +132,6 @@ fn show<RT: Runtime + AllocGlobal + Threads + Wait + Sync>(
     }
     match asked {
         Asked::Check => check_workers(rt, path.as_str(), &said),
-        Asked::Replay => check_judges(rt, path.as_str()),
         Asked::Play if status == 0 => check_histories(rt, path.as_str(), text),
         Asked::Drive | Asked::Race if status == 0 => check_drive(rt, path.as_str(), text),
         _ => Ok(()),
@@ -193,38 +191,6 @@ fn check_workers<RT: Runtime + AllocGlobal + Threads + Wait + Sync>(
     }
     if others > 0 {
         println!(rt; "{others} numbers of workers say otherwise")?;
-    }
-    Ok(())
-}
-
-// Says how often a judge says otherwise than the replay, if it ever does.
-fn check_judges<RT: Runtime + AllocGlobal + Threads + Wait + Sync>(
-    rt: &RT,
-    path: &str,
-) -> io::Result<()> {
-    let mut others = 0u32;
-    for format in ["text", "json"] {
-        let wanted = said(rt, &["ringplan", "replay", "--format", format], path)?;
-        for parts in ["1", "3", "64"] {
-            for workers in ["1", "4"] {
-                let words = [
-                    "ringplan",
-                    "judge",
-                    "--parts",
-                    parts,
-                    "--workers",
-                    workers,
-                    "--format",
-                    format,
-                ];
-                if said(rt, &words, path)? != wanted {
-                    others = others.saturating_add(1);
-                }
-            }
-        }
-    }
-    if others > 0 {
-        println!(rt; "{others} judges say otherwise")?;
     }
     Ok(())
 }

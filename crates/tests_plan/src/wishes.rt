@@ -3,8 +3,8 @@
 use crate::ring_texts::{push_nodes, push_numbered, push_owners};
 use crate::rings::ring_from;
 use crate::same::{holds, same};
-use plan_maker::{Wish, Wished, wished};
-use ring_names::{NodeId, Refusal};
+use plan_maker::{Wish, wished};
+use ring_names::{Listed, NodeId, Refusal};
 use ring_table::Ring;
 use std::alloc::{AllocError, Global};
 use std::process::Abort;
@@ -47,21 +47,63 @@ fn twelve(alloc: Global) -> Result<Ring, Refusal> {
 
 // ---- what wishes come to
 
-// How many slots the node owns in the end.
-fn load(wished: &Wished, node: usize) -> u32 {
-    match wished.loads.get(node) {
-        Some(load) => *load,
-        None => 0,
+// How many slots have another owner than before.
+fn moved(ring: &Ring, rows: &[Listed<NodeId>]) -> u32 {
+    let mut moved = 0u32;
+    for (old, new) in ring.rows().iter().zip(rows.iter()) {
+        for (before, after) in old.as_slice().iter().zip(new.as_slice().iter()) {
+            if before != after {
+                moved = moved.saturating_add(1);
+            }
+        }
     }
+    moved
+}
+
+// Whether two of the owners are in one rack.
+fn share(racks: &[u32], row: &[NodeId]) -> bool {
+    for (place, one) in row.iter().enumerate() {
+        for other in row.iter().skip(place.saturating_add(1)) {
+            let rack = racks.get(one.0 as usize);
+            if rack.is_some() && rack == racks.get(other.0 as usize) {
+                return true;
+            }
+        }
+    }
+    false
+}
+
+// In how many partitions two owners are in one rack.
+fn shared(racks: &[u32], rows: &[Listed<NodeId>]) -> u32 {
+    let mut shared = 0u32;
+    for row in rows {
+        if share(racks, row.as_slice()) {
+            shared = shared.saturating_add(1);
+        }
+    }
+    shared
+}
+
+// How many slots the node owns.
+fn load(rows: &[Listed<NodeId>], node: NodeId) -> u32 {
+    let mut load = 0u32;
+    for row in rows {
+        if row.as_slice().contains(&node) {
+            load = load.saturating_add(1);
+        }
+    }
+    load
 }
 
 // The fewest and the most slots of those that are members in the end.
-fn least_and_most(wished: &Wished) -> (u32, u32) {
+fn least_and_most(ring: &Ring, wish: &Wish, rows: &[Listed<NodeId>]) -> (u32, u32) {
     let (mut least, mut most) = (u32::MAX, 0u32);
-    for node in 0..wished.weights.len() {
-        if wished.weights.get(node) != Some(&0) {
-            least = least.min(load(wished, node));
-            most = most.max(load(wished, node));
+    for number in 0..14u32 {
+        let node = NodeId(number);
+        let is_member = ring.is_member(node) || wish.joins.contains(&node);
+        if is_member && !wish.leaves.contains(&node) {
+            least = least.min(load(rows, node));
+            most = most.max(load(rows, node));
         }
     }
     (least, most)
@@ -77,8 +119,9 @@ fn comes_to<RT: AllocGlobal + Abort>(
 ) -> Result<(), Fail> {
     let ring = twelve(rt.alloc())?;
     let found = wished(rt.alloc(), &ring, wish)?;
-    same!(rt; (found.moves, found.shared), moved_and_shared);
-    same!(rt; least_and_most(&found), spread);
+    let rows = found.as_slice();
+    same!(rt; (moved(&ring, rows), shared(wish.racks, rows)), moved_and_shared);
+    same!(rt; least_and_most(&ring, wish, rows), spread);
     Ok(())
 }
 

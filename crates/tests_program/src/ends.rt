@@ -87,7 +87,6 @@ fn each_read_fails(rt: HostRuntime) {
     reads_fail(&rt, "check", CHECK);
     reads_fail(&rt, "play", PLAY);
     reads_fail(&rt, "replay", REPLAY);
-    reads_fail(&rt, "judge", REPLAY);
     reads_fail(&rt, "drive", DRIVE);
     reads_fail(&rt, "migrate", CHECK);
 }
@@ -185,7 +184,6 @@ fn each_write_fails(rt: HostRuntime) {
     ends_fail(&rt, "check", CHECK);
     ends_fail(&rt, "play", PLAY);
     ends_fail(&rt, "replay", REPLAY);
-    ends_fail(&rt, "judge", REPLAY);
     ends_fail(&rt, "drive", DRIVE);
     ends_fail(&rt, "migrate", CHECK);
 }

@@ -66,7 +66,7 @@ fn helps_printed(rt: HostRuntime) -> Result<(), Fail> {
     told(&rt, "check", "--help", 0, "Exit status")?;
     told(&rt, "check", "-h", 0, "--workers <K>")?;
     told(&rt, "drive", "-h", 0, "--workers <K>")?;
-    told(&rt, "drive", "--help", 0, "--json")?;
+    told(&rt, "drive", "--help", 0, "--format json")?;
     told(&rt, "play", "--help", 0, "for each event")?;
     told(&rt, "plan", "--help", 0, "change 1")?;
     told(&rt, "play", "--help", 0, "Example: ringplan play examples/")?;
@@ -93,7 +93,11 @@ fn mistakes_told_on_standard_error(rt: HostRuntime) {
     silent(&rt, &["ringplan", "verify"], 2);
     silent(&rt, &["ringplan", "check", "--fast"], 2);
     silent(&rt, &["ringplan", "check", "one", "other"], 2);
-    silent(&rt, &["ringplan", "check", "--json"], 2);
+    silent(&rt, &["ringplan", "judge"], 2);
+    silent(&rt, &["ringplan", "bundle"], 2);
+    silent(&rt, &["ringplan", "goal", "--even"], 2);
+    silent(&rt, &["ringplan", "drive", "--json"], 2);
+    silent(&rt, &["ringplan", "drive", "--format", "lines"], 2);
     silent(&rt, &["ringplan", "check", "--workers"], 2);
     silent(&rt, &["ringplan", "check", "--workers", "0"], 2);
     silent(&rt, &["ringplan", "check", "--workers=65"], 2);

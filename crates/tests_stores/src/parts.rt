@@ -1,17 +1,15 @@
-//! Histories that are cut into their partitions: the parts are runs exactly where the whole is one, and are judged as the whole is.
+//! Histories that are cut into their partitions: the parts are runs exactly if the whole is one.
 
-use crate::answering::{MOVE, STAND_IN, approved};
-use history_judge::judge;
+use crate::answering::{STAND_IN, approved};
 use history_parts::part;
 use history_text::read_history;
 use plan_check::Approved;
 use plan_runs::Entry;
 use ring_core::replay;
-use ring_names::{Listed, Names, NodeId, Refusal};
+use ring_names::{Names, Refusal};
 use std::alloc::Global;
 use std::process::Abort;
 use std::test::Fail;
-use std::thread::Threads;
 
 // Puts of keys of partitions 0 and 2, of which one is hinted and handed off, and gets of both; a put knows a get of its key.
 const RUN: &str = "\
@@ -60,30 +58,6 @@ const ENDS: [&str; 11] = [
     "endget 1 = reply 0\n",
     "handoff d 9 0 = ok\n",
     "handoff d 0 2 = ok\n",
-];
-
-// A hint of partition 0 at node d, which is to mirror a slot of it.
-const HINTED: &str = "\
-put w1 a x31 = put 0
-put w1 b x32 = put 1
-do 0 = ok
-down a = ok
-hint 0 0 d = ticket 0 0 0
-write 1 1 = ticket 2 1 0
-";
-
-// An entry more each, or some. In the first the part of partition 0 is refused the step, and in the others the reply is wrong.
-const STEPS: [&str; 10] = [
-    "do 1 = put 2\n",
-    "do 1 = ok\n",
-    "do 0 = ok\n",
-    "do 9 = ok\n",
-    "open 2 = ok\n",
-    "ack 0 = ok\nack 9 = ok\n",
-    "write 1 2 = ticket 2 2 1\nack 9 = ok\n",
-    "up a = ok\nhandoff d 0 0 = ok\ndo 1 = ok\n",
-    "up a = ok\nhandoff d 0 0 = ok\ndo 1 = ok\nopen 2 = ok\nchunk 2 0 = ok\nclose 2 = ok\n",
-    "up a = ok\nhandoff d 0 0 = ok\ndo 1 = ok\nopen 2 = ok\ndown b = ok\nchunk 2 0 = get 0\n",
 ];
 
 // Whether the entries are a run.
@@ -160,79 +134,4 @@ fn all_decided<RT: AllocGlobal + Abort>(rt: &RT, approved: &Approved) -> Result<
 fn parts_decide(rt: HostRuntime) -> Result<(), Fail> {
     let approved = approved(rt.alloc(), &STAND_IN)?;
     all_decided(&rt, &approved)
-}
-
-// What a replay of the whole answers.
-fn replayed<RT: AllocGlobal + Abort>(
-    rt: &RT,
-    approved: &Approved,
-    entries: &[Entry],
-) -> Result<Vec<Listed<NodeId>>, Refusal> {
-    assert!(rt; entries.len() <= 1000);
-    match replay(rt.alloc(), approved, entries) {
-        Ok(world) => world.table(),
-        Err(refusal) => Err(refusal),
-    }
-}
-
-// Both have the same owners, or are refused alike.
-fn are_alike<RT: Abort>(
-    rt: &RT,
-    found: &Result<Vec<Listed<NodeId>>, Refusal>,
-    wanted: &Result<Vec<Listed<NodeId>>, Refusal>,
-) {
-    match (found, wanted) {
-        (Ok(found), Ok(wanted)) => {
-            assert_eq!(rt; found.len(), wanted.len());
-            for (row, other) in found.iter().zip(wanted.iter()) {
-                assert_eq!(rt; row.as_slice(), other.as_slice());
-            }
-        }
-        (Err(found), Err(wanted)) => assert_eq!(rt; found, wanted),
-        (_, _) => assert!(rt; false),
-    }
-}
-
-// The parts are judged as the whole is replayed, however many there are.
-fn judged<RT: AllocGlobal + Threads + Sync + Abort>(
-    rt: &RT,
-    approved: &Approved,
-    first: &str,
-    more: &str,
-) -> Result<(), Fail> {
-    let entries = entries_of(rt.alloc(), approved, first, more)?;
-    let wanted = replayed(rt, approved, entries.as_slice());
-    assert!(rt; entries.len() <= 1000);
-    for parts in [0, 1, 2, 3, 64] {
-        for workers in [0, 1, 2, 64] {
-            let found = judge(rt, rt.alloc(), approved, parts, workers, entries.as_slice());
-            are_alike(rt, &found, &wanted);
-        }
-    }
-    Ok(())
-}
-
-fn all_judged<RT: AllocGlobal + Threads + Sync + Abort>(
-    rt: &RT,
-    approved: &Approved,
-    first: &str,
-    more: &[&str],
-) -> Result<(), Fail> {
-    for more in more {
-        judged(rt, approved, first, more)?;
-    }
-    Ok(())
-}
-
-#[test]
-fn parts_are_judged_as_the_whole(rt: HostRuntime) -> Result<(), Fail> {
-    let approved = approved(rt.alloc(), &STAND_IN)?;
-    all_judged(&rt, &approved, RUN, &GOES_ON)?;
-    all_judged(&rt, &approved, RUN, &ENDS)
-}
-
-#[test]
-fn the_greatest_number_is_the_wholes(rt: HostRuntime) -> Result<(), Fail> {
-    let approved = approved(rt.alloc(), &MOVE)?;
-    all_judged(&rt, &approved, HINTED, &STEPS)
 }

@@ -19,7 +19,7 @@ returns-in-Unnamed c =
     let means = subst (λ (o : Option (List ℕ)). MeansFormat o c.format_of-format.result) json c.format_of-format.ensures in
     let none = named ∙ c.in-Unnamed.ensures in
     formed (asked_by [] sub) (format_named sub) c.format_of-format.result (Do Check) (State Check) c.in_format.result means (none_given sub c.requires none) (none_stated sub c.requires none)
-    (λ text is other. bad_form sub (to_do Check) text c.requires (λ bad. absurd cc) is other) c.in_format.ensures
+    (λ text is other. bad_form sub (to_do Check) text c.requires is other) c.in_format.ensures
 
 pub returns-in-Many : goal.returns-in-Many
 returns-in-Many c =
@@ -32,7 +32,7 @@ returns-in-Many c =
     let some = named ∙ read.1 in
     formed (asked_by [] sub) (format_named sub) c.format_of-format.result (CheckBy c.in-Many.workers) (StateBy c.in-Many.workers) c.in_format-in-Many.result means
     (λ is. (read.0, some_given sub read.0 c.requires some is, read.2)) (λ is. (read.0, some_stated sub read.0 c.requires some is, read.2))
-    (λ text is other. bad_form sub (to_do Check) text c.requires (λ bad. absurd cc) is other) c.in_format-in-Many.ensures
+    (λ text is other. bad_form sub (to_do Check) text c.requires is other) c.in_format-in-Many.ensures
 
 pub returns-in-NoNumber : goal.returns-in-NoNumber
 returns-in-NoNumber c =

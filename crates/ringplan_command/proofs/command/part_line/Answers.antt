@@ -16,5 +16,5 @@ returns-in-None c =
     let sub = subcommand_rows_of c.args.matches.now in
     let same = texts_same sub (found_of c.in-Some.options.now) c.in-Some.ensures.rows in
     refused_line (asked_by [] sub) c.mistaken.result
-    (inr (inr (inr (inr (to_part (part_texts sub), part_asked sub c.requires, λ wish means. c.in-None.ensures wish (subst (λ (t : PartTexts). MeansPart t wish) (sym same) means))))))
+    (inr (inr (inr (to_part (part_texts sub), part_asked sub c.requires, λ wish means. c.in-None.ensures wish (subst (λ (t : PartTexts). MeansPart t wish) (sym same) means)))))
     c.mistaken.ensures.away

@@ -15,4 +15,4 @@ returns c =
     let json : but_text (first_of (codes "format") (rows_of found)) ≡ format_named sub = sym (format_there sub (rows_of found) c.in-Some.ensures.rows) in
     let means = subst (λ (o : Option (List ℕ)). MeansFormat o c.format_of-format.result) json c.format_of-format.ensures in
     formed (asked_by [] sub) (format_named sub) c.format_of-format.result (Do Replay) (State Replay) c.in_format.result means (replay_given sub c.requires) (replay_stated sub c.requires)
-    (λ text is other. bad_form sub (to_do Replay) text c.requires (λ bad. absurd cc) is other) c.in_format.ensures
+    (λ text is other. bad_form sub (to_do Replay) text c.requires is other) c.in_format.ensures

@@ -7,4 +7,4 @@ pub returns : goal.returns
 returns c =
     let whole = c.in_ok-text in
     IfOk-weaker c.cert_bundle.result _ _
-    (λ text is. inr (whole.text.items, whole.ensures.whose, subst (λ (bytes : List ℕ). IsCertifiedText bytes text.items) c.as_slice.ensures.value is)) c.cert_bundle.ensures.certified
+    (λ text is. inr (whole.text.items, whole.ensures, subst (λ (bytes : List ℕ). IsCertifiedText bytes text.items) c.as_slice.ensures.value is)) c.cert_bundle.ensures.certified

@@ -1,5 +1,5 @@
 use Rattle.std.proofs.Common.{rules, [], subst, refl, inl, inr}
-use Rattle.ringplan_job.specs.declared.job.Job.TheVariants.{Check, Replay}
+use Rattle.ringplan_job.specs.declared.job.Job.TheVariants.{Check}
 use Rattle.ringplan_jobs.specs.Answers.{texts_of}
 use Rattle.ringplan_command.specs.Command.{Answers}
 use Rattle.ringplan_command.specs.declared.command.Request.{Request}
@@ -26,22 +26,8 @@ returns-in-State g c = λ asked h.
 pub returns-in-StateBy : goal.returns-in-StateBy
 returns-in-StateBy g c = λ asked h.
     let asks = subst (λ (r : Request). Answers asked r) c.in-StateBy.is h in
-    ran_stated asked Check (g.R.Read.remaining c.args.input.now) _ _ (texts_of c.answer_input_by-found-in-StateBy.result) c.state-in-StateBy.result (inr (inl (refl, (c.in-StateBy.workers, asks))))
+    ran_stated asked Check (g.R.Read.remaining c.args.input.now) _ _ (texts_of c.answer_input_by-found-in-StateBy.result) c.state-in-StateBy.result (inr (refl, (c.in-StateBy.workers, asks)))
     c.answer_input_by-found-in-StateBy.ensures c.state-in-StateBy.ensures
-
-pub returns-in-Judge : goal.returns-in-Judge
-returns-in-Judge g c = λ asked h.
-    let asks = subst (λ (r : Request). Answers asked r) c.in-Judge.is h in
-    let shares = c.in-Judge.shares in
-    ran_found asked Replay (g.R.Read.remaining c.args.input.now) _ _ (texts_of c.judge_input-found.result) c.tell-in-Judge.result (inr (inr (refl, (shares.parts, shares.workers, asks))))
-    c.judge_input-found.ensures c.tell-in-Judge.ensures
-
-pub returns-in-StateJudge : goal.returns-in-StateJudge
-returns-in-StateJudge g c = λ asked h.
-    let asks = subst (λ (r : Request). Answers asked r) c.in-StateJudge.is h in
-    let shares = c.in-StateJudge.shares in
-    ran_stated asked Replay (g.R.Read.remaining c.args.input.now) _ _ (texts_of c.judge_input-found-in-StateJudge.result) c.state-in-StateJudge.result (inr (inr (refl, (shares.parts, shares.workers, asks))))
-    c.judge_input-found-in-StateJudge.ensures c.state-in-StateJudge.ensures
 
 pub print_part-requires : goal.print_part-requires
 print_part-requires g c = asked_choice c.requires.0 c.in-Part.wish (subst (λ (r : Request). Answers c.requires.0 r) c.in-Part.is c.requires.1)

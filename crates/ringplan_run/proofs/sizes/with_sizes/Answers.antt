@@ -1,7 +1,7 @@
 use Rattle.std.proofs.Common.{subst}
 use Rattle.ringplan_command.specs.Command.{AsksMaking}
 use Rattle.ringplan_job.specs.declared.making.Making.{Making}
-use Rattle.ringplan_run.proofs.Sized.{even_asked, goal_asked, show_asked}
+use Rattle.ringplan_run.proofs.Sized.{goal_asked, show_asked}
 use Rattle.ringplan_run.proofs.sizes.with_sizes.Goals as goal
 
 pub returns-in_ok-read_options-in-Goal-clause-same : goal.returns-in_ok-read_options-in-Goal-clause-same
@@ -13,11 +13,6 @@ pub returns-in_ok-wish_with_sizes-in-Show-clause-same : goal.returns-in_ok-wish_
 returns-in_ok-wish_with_sizes-in-Show-clause-same g c = λ asked h.
     let read = c.in_ok-wish_with_sizes-in-Show in
     show_asked asked c.in-Show.wish read.field-0 read.ensures.same (subst (λ (m : Making). AsksMaking asked m) c.in-Show.is h)
-
-pub returns-in_ok-read_options-in-Even-clause-same : goal.returns-in_ok-read_options-in-Even-clause-same
-returns-in_ok-read_options-in-Even-clause-same g c = λ asked h.
-    let read = c.in_ok-read_options-in-Even in
-    even_asked asked c.in-Even.options read.field-0 read.ensures.same (subst (λ (m : Making). AsksMaking asked m) c.in-Even.is h)
 
 pub returns-in_ok-stated_with_sizes-in-State-clause-same : goal.returns-in_ok-stated_with_sizes-in-State-clause-same
 returns-in_ok-stated_with_sizes-in-State-clause-same g c = λ asked h.
