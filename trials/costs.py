@@ -123,7 +123,7 @@ def families():
             yield words, name, made
     yield ["plan"], "a tenth of the nodes", [lambda q=q: members(102, q) for q in doubled(512, 4096)]
     yield ["plan"], "half of the nodes", [lambda q=q: members(512, q) for q in doubled(512, 4096)]
-    for words in (["why"], ["show"], ["draw"], ["steps"], ["steps", "--moves"], ["cert"], ["bundle"], ["after"], ["windows", "--rounds", "1"], ["windows", "--rounds", "64"]):
+    for words in (["why"], ["show"], ["draw"], ["steps"], ["steps", "--moves"], ["cert"], ["after"], ["windows", "--rounds", "1"], ["windows", "--rounds", "64"]):
         for name, made in checks.items():
             yield [*words], name, made
     for name, made in refused().items():

@@ -20,7 +20,7 @@ CASES = [
     (["replay"], "replay_a_move"),
     (["drive"], "drive_a_put_and_a_get"),
     (["drive", "--workers", "3"], "drive_a_move_by_three"),
-    (["drive", "--json"], "drive_one_step"),
+    (["drive", "--format", "json"], "drive_one_step"),
     (["migrate"], "move_one_slot"),
 ]
 

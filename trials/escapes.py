@@ -60,7 +60,6 @@ PLAIN = (
     "draw",
     "draw --map",
     "goal",
-    "goal --even",
     "goal --dead d",
     "around --dead b",
     "around --dead d --back",
@@ -68,20 +67,18 @@ PLAIN = (
     "steps --moves",
     "windows --rounds 1",
     "after",
-    "bundle",
     "cert",
     "plan",
     "migrate",
     "play",
     "drive",
-    "drive --json",
+    "drive --format json",
     "replay",
-    "judge --parts 2",
     "part --of 2 --part 0",
     "part --of 2 --part 1 --map 0",
 )
 COLOURED = ("why", "show --all")
-STATED = ("check", "why", "show", "goal", "replay", "judge")
+STATED = ("check", "why", "show", "goal", "replay")
 COLOUR = re.compile(rb"\x1b\[[0-9;]*m")
 
 
@@ -184,7 +181,6 @@ def sizes(draw: random.Random) -> Iterator[str]:
             for words in (
                 "goal",
                 "goal --format json",
-                "goal --even",
                 "show",
                 "show --format json",
             ):

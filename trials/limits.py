@@ -193,9 +193,6 @@ def limits():
     said = "error: invalid value '%d' for '--workers <K>'"
     yield ("workers of a check, 64", (["check", "--workers", "64"], text(lines), "yes"), (["check", "--workers", "65"], text(lines), said % 65))
     yield ("workers of a check, 1 at least", (["check", "--workers", "1"], text(lines), "yes"), (["check", "--workers", "0"], text(lines), said % 0))
-    for option, most in (("--parts <K>", 4096), ("--workers <W>", 64)):
-        word = option.split()[0]
-        yield (f"{word} of a judge, {most}", (["judge", word, str(most)], text(lines + ["history 1", "end"]), "yes"), (["judge", word, str(most + 1)], text(lines + ["history 1", "end"]), f"error: invalid value '{most + 1}' for '{option}'"))
     yield ("workers of a drive, 64", (["drive", "--workers", "64"], text(lines + script_of([])), "yes"),
            (["drive", "--workers", "65"], text(lines + script_of([])), said % 65))
     yield "bytes of a bundle, 67,108,864", (CHECK, of_bytes(BUNDLE), "yes"), (CHECK, of_bytes(BUNDLE + 1), "no 2 0")
@@ -226,9 +223,9 @@ def on_a_small_stack():
     example = lambda name: open(f"{TOP}/examples/{name}.bundle", "rb").read()
     change, move, begun, run = example("plan_replace"), example("move_one_slot"), example("replay_a_move"), example("drive_a_move_by_three")
     for words, bundle in ([(["--version"], b""), (["--help"], b""), (["man"], b""), (["completions", "bash"], b""), (["check", "--workers"], b"")]
-                          + [(words.split(), change) for words in ("goal", "goal --even", "goal --dead b", "goal --format json", "plan", "bundle", "show --all", "draw", "why")]
+                          + [(words.split(), change) for words in ("goal", "goal --dead b", "goal --format json", "plan", "show --all", "draw", "why")]
                           + [(words.split(), move) for words in ("check", "check --workers 4", "check --format json", "show --format json", "draw", "steps", "steps --moves", "windows --rounds 1", "cert", "why", "migrate")]
-                          + [(words.split(), begun) for words in ("replay", "judge --parts 4 --workers 4", "part --of 2 --part 0", "after", "around --dead b --back", "why --format json")]
+                          + [(words.split(), begun) for words in ("replay", "part --of 2 --part 0", "after", "around --dead b --back", "why --format json")]
                           + [(["drive", "--workers", "1"], run)]):
         asked = lambda size: subprocess.run([RUN, *words], input=bundle, capture_output=True, env={}, timeout=60, preexec_fn=lambda: resource.setrlimit(resource.RLIMIT_STACK, (size, size)))
         small, large = asked(STACK), asked(1 << 23)
@@ -248,7 +245,7 @@ def main():
         print("%-52s %s: %-18r past it: %r" % (name, words[0], yes.split("\n")[-2 if "\n" in yes else -1], no) if well else "%s FAILED" % name, flush=True)
         tried, failed = tried + 1, failed + (not well)
     bundle = of_bytes(BUNDLE + 1)
-    for words in (["plan"], ["check"], ["check", "--workers", "3"], ["play"], ["replay"], ["judge"], ["drive"], ["migrate"]):
+    for words in (["plan"], ["check"], ["check", "--workers", "3"], ["play"], ["replay"], ["drive"], ["migrate"]):
         made = Measured(words, bundle)
         well = made.front == b"no 2 0\n" and made.status == 2 and made.wall <= 1 and made.memory <= 140e6
         print("a byte too many for %-17s %sno 2 0 in %.2f s and %d MB" % (" ".join(words) + ":", "" if well else "FAILED: ", made.wall, made.memory / 1e6)

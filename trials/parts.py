@@ -1,12 +1,11 @@
 #!/usr/bin/env python3
-"""Tries `ringplan judge` and `ringplan part` from outside; it wants the program as it is built, and Debian's package `parallel`. `trials/parts.py COUNT` tries so many random histories, else 100.
+"""Tries `ringplan part` from outside; it wants the program as it is built, and Debian's package `parallel`. `trials/parts.py COUNT` tries so many random histories, else 100.
 
 Histories: plays of random changes of rings of 2 to 16 partitions, drawn from fixed seeds, with puts that know gets, hints, handoffs, aborted copies and lost stores. Each is judged as it is, and with one entry lost,
 doubled, moved, exchanged with another, or with another number, node or reply, or with a node down.
 
-Owed: `judge` by 1, 3 and 64 parts prints what `replay` prints, byte for byte, and ends with its status. A cut of this trial's own makes the histories of three parts: the first entry that `replay` refuses in any of
-them, counted in the whole, and the greatest number of those that are refused there, is what it refuses of the whole. `part` prints the bundles of that cut, byte for byte, for parts modulo a number and for ranges of
-partitions, and `part --map` the places. So it is where GNU parallel judges the parts of a history on two machines, as it thinks: a script in the place of `ssh` runs the commands here.
+Owed: a cut of this trial's own makes the histories of three parts: the first entry that `replay` refuses in any of them, counted in the whole, and the greatest number of those that are refused there, is what it
+refuses of the whole. `part` prints the bundles of that cut, byte for byte, for parts modulo a number and for ranges of partitions, and `part --map` the places. So it is where GNU parallel judges the parts of a history on two machines, as it thinks: a script in the place of `ssh` runs the commands here.
 
 Samples of keys: all of the puts and gets of some keys; and, of each partition that has one of these keys, all hints and handoffs. A put of another key comes right before its first hint, without what it knows. Owed: a
 sample of a run is a run. No sample is refused before the whole is. Where the sample has the entry at which the whole is refused, it is refused there by the same number, but for a `do` (48) or a `chunk` (42) that is refused for
@@ -147,13 +146,6 @@ def first_fault(answer: str) -> tuple[int, int] | None:
     return None
 
 
-def judge_parts(text: str, whole: tuple[str, str, int]) -> None:
-    for words in (["--parts", "1"], ["--parts", "3", "--workers", "4"], ["--parts", "64", "--workers", "2"]):
-        found = ask(["judge", *words], text)
-        if found != whole:
-            raise Wrong("judge %s: %s, replay %s" % (words, found[0][:60], whole[0][:60]))
-
-
 def earliest(faults: list[tuple[int, int]]) -> tuple[int, int] | None:
     """The first entry of the whole at which a part is refused, and the greatest number of those there."""
     return min(faults, key=lambda it: (it[0], -it[1])) if faults else None
@@ -274,9 +266,7 @@ def judge_samples(store: Store, bundle: str, entries: list[str], fault: tuple[in
 
 
 def judge(store: Store, bundle: str, entries: list[str], tally: Counter[str]) -> None:
-    text = history(bundle, entries)
-    whole = ask(["replay"], text)
-    judge_parts(text, whole)
+    whole = ask(["replay"], history(bundle, entries))
     if not whole[0].startswith(("yes", "no 70")):
         tally["with a line at fault"] += 1
         return

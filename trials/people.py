@@ -215,7 +215,7 @@ def large():
         with open(sums) as it:
             wanted = dict(reversed(line.split("  ")) for line in it.read().splitlines())
     for name, text in (("steps", steps(131072)), ("rounds", rounds(32768))):
-        for words in ("why", "show --racks-behind n", "show --all", "draw", "draw --map", "steps", "bundle", "cert", "after"):
+        for words in ("why", "show --racks-behind n", "show --all", "draw", "draw --map", "steps", "cert", "after"):
             out, status, seconds, megabytes = run(words, text.encode())
             label = f"{name} {words}"
             found.append(f"{hashlib.md5(out).hexdigest()}  {label}")

@@ -105,10 +105,8 @@ def sizes(folder):
         owes("a rate without sizes", run("show", "--rate", "2", "--format", form), b"", contains(b"'--rate <N>' wants '--sizes <FILE>'"), 2)
     for rate in ("0", "4294967296", "x", ""):
         owes(f"a rate of {rate}", run("show", "--sizes", plan, "--rate", rate), b"", contains(b"--rate <N>"), 2)
-    for word in ("draw", "windows --rounds 1", "bundle"):
+    for word in ("draw", "windows --rounds 1", "cert"):
         owes(f"{word} by sizes", run(*word.split(), "--sizes", plan), b"", contains(b"unexpected argument"), 2)
-    owes("how even a goal is by sizes", run("goal", "--even", "--sizes", plan, given=given), contains(b"      sizes     a share of what is stored is"), b"", 0)
-    owes("how even a goal is without sizes", run("goal", "--even", given=given), lambda it: b"sizes" not in it, b"", 0)
     owes("goal by no sizes", run("goal", "--sizes", f"{folder}/none", given=given), b"", contains(b"No such file or directory"), 3)
 
 
@@ -219,7 +217,7 @@ def escapes():
 
 def streams():
     refused = read("copy_out_of_order")
-    for word in ("show", "draw", "steps", "bundle", "after", "windows --rounds 2"):
+    for word in ("show", "draw", "steps", "after", "windows --rounds 2"):
         owes(f"{word} of a refused plan", run(*word.split(), given=refused), b"", lambda text: text.startswith(b"no 2"), 1)
     owes("check of a refused plan", run("check", given=refused), lambda text: text.startswith(b"no 2"), b"", 1)
     owes("why of a refused plan", run("why", given=refused), contains(b"refused:"), b"", 1)
@@ -227,8 +225,15 @@ def streams():
     commands = re.findall(r"^  (\w+) ", run("help")[0].decode().split("Commands:\n")[1].split("\n\n")[0], re.MULTILINE)
     for word in commands:
         owes(f"a wrong option of {word}", run(word, "--ded"), b"", contains(b"unrecognized subcommand" if word == "help" else b"unexpected argument"), 2)
-    owes("commands", (b"", b"", len(commands)), b"", b"", 21)
-    owes("a wrong command", run("gaol"), b"", contains(b"unrecognized subcommand"), 2)
+    owes("commands", (b"", b"", len(commands)), b"", b"", 19)
+    owes("a wrong command", run("gaol"), b"", lambda it: b"unrecognized subcommand" in it and b"there is no" not in it, 2)
+    for gone, instead in (
+        ("judge --workers 2", "there is no `judge`: use `replay`, or `part` for histories of more than 1,000,000 entries"),
+        ("bundle", "there is no `bundle`: use `goal` for a change, and `cert` for a plan"),
+        ("goal --even", "there is no `--even`: use `show`, which says how even a ring is"),
+        ("drive --json", "there is no `--json`: use `--format json`"),
+    ):
+        owes(f"what to type instead of {gone}", run(*gone.split()), b"", lambda it: it.startswith(b"error: ") and it.endswith(f"\nringplan: {instead}\n".encode()), 2)
     owes("a wrong option before the command", run("--ded", "check"), b"", contains(b"unexpected argument"), 2)
     owes("a dead node whose name begins with -", run("goal", "--dead=-x", given=read("plan_replace")), b"", contains(b"names -x,"), 2)
     owes("a wrong weight", run("goal", "--weight", "b"), b"", contains(b"--weight <NODE=K>"), 2)
@@ -238,7 +243,6 @@ def streams():
     for given, status in ((ring + b"change 1\nend\n", 0), (read("plan_replace"), 4), (refused, 2)):
         plain = run("goal", given=given)
         owes(f"a goal with its exit code, {status}", run("goal", "--exit-code", given=given), plain[0], plain[1], status)
-    owes("how even a goal is", run("goal", "--even", "--exit-code", given=read("plan_replace")), contains(b"slots"), b"", 0)
     owes("no command", run(), b"", contains(b"Usage"), 2)
     logic = subprocess.run(["rt", "version"], stdout=subprocess.PIPE).stdout.decode().split()[-1]
     for word in ("--version", "-V"):
@@ -269,14 +273,7 @@ def formats():
             owes(f"{word} of {case} as text", run(word, "--format=text", given), text, errors, status)
             if word == "check":
                 owes(f"{case} as JSON by workers", run(word, "--workers", "3", "--format", "json", given), line, errors, status)
-            for parts, workers in ((1, 1), (3, 4), (4096, 64)) if word == "replay" else ():
-                shares = [f"--parts={parts}", f"--workers={workers}"]
-                owes(f"{case} judged in {parts} parts by {workers}", run("judge", *shares, given), text, errors, status)
-                owes(f"{case} judged in {parts} parts by {workers} as JSON", run("judge", *shares, "--format", "json", given), line, errors, status)
-    for option, numbers in (("--parts <K>", ("0", "4097", "x", "")), ("--workers <W>", ("0", "65", "x", ""))):
-        for number in numbers:
-            owes(f"judge by {option} of {number}", run("judge", option.split()[0], number), b"", contains(f"'{option}'".encode()), 2)
-    for words in (["check"], ["replay"], ["judge"], ["check", "--workers", "2"]):
+    for words in (["check"], ["replay"], ["drive"], ["check", "--workers", "2"], ["drive", "--workers", "2"]):
         wrong = b"error: invalid value for '--format <FORMAT>': not text or json\n\nFor more information, try '--help'.\n"
         for form in ("xml", "JSON", ""):
             owes(f"{words} in no form", run(*words, "--format", form), b"", wrong, 2)
@@ -404,7 +401,6 @@ def statements():
             faults.append(f"goal of {name}: another bundle or count of steps as JSON")
         if status not in (0, 4) and stated["words"].encode() != errors.partition(b"\n")[2]:
             faults.append(f"goal of {name}: other words as JSON")
-    owes("how even a goal is, as JSON", run("goal", "--even", "--format", "json"), b"", contains(b"'--even' is in words"), 2)
     for word in ("why", "show", "goal"):
         owes(f"{word} in no form", run(word, "--format", "xml"), b"", contains(b"not text or json"), 2)
 
