@@ -230,8 +230,8 @@ def streams():
     for gone, instead in (
         ("judge --workers 2", "there is no `judge`: use `replay`, or `part` for histories of more than 1,000,000 entries"),
         ("bundle", "there is no `bundle`: use `goal` for a change, and `cert` for a plan"),
-        ("goal --even", "there is no `--even`: use `show`, which says how even a ring is"),
-        ("drive --json", "there is no `--json`: use `--format json`"),
+        ("goal --even", "there is no `goal --even`: use `show`, which says how even a ring is"),
+        ("drive --json", "there is no `drive --json`: use `drive --format json`"),
     ):
         owes(f"what to type instead of {gone}", run(*gone.split()), b"", lambda it: it.startswith(b"error: ") and it.endswith(f"\nringplan: {instead}\n".encode()), 2)
     owes("a wrong option before the command", run("--ded", "check"), b"", contains(b"unexpected argument"), 2)

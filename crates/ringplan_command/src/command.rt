@@ -144,8 +144,8 @@ fn try_parse<S: AsStr>(alloc: Global, words: &[S]) -> Result<CommandLine, AllocE
 // The text of a refused line, and what to type in place of a word that there was.
 fn with_successor(text: String) -> Result<Vec<u8>, AllocError> {
     let mut text = text;
-    for (fault, words) in SUCCESSORS.iter() {
-        if text.starts_with(fault) {
+    for (fault, usage, words) in SUCCESSORS.iter() {
+        if text.starts_with(fault) && text.contains(usage) {
             text.push_str(words)?;
         }
     }

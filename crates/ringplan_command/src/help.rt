@@ -168,23 +168,27 @@ pub const NO_WORDS: &[u8; 123] =
 pub(crate) const NO_SHELL: &[u8; 95] =
     b"error: invalid value for '<SHELL>': not bash, zsh or fish\n\nFor more information, try '--help'.\n";
 
-/// How the text of a line begins whose word is no longer there, and the line that says what to type instead.
-pub(crate) const SUCCESSORS: &[(&str, &str); 4] = &[
+/// How the text of a line begins whose word there was once, its command where that is one of an option, and the line that says what to type instead.
+pub(crate) const SUCCESSORS: &[(&str, &str, &str); 4] = &[
     (
         "error: unrecognized subcommand 'judge'",
+        "",
         "ringplan: there is no `judge`: use `replay`, or `part` for histories of more than 1,000,000 entries\n",
     ),
     (
         "error: unrecognized subcommand 'bundle'",
+        "",
         "ringplan: there is no `bundle`: use `goal` for a change, and `cert` for a plan\n",
     ),
     (
         "error: unexpected argument '--even'",
-        "ringplan: there is no `--even`: use `show`, which says how even a ring is\n",
+        "Usage: ringplan goal ",
+        "ringplan: there is no `goal --even`: use `show`, which says how even a ring is\n",
     ),
     (
         "error: unexpected argument '--json'",
-        "ringplan: there is no `--json`: use `--format json`\n",
+        "Usage: ringplan drive ",
+        "ringplan: there is no `drive --json`: use `drive --format json`\n",
     ),
 ];
 
