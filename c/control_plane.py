@@ -7,17 +7,17 @@ for whoever runs the steps. Anything else than a yes ends it with a line on stan
 import pathlib
 import sys
 
-import ringplan
+from ringplan import library
 
 
 def approved_plan(ring: bytes, change: bytes) -> bytes:
     """Returns the ring with a plan and a certificate, to which the checker said yes. Raises RuntimeError where there is none."""
-    planned = ringplan.plan(ring + change)
-    if planned.status is not ringplan.Status.DONE:
+    planned = library.plan(ring + change)
+    if planned.status is not library.Status.DONE:
         raise RuntimeError(f"no plan: {planned.text.decode().strip()}")
     bundle = ring + planned.text
-    verdict = ringplan.check(bundle)
-    if verdict != ringplan.Answer(ringplan.Status.DONE, b"yes\n"):
+    verdict = library.check(bundle)
+    if verdict != library.Answer(library.Status.DONE, b"yes\n"):
         raise RuntimeError(f"no yes: {verdict.text.decode().strip()}")
     return bundle
 

@@ -85,14 +85,14 @@ compare() {
     answers "C, built by Rattle's own compiler" $status "$scratch/rattle/run" "$@"
     [[ $bundle = "$top"/examples/* ]] || return 0
     if command -v python3 > /dev/null; then
-        answers "Python, built by LLVM" $status python3 "$here/ringplan.py" "$@"
+        answers "Python, built by LLVM" $status python3 "$here/run.py" "$@"
     fi
     if [ -n "$by_go" ] && [[ " $jobs " = *" $1 "* ]]; then
         answers "Go, built by LLVM" $status "$by_go" "$@"
     fi
 }
 
-export RINGPLAN_LIBRARY=$scratch/llvm/libringplan.so
+export RINGPLAN_LIBRARY=$scratch/llvm/libringplan.so PYTHONPATH=$top/python
 by_go=
 if command -v go > /dev/null; then
     cp "$here/embed.go" "$here/ringplan.h" "$scratch/llvm"

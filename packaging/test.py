@@ -163,7 +163,7 @@ def try_library(usr: pathlib.Path, scratch: pathlib.Path) -> None:
         wanted = run(PROGRAM, job, given=given)
         from_c = run(scratch / "run", job, given=given, env={"LD_LIBRARY_PATH": usr / "lib"})
         owes(f"{job} of {name} from C", (from_c.returncode, from_c.stdout) == (wanted.returncode, wanted.stdout), from_c)
-        from_python = run("python3", usr / "share/doc/ringplan/c/ringplan.py", job, given=given, env={"RINGPLAN_LIBRARY": usr / "lib/libringplan.so"})
+        from_python = run("python3", usr / "share/doc/ringplan/c/run.py", job, given=given, env={"PYTHONPATH": usr.parent / PACKAGES})
         owes(f"{job} of {name} from Python", (from_python.returncode, from_python.stdout) == (wanted.returncode, wanted.stdout), from_python)
 
 
