@@ -20,7 +20,7 @@ VERSION := $(shell sed -n 's/^pub(crate) const VERSION: &str = "\([^ ]*\) .*/\1/
 DEB := $(DIST)/ringplan_$(VERSION)_amd64.deb
 TARBALL := $(DIST)/ringplan-$(VERSION).tar.gz
 # What the call `ringplan_version` returns.
-CALLS := 1
+CALLS := 2
 SHARED := $(if $(LIBRARY),$(dir $(LIBRARY))libringplan.so.$(CALLS))
 # The toolchain's folder, which has the C side of the library's memory.
 KIT = $(abspath $(dir $(shell readlink -f "$$(command -v rt)"))..)

@@ -31,9 +31,9 @@ void __wrap_free(void *block) {
 
 int main(int count, char **words) {
     static uint8_t output[1 << 20], wanted[1 << 20];
-    struct command command = count >= 3 ? command_of(words[1], count - 3, words + 3) : (struct command){0};
-    FILE *file = command.call || command.call_with_options ? fopen(words[2], "rb") : NULL;
+    FILE *file = count >= 3 ? fopen(words[2], "rb") : NULL;
     if (!file) return 64;
+    struct command command = command_of(words[1], count - 3, words + 3);
     size_t input_length, length, errors, wanted_length, wanted_errors;
     uint8_t *input = read_whole(file, &input_length);
     int wanted_status = answer(&command, input, input_length, wanted, sizeof wanted, &wanted_length, &wanted_errors);

@@ -7,10 +7,10 @@
 #include <stdlib.h>
 #include <string.h>
 
-typedef uint8_t ringplan_call(const uint8_t *, size_t, uint8_t *, size_t, size_t *);
+typedef uint8_t ringplan_job(const uint8_t *, size_t, uint8_t *, size_t, size_t *);
 
-/* The call of a subcommand, or NULL. */
-static inline ringplan_call *call_of(const char *word) {
+/* The call of a job, or NULL. */
+static inline ringplan_job *job_of(const char *word) {
     if (!strcmp(word, "check")) return ringplan_check;
     if (!strcmp(word, "plan")) return ringplan_plan;
     if (!strcmp(word, "play")) return ringplan_play;
@@ -19,34 +19,17 @@ static inline ringplan_call *call_of(const char *word) {
     return NULL;
 }
 
-typedef uint8_t ringplan_call_with_options(const uint8_t *, size_t, const uint8_t *, size_t, uint8_t *, size_t, size_t *, size_t *);
-
-/* The call of a command for people, or NULL. */
-static inline ringplan_call_with_options *call_with_options_of(const char *word) {
-    if (!strcmp(word, "goal")) return ringplan_goal;
-    if (!strcmp(word, "around")) return ringplan_around;
-    if (!strcmp(word, "show")) return ringplan_show;
-    if (!strcmp(word, "draw")) return ringplan_draw;
-    if (!strcmp(word, "why")) return ringplan_why;
-    if (!strcmp(word, "steps")) return ringplan_steps;
-    if (!strcmp(word, "windows")) return ringplan_windows;
-    if (!strcmp(word, "after")) return ringplan_after;
-    if (!strcmp(word, "bundle")) return ringplan_bundle;
-    if (!strcmp(word, "cert")) return ringplan_cert;
-    return NULL;
-}
-
-/* A command with its options. */
+/* A job without options, or another command with its options. */
 struct command {
-    ringplan_call *call;
-    ringplan_call_with_options *call_with_options;
+    ringplan_job *job;
+    const char *word;
     uint8_t *options;
     size_t options_length;
 };
 
-/* The command that the first word names, with the other words as its options. One that there is not has neither call. */
+/* The command that the first word names, with the other words as its options. */
 static inline struct command command_of(const char *word, int count, char **options) {
-    struct command command = {call_of(word), call_with_options_of(word), NULL, 0};
+    struct command command = {count ? NULL : job_of(word), word, NULL, 0};
     for (int each = 0; each < count; each++) {
         size_t length = strlen(options[each]) + 1;
         command.options = realloc(command.options, command.options_length + length);
@@ -54,15 +37,14 @@ static inline struct command command_of(const char *word, int count, char **opti
         memcpy(command.options + command.options_length, options[each], length);
         command.options_length += length;
     }
-    if (command.call && count) command.call = NULL;
     return command;
 }
 
 /* Makes the call. */
 static inline uint8_t answer(const struct command *command, const uint8_t *input, size_t input_length, uint8_t *output, size_t room, size_t *length, size_t *errors) {
     *errors = 0;
-    if (command->call) return command->call(input, input_length, output, room, length);
-    return command->call_with_options(command->options, command->options_length, input, input_length, output, room, length, errors);
+    if (command->job) return command->job(input, input_length, output, room, length);
+    return ringplan_call((const uint8_t *)command->word, strlen(command->word), command->options, command->options_length, input, input_length, output, room, length, errors);
 }
 
 /* All bytes of a stream, and how many there are. Ends the process where memory or the stream fails. */

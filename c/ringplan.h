@@ -3,22 +3,22 @@
  * A call takes the bytes that the program `ringplan` would read from standard input, and gives the bytes that it would print. It
  * keeps nothing: no state, thread, lock, file, signal handler or environment. It takes memory from malloc and frees all of it
  * before it returns. No call ends the process, and none stands for the program's `drive` or its `--workers`. The first five calls
- * take no options. The ten for people, at the end, take options and give what the program prints on standard error too.
+ * take no options. ringplan_call, for people, takes a command and options, and gives what the program prints on standard error too.
  *
  * What becomes of a call, which is proved:
  *   `*length` is the length of the text.
  *   Where the text fits into `room` bytes, it stands at `output`, with no NUL behind it, the bytes behind it are as they were,
- *   and the result is the exit status of the program, 0 to 3 (4 too for ringplan_goal, below).
+ *   and the result is the exit status of the program, 0 to 3 (4 too for `goal`, below).
  *   Where it does not fit, all of `output` is as it was and the result is 4: `*length` bytes serve, and the call may be made again.
  *
  * What the caller owes, which nothing checks:
  *   - `input` has `input_length` bytes that can be read, `output` has `room` bytes that can be written, and `length` is one size_t.
- *     So do `options` and `errors`. They do not overlap, and no thread touches them while the call runs, but that others may read
- *     `input` and `options`.
- *   - `input` may be NULL where `input_length` is 0, and so may `options` and `output`. `length` and `errors` may not.
+ *     So do `command`, `options` and `errors`. `output`, `length` and `errors` overlap nothing, and no other thread touches them
+ *     while the call runs. No thread writes the others meanwhile.
+ *   - `input` may be NULL where `input_length` is 0, and so may `command`, `options` and `output`. `length` and `errors` may not.
  *   - Lengths are below 2^63.
  *   - malloc, realloc and free are those of one allocator. It may answer NULL: then the text is `no 60` and the result 3.
- *   - The calling thread has 64 KiB of stack left, and 256 KiB for the ten calls with options.
+ *   - The calling thread has 64 KiB of stack left, and 256 KiB for ringplan_call.
  *   - No call is made from a signal handler, or in the forked child of a process that has threads.
  *
  * Calls may run in any number of threads at once, each with buffers of its own.
@@ -48,7 +48,7 @@ enum ringplan_status {
 /* Room for every answer of ringplan_check and for every refusal: the longest is "no 32 4294967295 4294967295\n", 28 bytes. */
 #define RINGPLAN_LINE 32
 
-/* 1, for the calls of this header. Later ones may be added with the same version. */
+/* 2, for the calls of this header. Later ones may be added with the same version. */
 uint32_t ringplan_version(void);
 
 /* A ring, a plan of it and the plan's certificate: "yes\n", or the line of the first refusal. */
@@ -66,59 +66,56 @@ uint8_t ringplan_migrate(const uint8_t *input, size_t input_length, uint8_t *out
 /* A ring, a plan, its certificate and a history: "yes\n" and the owners at the end, or the line of the first fault. */
 uint8_t ringplan_replay(const uint8_t *input, size_t input_length, uint8_t *output, size_t room, size_t *length);
 
-/* The commands for people.
+/* Does a command for people as `ringplan COMMAND OPTION..` does. Each function below calls it with its own name as `command`.
  *
  * `options` has the words that would stand after the command on the program's command line, each followed by a byte 0, which the
- * last word may lack: "--dead\0n07\0--back". There are none where `options_length` is 0.
+ * last word may lack: "--dead\0n07\0--back". There are none if `options_length` is 0.
  *
  * The text is what the program prints on standard output and then what it prints on standard error. `*length` is the length of
  * both, and `*errors` how many bytes at the end are of standard error: those are text for people. The result is as above, but:
- *   2 also says that the options are refused, in words at the end, as the program refuses them. Refused too are options that name
- *   a file (`-o`, the bundle's, `--sizes`), and bytes that are not UTF-8, whose words the program prints on standard output.
- *   4 of ringplan_goal is also the program's status at a plan with steps, where an option is --exit-code. `*length` is at most
- *   `room` then, and greater where the room is too small.
+ *   2 also says that the line is refused, in words at the end, as the program refuses it. Refused too are options that name a file
+ *   (`-o`, the bundle's, `--sizes`), bytes that are not UTF-8, and a command that is not for people: `check`, `drive`, `man`.
+ *   4 of `goal` is also the program's status at a plan with steps, where an option is --exit-code. `*length` is at most `room`
+ *   then, and greater where the room is too small.
  *   3 has the text `no 60` and `*errors` 0.
  */
+uint8_t ringplan_call(const uint8_t *command, size_t command_length, const uint8_t *options, size_t options_length,
+                      const uint8_t *input, size_t input_length, uint8_t *output, size_t room, size_t *length, size_t *errors);
+
+#define RINGPLAN_COMMAND(name) \
+    static inline uint8_t ringplan_##name(const uint8_t *options, size_t options_length, const uint8_t *input, size_t input_length, \
+                                          uint8_t *output, size_t room, size_t *length, size_t *errors) { \
+        return ringplan_call((const uint8_t *)#name, sizeof #name - 1, options, options_length, input, input_length, output, room, length, errors); \
+    }
 
 /* A ring and a change or a goal ring: the ring, a plan that leads there and its certificate. */
-uint8_t ringplan_goal(const uint8_t *options, size_t options_length, const uint8_t *input, size_t input_length,
-                      uint8_t *output, size_t room, size_t *length, size_t *errors);
+RINGPLAN_COMMAND(goal)
 
 /* A bundle with a history, and --dead: another plan around nodes that died, and the history that goes on by it. */
-uint8_t ringplan_around(const uint8_t *options, size_t options_length, const uint8_t *input, size_t input_length,
-                        uint8_t *output, size_t room, size_t *length, size_t *errors);
+RINGPLAN_COMMAND(around)
 
 /* A bundle, a change or a ring: a summary in words, or JSON. */
-uint8_t ringplan_show(const uint8_t *options, size_t options_length, const uint8_t *input, size_t input_length,
-                      uint8_t *output, size_t room, size_t *length, size_t *errors);
+RINGPLAN_COMMAND(show)
 
 /* A bundle or a change: a picture as SVG. */
-uint8_t ringplan_draw(const uint8_t *options, size_t options_length, const uint8_t *input, size_t input_length,
-                      uint8_t *output, size_t room, size_t *length, size_t *errors);
+RINGPLAN_COMMAND(draw)
 
 /* Any text of the program: why it is refused, with lines that may mend it, in words or JSON. */
-uint8_t ringplan_why(const uint8_t *options, size_t options_length, const uint8_t *input, size_t input_length,
-                     uint8_t *output, size_t room, size_t *length, size_t *errors);
+RINGPLAN_COMMAND(why)
 
 /* A bundle or a change: the plan's steps as lines of JSON. */
-uint8_t ringplan_steps(const uint8_t *options, size_t options_length, const uint8_t *input, size_t input_length,
-                       uint8_t *output, size_t room, size_t *length, size_t *errors);
+RINGPLAN_COMMAND(steps)
 
 /* A bundle or a change, and --rounds: the plan cut into bundles that are done one after the other. */
-uint8_t ringplan_windows(const uint8_t *options, size_t options_length, const uint8_t *input, size_t input_length,
-                         uint8_t *output, size_t room, size_t *length, size_t *errors);
+RINGPLAN_COMMAND(windows)
 
 /* A bundle or a change: the ring that the plan leaves, or what a history has done of it. */
-uint8_t ringplan_after(const uint8_t *options, size_t options_length, const uint8_t *input, size_t input_length,
-                       uint8_t *output, size_t room, size_t *length, size_t *errors);
-
-/* A bundle or a change: ring, plan and certificate in one text. */
-uint8_t ringplan_bundle(const uint8_t *options, size_t options_length, const uint8_t *input, size_t input_length,
-                        uint8_t *output, size_t room, size_t *length, size_t *errors);
+RINGPLAN_COMMAND(after)
 
 /* A ring and a plan: the same with a certificate that is found. */
-uint8_t ringplan_cert(const uint8_t *options, size_t options_length, const uint8_t *input, size_t input_length,
-                      uint8_t *output, size_t room, size_t *length, size_t *errors);
+RINGPLAN_COMMAND(cert)
+
+#undef RINGPLAN_COMMAND
 
 #ifdef __cplusplus
 }

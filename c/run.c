@@ -2,11 +2,11 @@
 #include "jobs.h"
 
 int main(int count, char **words) {
-    struct command command = count >= 2 ? command_of(words[1], count - 2, words + 2) : (struct command){0};
-    if (!command.call && !command.call_with_options) {
-        fputs("run check|plan|play|migrate|replay < bundle\nrun goal|around|show|draw|why|steps|windows|after|bundle|cert OPTION.. < bundle\n", stderr);
+    if (count < 2) {
+        fputs("run COMMAND OPTION.. < bundle\n", stderr);
         return 64;
     }
+    struct command command = command_of(words[1], count - 2, words + 2);
     size_t input_length, length, errors, room = RINGPLAN_LINE;
     uint8_t *input = read_whole(stdin, &input_length);
     uint8_t *output = malloc(room);

@@ -127,7 +127,6 @@ for bundle in "$top"/crates/tests_cases/data/*.bundle "$top"/examples/*.bundle; 
     compare windows --rounds 1 --only 1
     compare windows
     compare after
-    compare bundle
     compare cert
     compare cert --help
 done

@@ -35,9 +35,9 @@ static size_t stack_of(void *(*body)(void *)) {
 }
 
 int main(int count, char **words) {
-    if (count >= 3) command = command_of(words[1], count - 3, words + 3);
-    FILE *file = command.call || command.call_with_options ? fopen(words[2], "rb") : NULL;
+    FILE *file = count >= 3 ? fopen(words[2], "rb") : NULL;
     if (!file) return 64;
+    command = command_of(words[1], count - 3, words + 3);
     input = read_whole(file, &input_length);
     size_t empty = stack_of(nothing);
     printf("%zu bytes of stack: %s of %zu bytes\n", stack_of(one_call) - empty, words[1], input_length);

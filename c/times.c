@@ -6,7 +6,7 @@
 #include <pthread.h>
 #include <time.h>
 
-static ringplan_call *call;
+static ringplan_job *job;
 static uint8_t *input, *wanted, wanted_status;
 static size_t input_length, wanted_length;
 static long calls;
@@ -30,7 +30,7 @@ static void *make_calls(void *other) {
     uint8_t *output = malloc(wanted_length + 1);
     for (long number = 0; output && number < calls; number++) {
         size_t length;
-        uint8_t status = call(input, input_length, output, wanted_length, &length);
+        uint8_t status = job(input, input_length, output, wanted_length, &length);
         if (status != wanted_status || length != wanted_length || memcmp(output, wanted, length)) ++*(long *)other;
     }
     free(output);
@@ -38,15 +38,15 @@ static void *make_calls(void *other) {
 }
 
 int main(int count, char **words) {
-    call = count >= 4 ? call_of(words[1]) : NULL;
-    FILE *file = call ? fopen(words[2], "rb") : NULL;
+    job = count >= 4 ? job_of(words[1]) : NULL;
+    FILE *file = job ? fopen(words[2], "rb") : NULL;
     int threads = count > 4 ? atoi(words[4]) : 0;
     if (!file || threads > 64) return 64;
     input = read_whole(file, &input_length);
     fclose(file);
-    call(input, input_length, NULL, 0, &wanted_length);
+    job(input, input_length, NULL, 0, &wanted_length);
     wanted = malloc(wanted_length + 1);
-    wanted_status = call(input, input_length, wanted, wanted_length, &wanted_length);
+    wanted_status = job(input, input_length, wanted, wanted_length, &wanted_length);
     long other[64] = {0}, others = 0, resident_before = resident();
     calls = atol(words[3]);
     size_t used_before = mallinfo2().uordblks;

@@ -156,8 +156,8 @@ def try_library(usr: pathlib.Path, scratch: pathlib.Path) -> None:
     does("cc", "cc", "-Wall", "-Werror", "-o", scratch / "run", usr / "share/doc/ringplan/c/run.c", *words)
     (scratch / "version.c").write_text("#include <ringplan.h>\nint main(void) { return ringplan_version(); }\n")
     does("cc", "cc", "-Wall", "-Werror", "-o", scratch / "version", scratch / "version.c", *words)
-    does("the version of the calls", scratch / "version", status=1, env={"LD_LIBRARY_PATH": usr / "lib"})
-    owes("the library's name", "libringplan.so.1 => " in run("ldd", scratch / "run", env={"LD_LIBRARY_PATH": usr / "lib"}).stdout, "another")
+    does("the version of the calls", scratch / "version", status=2, env={"LD_LIBRARY_PATH": usr / "lib"})
+    owes("the library's name", "libringplan.so.2 => " in run("ldd", scratch / "run", env={"LD_LIBRARY_PATH": usr / "lib"}).stdout, "another")
     for job, name in (("check", "planned_replace"), ("check", "copy_out_of_order"), ("plan", "plan_replace"), ("play", "play_a_lost_store"), ("replay", "replay_a_move"), ("goal", "plan_replace")):
         given = (TOP / f"examples/{name}.bundle").read_text()
         wanted = run(PROGRAM, job, given=given)

@@ -22,13 +22,13 @@ from typing import NamedTuple
 from ringplan import programs
 
 # The version of the C library's calls, and the name of its file.
-VERSION = 1
+VERSION = 2
 FILE = f"libringplan.so.{VERSION}"
 # The calls that take no options.
 JOBS = ("check", "plan", "play", "replay", "migrate")
 # Room for every refusal of these, and for every answer to a check.
 LINE = 32
-# How the other calls refuse options that name a file.
+# How a call for people refuses options that name a file.
 NO_FILES = "error: a call reads and writes no files\n\nFor more information, try '--help'.\n"
 
 
@@ -97,16 +97,15 @@ def load(named: str | None) -> ctypes.CDLL | None:
 
 
 def by_library(library: ctypes.CDLL, command: str, bundle: bytes, options: Sequence[str] = ()) -> Answer:
-    call = getattr(library, f"ringplan_{command}")
+    call = getattr(library, f"ringplan_{command}" if command in JOBS else "ringplan_call")
     call.restype, call.argtypes = ctypes.c_uint8, None
     length, errors, size = ctypes.c_size_t(), ctypes.c_size_t(), ctypes.c_size_t
     given: list[object] = [bundle, size(len(bundle))]
-    room = LINE
+    told, room = [ctypes.byref(length)], LINE
     if command not in JOBS:
-        words = b"".join(os.fsencode(option) + b"\0" for option in options)
-        given = [words, size(len(words)), *given]
-        room = max(1 << 16, 4 * len(bundle))
-    told = [ctypes.byref(length)] if command in JOBS else [ctypes.byref(length), ctypes.byref(errors)]
+        word, words = os.fsencode(command), b"".join(os.fsencode(option) + b"\0" for option in options)
+        given = [word, size(len(word)), words, size(len(words)), *given]
+        told, room = [*told, ctypes.byref(errors)], max(1 << 16, 4 * len(bundle))
     while True:
         output = ctypes.create_string_buffer(room)
         status = call(*given, output, size(room), *told)
@@ -128,8 +127,7 @@ def call_or_run(command: str, bundle: bytes, options: Sequence[str] = ()) -> Ans
     if any("\0" in option for option in options):
         raise ValueError("an option has a NUL")
     library = load(os.environ.get("RINGPLAN_LIBRARY"))
-    # A library of the same version may be older, and have fewer calls.
-    if library is not None and hasattr(library, f"ringplan_{command}"):
+    if library is not None:
         answer = by_library(library, command, bundle, options)
         if answer.errors != NO_FILES:
             return answer
@@ -204,8 +202,3 @@ def windows(bundle: bytes, *options: str) -> Answer:
 def after(bundle: bytes, *options: str) -> Answer:
     """The ring that the plan leaves, or what a history has done of it."""
     return call_or_run("after", bundle, options)
-
-
-def bundle(bundle: bytes, *options: str) -> Answer:
-    """Ring, plan and certificate in one text, of a ring with a change too."""
-    return call_or_run("bundle", bundle, options)

@@ -63,7 +63,13 @@ fn are_owners_spared(
 }
 
 /// Whether a copy reads from no dead node.
-pub fn is_copy_spared(dead: &Dead, ring: &Ring, present: &Present, slot: Slot, source: &Source) -> bool
+pub fn is_copy_spared(
+    dead: &Dead,
+    ring: &Ring,
+    present: &Present,
+    slot: Slot,
+    source: &Source,
+) -> bool
     requires partition { slot.partition < ring.now.q }
     requires index { slot.index < ring.now.n }
     requires suits { source_suits ring.now source.now ≡ true }

@@ -2,25 +2,10 @@
 use Rattle.std.specs.Prelude.{◌==◌, ℕ, List, [], ◌∷◌, Option, None, codes, if◌then◌else◌, length, String}
 use Rattle.std.specs.Global.{Global}
 use Rattle.std.specs.List.{slice_split}
-use Rattle.ringplan_command.specs.declared.word.Word.{Word}
-use Rattle.ringplan_command.specs.declared.word.Word.TheVariants as people
 use Rattle.ringplan_job.specs.declared.making.Making.{Making}
-use Rattle.ringplan_job.specs.declared.making.Making.TheVariants.{Even, Goal, Show, State}
+use Rattle.ringplan_job.specs.declared.making.Making.TheVariants.{Goal, Show, State}
 use Rattle.ringplan_job.specs.declared.making.Statement.{Statement}
 use Rattle.ringplan_job.specs.declared.making.Statement.TheVariants as stated
-
--- the word of a command for people
-abbrev pub name_of : Word → List ℕ
-name_of people.Why = codes "why"
-name_of people.Show = codes "show"
-name_of people.Draw = codes "draw"
-name_of people.Steps = codes "steps"
-name_of people.Goal = codes "goal"
-name_of people.Windows = codes "windows"
-name_of people.Bundle = codes "bundle"
-name_of people.Cert = codes "cert"
-name_of people.After = codes "after"
-name_of people.Around = codes "around"
 
 -- the parts but for the last one where that is empty
 abbrev pub but_empty_last : List (List ℕ) → List (List ℕ)
@@ -33,8 +18,8 @@ abbrev pub words_in : List ℕ → List (List ℕ)
 words_in options = but_empty_last (slice_split (λ b. b == 0) options)
 
 -- the words of the command line: the program's name, the command's, and the options
-abbrev pub line_of : Word → List ℕ → List (List ℕ)
-line_of word options = codes "ringplan" ∷ name_of word ∷ words_in options
+abbrev pub line_of : List ℕ → List ℕ → List (List ℕ)
+line_of command options = codes "ringplan" ∷ command ∷ words_in options
 
 -- the file of sizes that is named for a statement, or for what is made
 abbrev pub sizes_stated : Statement → Option (String Global)
@@ -44,7 +29,6 @@ sizes_stated stated.Why = None
 
 abbrev pub sizes_named : Making → Option (String Global)
 sizes_named (Goal options exit) = options.sizes_file
-sizes_named (Even options) = options.sizes_file
 sizes_named (Show wish) = wish.options.sizes_file
 sizes_named (State statement) = sizes_stated statement
 sizes_named making = None

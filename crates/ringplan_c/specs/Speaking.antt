@@ -1,13 +1,15 @@
 -- What a call for people says.
-use Rattle.std.specs.Prelude.{◌≡◌, ℕ, ◌<◌, ◌≤◌, List, [], ◌++◌, None, length}
+use Rattle.std.specs.Prelude.{◌≡◌, ◌≢◌, ℕ, ◌<◌, ◌≤◌, List, [], ◌++◌, None, length}
 use Rattle.std.specs.Str.{IsUtf8}
+use Rattle.std.specs.Global.{Vec}
 use Rattle.ring_names.specs.Refusals.{line_of as refusal_line}
 use Rattle.ring_names.specs.declared.refusal.Refusal.TheVariants.{OutOfMemory}
 use Rattle.ringplan_c.specs.Line.{line_of, sizes_named}
 use Rattle.ringplan_c.specs.Room.{Fills}
-use Rattle.ringplan_command.specs.Command.{AsksMaking, IsRefused, WantsHelp, asked, word_of_making}
+use Rattle.ringplan_command.specs.Command.{Answers, AsksMaking, IsRefused, WantsHelp, asked}
 use Rattle.ringplan_command.specs.Files.{Names, files_of, no_files}
-use Rattle.ringplan_command.specs.declared.word.Word.{Word}
+use Rattle.ringplan_command.specs.declared.command.Request.{Request}
+use Rattle.ringplan_command.specs.declared.command.Request.TheVariants as request
 use Rattle.ringplan_job.specs.declared.making.Making.{Making}
 use Rattle.ringplan_jobs.specs.Io.{max_input}
 use Rattle.ringplan_people.specs.Made.{IsReport}
@@ -26,20 +28,24 @@ pub data Reports (files : Names) (making : Making) (bytes text : List ℕ) (stat
   too_large : NamesNone files making → max_input < length bytes → IsTurnedAway text status → Reports files making bytes text status
   filed : (NamesNone files making → ⊥) → IsTurnedAway text status → Reports files making bytes text status
 
--- what a call of that command is printed, and the status: what its line makes of the bytes, help, or nothing where the options are no text or are refused
-pub data Says (word : Word) (options bytes text : List ℕ) (status : ℕ) : Type 0 where
-  reported : (making : Making) → AsksMaking (asked (line_of word options)) making → word_of_making making ≡ word → Reports (files_of (line_of word options)) making bytes text status
-      → Says word options bytes text status
-  helped : WantsHelp (asked (line_of word options)).faults → status ≡ 0 → Says word options bytes text status
-  refused : IsRefused (asked (line_of word options)) → IsTurnedAway text status → Says word options bytes text status
-  no_text : (IsUtf8 options → ⊥) → IsTurnedAway text status → Says word options bytes text status
-  out_of_memory : text ≡ refusal_line OutOfMemory → status ≡ 3 → Says word options bytes text status
+-- a request for something else than a making, help or a refusal: for a job, a part, a drive, or a text about the program
+abbrev pub IsForOthers : Request → Type 0
+IsForOthers r = ((making : Making) → r ≢ request.Make making) × ((text : Vec ℕ) → r ≢ request.Help text) × ((text : Vec ℕ) → r ≢ request.Mistaken text) × (r ≢ request.OutOfMemory)
+
+-- what a call prints, and its status: what its line makes of the bytes, or help; nothing if the line is refused, is for others or is not text
+pub data Says (command options bytes text : List ℕ) (status : ℕ) : Type 0 where
+  reported : (making : Making) → AsksMaking (asked (line_of command options)) making → Reports (files_of (line_of command options)) making bytes text status → Says command options bytes text status
+  helped : WantsHelp (asked (line_of command options)).faults → status ≡ 0 → Says command options bytes text status
+  refused : IsRefused (asked (line_of command options)) → IsTurnedAway text status → Says command options bytes text status
+  for_others : (r : Request) → IsForOthers r → Answers (asked (line_of command options)) r → IsTurnedAway text status → Says command options bytes text status
+  no_text : (IsUtf8 command × IsUtf8 options → ⊥) → IsTurnedAway text status → Says command options bytes text status
+  out_of_memory : text ≡ refusal_line OutOfMemory → status ≡ 3 → Says command options bytes text status
 
 -- both texts are one, and the length of the second is told
-abbrev pub IsSaid : Word → List ℕ → List ℕ → List ℕ → ℕ → ℕ → Type 0
-IsSaid word options bytes both tail status = (text errors : List ℕ) × Says word options bytes text status × (both ≡ text ++ errors) × (tail ≡ length errors)
+abbrev pub IsSaid : List ℕ → List ℕ → List ℕ → List ℕ → ℕ → ℕ → Type 0
+IsSaid command options bytes both tail status = (text errors : List ℕ) × Says command options bytes text status × (both ≡ text ++ errors) × (tail ≡ length errors)
 
 -- the room is filled with what is printed on standard output and then on standard error, how long the second is is told, and the result is the status
-abbrev pub Speaks : Word → List ℕ → List ℕ → List ℕ → List ℕ → ℕ → ℕ → ℕ → Type 0
-Speaks word options bytes old new told tail result = (both : List ℕ) × (status : ℕ)
-    × IsSaid word options bytes both tail status × Fills both status old new told result
+abbrev pub Speaks : List ℕ → List ℕ → List ℕ → List ℕ → List ℕ → ℕ → ℕ → ℕ → Type 0
+Speaks command options bytes old new told tail result = (both : List ℕ) × (status : ℕ)
+    × IsSaid command options bytes both tail status × Fills both status old new told result

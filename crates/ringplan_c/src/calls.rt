@@ -39,9 +39,9 @@ fn reply(alloc: Global, job: Job, input: &[u8], output: &mut [u8], length: &mut 
 /// The version of these calls. A later one with another meaning of a call, or of its parameters, has another.
 #[unsafe(no_mangle)]
 pub extern "C" fn ringplan_version() -> u32
-    ensures { result ≡ 1 }
+    ensures { result ≡ 2 }
 {
-    1
+    2
 }
 
 /// `ringplan check`: `yes`, or the line of the first refusal. What it prints has at most 28 bytes.

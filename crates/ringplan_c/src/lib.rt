@@ -3,7 +3,6 @@
 
 mod calls;
 mod line;
-mod people;
 mod room;
 mod speaking;
 
@@ -11,10 +10,7 @@ pub use calls::{
     ringplan_check, ringplan_migrate, ringplan_plan, ringplan_play, ringplan_replay,
     ringplan_version,
 };
-pub use people::{
-    ringplan_after, ringplan_around, ringplan_bundle, ringplan_cert, ringplan_draw, ringplan_goal,
-    ringplan_show, ringplan_steps, ringplan_why, ringplan_windows,
-};
+pub use speaking::ringplan_call;
 
 #[cfg(test)]
 mod tests;

@@ -2,29 +2,13 @@
 
 ghost use Rattle.std.specs.List.{slice_split};
 ghost use Rattle.std.specs.Prelude.{◌==◌, ◌≡◌, IfOk, is_some, map};
-ghost use Rattle.ringplan_c.specs.Line.{line_of, name_of, sizes_named, words_in};
+ghost use Rattle.ringplan_c.specs.Line.{line_of, sizes_named, words_in};
+ghost use Rattle.ringplan_command.specs.Command.{Answers, asked};
+ghost use Rattle.ringplan_command.specs.Files.{IsJob, files_in, files_of};
 
-use ringplan_command::Word;
+use ringplan_command::{CommandLine, parse};
 use ringplan_job::{Making, Statement};
 use std::alloc::{AllocError, Global};
-
-// The word of the command.
-fn command_name(word: Word) -> &'static str
-    ensures { result.now ≡ name_of word }
-{
-    match word {
-        Word::Why => "why",
-        Word::Show => "show",
-        Word::Draw => "draw",
-        Word::Steps => "steps",
-        Word::Goal => "goal",
-        Word::Windows => "windows",
-        Word::Bundle => "bundle",
-        Word::Cert => "cert",
-        Word::After => "after",
-        Word::Around => "around",
-    }
-}
 
 // The parts of the options between the bytes 0.
 fn cut<'a>(alloc: Global, options: &'a str) -> Result<Vec<&'a str>, AllocError>
@@ -50,20 +34,33 @@ fn split_options<'a>(alloc: Global, options: &'a str) -> Result<Vec<&'a str>, Al
     }
 }
 
-/// The words of the command line.
-pub(crate) fn write_line<'a>(
+// The words of the command line.
+fn write_line<'a>(
     alloc: Global,
-    word: Word,
+    command: &'a str,
     options: &'a str,
 ) -> Result<Vec<&'a str>, AllocError>
-    ensures { IfOk result (λ words. map (λ word. word.now) words.items ≡ line_of word options.now) }
+    ensures { IfOk result (λ words. map (λ word. word.now) words.items ≡ line_of command.now options.now) }
 {
     let mut line = Vec::new(alloc);
     line.push("ringplan")?;
-    line.push(command_name(word))?;
+    line.push(command)?;
     let mut words = split_options(alloc, options)?;
     line.append(&mut words)?;
     Ok(line)
+}
+
+/// What the command line asks for, and the files that it names.
+pub(crate) fn read_line(
+    alloc: Global,
+    command: &str,
+    options: &str,
+) -> Result<CommandLine, AllocError>
+    ensures asks { IfOk result (λ line. Answers (asked (line_of command.now options.now)) line.request) }
+    ensures files { IfOk result (λ line. IsJob line.request → files_in line.files ≡ files_of (line_of command.now options.now)) }
+{
+    let words = write_line(alloc, command, options)?;
+    Ok(parse(alloc, words.as_slice()))
 }
 
 /// Whether the making names a file of sizes.
@@ -71,7 +68,7 @@ pub(crate) fn names_sizes(making: &Making) -> bool
     ensures { result ≡ is_some (sizes_named making.now) }
 {
     match making {
-        Making::Goal(options, _) | Making::Even(options) => options.sizes_file.is_some(),
+        Making::Goal(options, _) => options.sizes_file.is_some(),
         Making::State(Statement::Goal(options, _)) => options.sizes_file.is_some(),
         Making::Show(wish) | Making::State(Statement::Show(wish)) => {
             wish.options.sizes_file.is_some()

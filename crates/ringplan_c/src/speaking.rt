@@ -5,10 +5,10 @@ ghost use Rattle.ringplan_c.specs.Speaking.{IsSaid, IsTurnedAway, Reports, Says,
 ghost use Rattle.ringplan_command.specs.Files.{files_in};
 
 use crate::calls::{FAILED, NO_MEMORY};
-use crate::line::{names_sizes, write_line};
+use crate::line::{names_sizes, read_line};
 use crate::room::fill;
 use ring_names::Refusal;
-use ringplan_command::{CommandLine, Files, NO_WORDS, Request, Word, parse};
+use ringplan_command::{CommandLine, Files, NO_WORDS, Request};
 use ringplan_job::Making;
 use ringplan_jobs::MAX_INPUT;
 use ringplan_people::{Report, report_bundle, report_unread};
@@ -17,6 +17,10 @@ use std::alloc::{AllocError, Global};
 // What is said of options that name a file.
 const NO_FILES: &[u8; 77] =
     b"error: a call reads and writes no files\n\nFor more information, try '--help'.\n";
+
+// What is said of a command that is not for people.
+const OTHER_CALLS: &[u8; 159] =
+    b"error: ringplan_call is for the commands for people; ringplan_check, ringplan_plan, ringplan_play, ringplan_migrate and ringplan_replay are calls of their own\n";
 
 // The status where the options are refused.
 const REFUSED: u8 = 2;
@@ -63,27 +67,31 @@ fn report_help(alloc: Global, text: Vec<u8>) -> Report
 }
 
 // The report of what the command line asks for.
-fn report_line(alloc: Global, word: Word, options: &str, input: &[u8]) -> Result<Report, Refusal>
-    ensures { IfOk result (λ r. Says word options.now input.now r.output.items r.status) }
+fn report_line(alloc: Global, command: &str, options: &str, input: &[u8]) -> Result<Report, Refusal>
+    ensures { IfOk result (λ r. Says command.now options.now input.now r.output.items r.status) }
 {
-    let words = write_line(alloc, word, options)?;
-    let CommandLine { request, files } = parse(alloc, words.as_slice());
+    let CommandLine { request, files } = read_line(alloc, command, options)?;
     match request {
         Request::Make(making) => report_making(alloc, &making, &files, input),
         Request::Help(text) => Ok(report_help(alloc, text)),
         Request::Mistaken(text) => turned_away(alloc, text.as_slice()),
         Request::OutOfMemory => Err(Refusal::OutOfMemory),
-        _ => unreachable!(),
+        _ => turned_away(alloc, OTHER_CALLS),
     }
 }
 
 // The report of a call.
-fn report_call(alloc: Global, word: Word, options: &[u8], input: &[u8]) -> Result<Report, Refusal>
-    ensures { IfOk result (λ r. Says word options.now input.now r.output.items r.status) }
+fn report_call(
+    alloc: Global,
+    command: &[u8],
+    options: &[u8],
+    input: &[u8],
+) -> Result<Report, Refusal>
+    ensures { IfOk result (λ r. Says command.now options.now input.now r.output.items r.status) }
 {
-    match str::from_utf8(options) {
-        Ok(options) => report_line(alloc, word, options, input),
-        Err(_) => turned_away(alloc, NO_WORDS),
+    match (str::from_utf8(command), str::from_utf8(options)) {
+        (Ok(command), Ok(options)) => report_line(alloc, command, options, input),
+        _ => turned_away(alloc, NO_WORDS),
     }
 }
 
@@ -106,14 +114,14 @@ struct Said {
 }
 
 // What a call says, as far as memory suffices.
-fn answer(alloc: Global, word: Word, options: &[u8], input: &[u8]) -> Result<Said, Refusal>
-    ensures { IfOk result (λ s. IsSaid word options.now input.now s.both.items s.errors s.status) }
+fn answer(alloc: Global, command: &[u8], options: &[u8], input: &[u8]) -> Result<Said, Refusal>
+    ensures { IfOk result (λ s. IsSaid command.now options.now input.now s.both.items s.errors s.status) }
 {
     let Report {
         output,
         errors,
         status,
-    } = report_call(alloc, word, options, input)?;
+    } = report_call(alloc, command, options, input)?;
     let mut both = output;
     let length = both.len();
     push_text(&mut both, errors.as_slice())?;
@@ -125,19 +133,20 @@ fn answer(alloc: Global, word: Word, options: &[u8], input: &[u8]) -> Result<Sai
     })
 }
 
-/// The answer to a command for people, in the caller's room. Returns the status, or 4 where the room is too small for both texts.
-pub(crate) fn speak(
+/// Does a command for people as `ringplan COMMAND OPTION..` does. A byte 0 follows each option; the last may lack it.
+#[unsafe(no_mangle)]
+pub extern "C" fn ringplan_call(
     alloc: Global,
-    word: Word,
+    command: &[u8],
     options: &[u8],
     input: &[u8],
     output: &mut [u8],
     length: &mut usize,
     errors: &mut usize,
 ) -> u8
-    ensures { Speaks word options.now input.now output.old output.new length.new errors.new result }
+    ensures { Speaks command.now options.now input.now output.old output.new length.new errors.new result }
 {
-    match answer(alloc, word, options, input) {
+    match answer(alloc, command, options, input) {
         Ok(said) => {
             *errors = said.errors;
             fill(said.both.as_slice(), said.status, output, length)

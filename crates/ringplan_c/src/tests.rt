@@ -1,11 +1,9 @@
 //! Each call once with room, and what a room that is too small, no room, an empty input, a refused bundle and refused options are answered.
 
 use crate::{
-    ringplan_after, ringplan_around, ringplan_bundle, ringplan_cert, ringplan_check, ringplan_draw,
-    ringplan_goal, ringplan_migrate, ringplan_plan, ringplan_play, ringplan_replay, ringplan_show,
-    ringplan_steps, ringplan_version, ringplan_why, ringplan_windows,
+    ringplan_call, ringplan_check, ringplan_migrate, ringplan_plan, ringplan_play, ringplan_replay,
+    ringplan_version,
 };
-use ringplan_command::Word;
 use ringplan_jobs::Job;
 use std::alloc::Global;
 use std::process::Abort;
@@ -65,7 +63,7 @@ fn ends<RT: AllocGlobal + Abort>(
 
 #[test]
 fn tells_its_version(rt: HostRuntime) {
-    assert_eq!(rt; ringplan_version(), 1);
+    assert_eq!(rt; ringplan_version(), 2);
 }
 
 #[test]
@@ -110,46 +108,21 @@ fn leaves_a_room_that_is_too_small(rt: HostRuntime) {
     ends(&rt, Job::Check, BUNDLE, &mut [], (4, 4, ""));
 }
 
-// The call of the command.
-fn speak(
-    alloc: Global,
-    word: Word,
-    options: &str,
-    input: &str,
-    room: &mut [u8],
-    length: &mut usize,
-    errors: &mut usize,
-) -> u8 {
-    let (options, input) = (options.as_bytes(), input.as_bytes());
-    match word {
-        Word::Goal => ringplan_goal(alloc, options, input, room, length, errors),
-        Word::Around => ringplan_around(alloc, options, input, room, length, errors),
-        Word::Show => ringplan_show(alloc, options, input, room, length, errors),
-        Word::Draw => ringplan_draw(alloc, options, input, room, length, errors),
-        Word::Why => ringplan_why(alloc, options, input, room, length, errors),
-        Word::Steps => ringplan_steps(alloc, options, input, room, length, errors),
-        Word::Windows => ringplan_windows(alloc, options, input, room, length, errors),
-        Word::After => ringplan_after(alloc, options, input, room, length, errors),
-        Word::Bundle => ringplan_bundle(alloc, options, input, room, length, errors),
-        Word::Cert => ringplan_cert(alloc, options, input, room, length, errors),
-    }
-}
-
 // How it ends with this room, how long the text of standard error is, and the room behind it.
 fn says<RT: AllocGlobal + Abort>(
     rt: &RT,
-    word: Word,
+    command: &str,
     options: &str,
     input: &str,
     room: &mut [u8],
     wanted: (u8, usize, &str),
 ) {
     let (mut length, mut errors) = (0, 0);
-    let status = speak(
+    let status = ringplan_call(
         rt.alloc(),
-        word,
-        options,
-        input,
+        command.as_bytes(),
+        options.as_bytes(),
+        input.as_bytes(),
         room,
         &mut length,
         &mut errors,
@@ -168,34 +141,12 @@ fn speaks_of_texts(rt: HostRuntime) {
         "plan 1\nend\ncert 1\nend\nringplan: the plan has no steps, as the ring is what it shall be\n"
     );
     let (exit, dead, rounds) = ("--exit-code", "--dead\0a\0", "--rounds\0001\0");
-    says(
-        &rt,
-        Word::Goal,
-        exit,
-        CHANGE,
-        &mut [0; 141],
-        (0, 65, planned),
-    );
-    says(
-        &rt,
-        Word::Around,
-        dead,
-        HISTORY,
-        &mut [0; 111],
-        (0, 0, HISTORY),
-    );
-    says(
-        &rt,
-        Word::Windows,
-        rounds,
-        BUNDLE,
-        &mut [0; 76],
-        (0, 0, BUNDLE),
-    );
-    says(&rt, Word::After, "", BUNDLE, &mut [0; 54], (0, 0, ring));
-    says(&rt, Word::Bundle, "", BUNDLE, &mut [0; 76], (0, 0, BUNDLE));
-    says(&rt, Word::Cert, "", BUNDLE, &mut [0; 76], (0, 0, BUNDLE));
-    says(&rt, Word::Steps, "--moves", BUNDLE, &mut [], (0, 0, ""));
+    says(&rt, "goal", exit, CHANGE, &mut [0; 141], (0, 65, planned));
+    says(&rt, "around", dead, HISTORY, &mut [0; 111], (0, 0, HISTORY));
+    says(&rt, "windows", rounds, BUNDLE, &mut [0; 76], (0, 0, BUNDLE));
+    says(&rt, "after", "", BUNDLE, &mut [0; 54], (0, 0, ring));
+    says(&rt, "cert", "", BUNDLE, &mut [0; 76], (0, 0, BUNDLE));
+    says(&rt, "steps", "--moves", BUNDLE, &mut [], (0, 0, ""));
 }
 
 #[test]
@@ -207,16 +158,16 @@ fn speaks_of_words(rt: HostRuntime) {
     let none =
         "no 1 1\nrefused: the input is empty\n  A bundle begins with a ring, whose first line is `ring 1`, `ring 2` or `ring 3`.\n";
     let json = "--format\0json\0";
-    says(&rt, Word::Show, json, BUNDLE, &mut [0; 175], (0, 0, shown));
-    says(&rt, Word::Why, "", "", &mut [0; 118], (2, 0, none));
-    says(&rt, Word::After, "", "", &mut [0; 118], (2, 118, none));
+    says(&rt, "show", json, BUNDLE, &mut [0; 175], (0, 0, shown));
+    says(&rt, "why", "", "", &mut [0; 118], (2, 0, none));
+    says(&rt, "after", "", "", &mut [0; 118], (2, 118, none));
     let (mut length, mut errors) = (0, 9);
     let mut room = [0; 2381];
-    let status = speak(
+    let status = ringplan_call(
         rt.alloc(),
-        Word::Draw,
-        "",
-        BUNDLE,
+        b"draw",
+        b"",
+        BUNDLE.as_bytes(),
         &mut room,
         &mut length,
         &mut errors,
@@ -231,46 +182,48 @@ fn refuses_options(rt: HostRuntime) {
     let color =
         "error: invalid value for '--color <WHEN>': not auto, always or never\n\nFor more information, try '--help'.\n";
     let (output, sizes) = ("-o\0plan", "--format\0json\0--sizes\0sizes");
+    says(&rt, "goal", output, CHANGE, &mut [0; 77], (2, 77, files));
+    says(&rt, "goal", sizes, CHANGE, &mut [0; 77], (2, 77, files));
+    says(&rt, "show", sizes, CHANGE, &mut [0; 77], (2, 77, files));
+    says(&rt, "cert", "bundle", BUNDLE, &mut [0; 77], (2, 77, files));
     says(
         &rt,
-        Word::Goal,
-        output,
-        CHANGE,
-        &mut [0; 77],
-        (2, 77, files),
-    );
-    says(&rt, Word::Goal, sizes, CHANGE, &mut [0; 77], (2, 77, files));
-    says(&rt, Word::Show, sizes, CHANGE, &mut [0; 77], (2, 77, files));
-    says(
-        &rt,
-        Word::Cert,
-        "bundle",
-        BUNDLE,
-        &mut [0; 77],
-        (2, 77, files),
-    );
-    says(
-        &rt,
-        Word::Why,
+        "why",
         "--color\0no",
         BUNDLE,
         &mut [0; 106],
         (2, 106, color),
     );
     let (mut length, mut errors) = (0, 0);
-    let status = ringplan_why(rt.alloc(), b"\xff", b"", &mut [], &mut length, &mut errors);
+    let status = ringplan_call(
+        rt.alloc(),
+        b"why",
+        b"\xff",
+        b"",
+        &mut [],
+        &mut length,
+        &mut errors,
+    );
     assert_eq!(rt; (status, length, errors), (4, 123, 123));
+}
+
+#[test]
+fn names_the_calls_of_what_is_not_for_people(rt: HostRuntime) {
+    let calls =
+        "error: ringplan_call is for the commands for people; ringplan_check, ringplan_plan, ringplan_play, ringplan_migrate and ringplan_replay are calls of their own\n";
+    says(&rt, "play", "", SCRIPT, &mut [0; 159], (2, 159, calls));
+    says(&rt, "man", "", "", &mut [0; 159], (2, 159, calls));
 }
 
 #[test]
 fn leaves_a_room_that_is_too_small_for_both(rt: HostRuntime) {
     let (mut length, mut errors) = (0, 0);
     let mut room = [b' '; 140];
-    let status = speak(
+    let status = ringplan_call(
         rt.alloc(),
-        Word::Goal,
-        "",
-        CHANGE,
+        b"goal",
+        b"",
+        CHANGE.as_bytes(),
         &mut room,
         &mut length,
         &mut errors,

@@ -4,7 +4,7 @@ use Rattle.std.specs.Fmt.{digits}
 use Rattle.ring_names.specs.Refusals.{line_of}
 use Rattle.ring_names.specs.declared.refusal.Refusal.TheVariants.{OutOfMemory}
 use Rattle.ringplan_c.specs.Speaking.{out_of_memory}
-use Rattle.ringplan_c.proofs.speaking.speak.Goals as goal
+use Rattle.ringplan_c.proofs.speaking.ringplan_call.Goals as goal
 
 pub returns-in-Err : goal.returns-in-Err
 unfolding digits
