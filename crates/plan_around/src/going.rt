@@ -1,11 +1,7 @@
 //! Whether a plan and a history go on around the dead, as their texts.
 
 ghost use Rattle.std.specs.Prelude.{◌≡◌, ◌≤◌, ◌++◌, IsTrue, IfOk, OnOk, length};
-ghost use Rattle.ring_table.specs.Spelling.{ring_text};
-ghost use Rattle.plan_text.specs.Spelling.{plan_text};
 ghost use Rattle.plan_text.specs.Valid.{Suits as PlanSuits};
-ghost use Rattle.plan_cert.specs.Spelling.{cert_text};
-ghost use Rattle.plan_cert.specs.Valid.{Suits as CertSuits};
 ghost use Rattle.plan_check.specs.Certified.{IsCertified};
 ghost use Rattle.plan_check.specs.Headline.{KeepsPromises};
 ghost use Rattle.history_text.specs.Known.{AreKnownEntries};
@@ -13,15 +9,15 @@ ghost use Rattle.history_text.specs.Spelling.{history_text};
 ghost use Rattle.plan_around.specs.Around.{GoesOn, RunsApart};
 
 use crate::apart::are_apart;
-use find_rounds::write_texts;
 use history_text::{are_known, push_history};
 use plan_cert::Cert;
 use plan_check::{Approved, Turned, check};
+use plan_goal::write_front;
 use plan_runs::Entry;
 use plan_text::Plan;
 use ring_core::replay;
 use ring_names::{Names, NodeId, Refusal};
-use ring_table::{Ring, write_ring};
+use ring_table::Ring;
 use std::alloc::Global;
 
 // The most entries of a history.
@@ -79,18 +75,6 @@ fn history_on(
     let mut out = Vec::new(alloc);
     push_history(&mut out, approved, writers, history)?;
     Ok(out)
-}
-
-// The texts of the ring, the plan and the certificate.
-fn write_front(alloc: Global, ring: &Ring, plan: &Plan, cert: &Cert) -> Result<Vec<u8>, Refusal>
-    requires plan_suits { PlanSuits ring.now plan.now }
-    requires cert_suits { CertSuits ring.now cert.now }
-    ensures { IfOk result (λ v. v.items ≡ ring_text ring.now ++ (plan_text ring.now plan.now ++ cert_text ring.now cert.now)) }
-{
-    let mut text = write_ring(alloc, ring)?;
-    let claims = write_texts(alloc, ring, plan, cert)?;
-    text.extend_from_slice(claims.as_slice())?;
-    Ok(text)
 }
 
 // The text, and the other behind it.

@@ -1,22 +1,20 @@
 //! A certificate for a ring and a plan, whether or not one stands behind them.
 
-ghost use Rattle.std.specs.Prelude.{◌≡◌, ◌++◌, IfOk};
+ghost use Rattle.std.specs.Prelude.{◌≡◌, IfOk};
 ghost use Rattle.texts.specs.Judging.{Gives, map_ok};
 ghost use Rattle.texts.specs.Left.{Reads};
-ghost use Rattle.ring_table.specs.Spelling.{ring_text};
-ghost use Rattle.plan_text.specs.Spelling.{plan_text};
 ghost use Rattle.plan_text.specs.Valid.{Suits as PlanSuits};
-ghost use Rattle.plan_cert.specs.Spelling.{cert_text};
 ghost use Rattle.plan_cert.specs.Valid.{Suits as CertSuits};
+ghost use Rattle.plan_goal.specs.Proposals.{front_text};
 ghost use Rattle.plan_bundles.specs.Certs.{front_at, front_reading, parts, IsCertifiedBy, IsCertifiedText, IsClaimedText};
 
 use find_chains::{Excess, Outcome, certificate, overload};
-use find_rounds::write_texts;
 use helpers::Words;
 use plan_check::{Turned, check};
+use plan_goal::write_front;
 use plan_text::{Plan, read_plan_section};
 use ring_names::{NodeId, Refusal};
-use ring_table::{Ring, Side, read_ring_section, write_ring};
+use ring_table::{Ring, Side, read_ring_section};
 use show_plan::name;
 use std::alloc::Global;
 use texts::Lines;
@@ -58,13 +56,10 @@ fn read_front(alloc: Global, bytes: &[u8]) -> Result<Front, Refusal>
 // A certificate for the plan, which the checker was not asked about.
 fn found(alloc: Global, ring: &Ring, plan: &Plan) -> Result<Candidate, Refusal>
     requires { PlanSuits ring.now plan.now }
-    ensures { IfOk result (λ f. f.text.items
-        ≡ ring_text ring.now ++ (plan_text ring.now plan.now ++ cert_text ring.now f.found.cert)) }
+    ensures { IfOk result (λ f. f.text.items ≡ front_text ring.now plan.now f.found.cert) }
 {
     let found = certificate(alloc, ring, plan)?;
-    let mut text = write_ring(alloc, ring)?;
-    let claims = write_texts(alloc, ring, plan, &found.cert)?;
-    text.extend_from_slice(claims.as_slice())?;
+    let text = write_front(alloc, ring, plan, &found.cert)?;
     Ok(Candidate { found, text })
 }
 

@@ -2,14 +2,14 @@
 
 ghost use Rattle.std.specs.Prelude.{◌≡◌, map, length, IfOk, OnOk};
 ghost use Rattle.plan_bundles.specs.Rings.{flags};
-ghost use Rattle.plan_bundles.specs.Goals.{AreNamed, HasChangedMembers, IsGoalReached, IsLed, IsSizedAsAsked, IsSizedBy, IsWishReached, LeadsFrom, is_changed_member};
+ghost use Rattle.plan_bundles.specs.Goals.{AreNamed, HasChangedMembers, IsGoalReached, IsLed, IsSizedAsAsked, IsSizedBy, IsWishReached, is_changed_member};
 ghost use Rattle.plan_bundles.specs.Goals.{leaves_too, with_dead as the_change_with_dead};
 
 use crate::rings::rewritten;
 use crate::sections::{Kind, kind_of};
 use crate::sized::{are_kept, sizes_of, weights_of};
 use change_text::{Change, Wanted, read_wanted};
-use plan_goal::{Goal, is_among, reach, read_goal};
+use plan_goal::{Goal, Proposed, is_among, reach, read_goal};
 use plan_maker::{Wish, wished};
 use ring_names::{Listed, Names, NodeId, Refusal};
 use ring_table::{Ring, read_ring, write_ring};
@@ -32,25 +32,14 @@ pub fn nodes_of(alloc: Global, ring: &Ring, names: &[Vec<u8>]) -> Result<Vec<Nod
     Ok(nodes)
 }
 
-// The text of the ring, and behind it the texts of a plan that leads to the wanted one, and of its certificate.
-fn lead(alloc: Global, goal: Goal, dead: &[NodeId]) -> Result<Vec<u8>, Refusal>
-    ensures { IfOk result (λ text. LeadsFrom goal.ring goal.wanted dead.now text.items) }
+/// Reads two rings, and finds a plan that leads from the first to the second, around the nodes that are named dead. Refused is the first fault of the
+/// rings, a name that the first does not declare, as `UnknownNode(0)`, and what `reach` refuses.
+pub fn goal_bundle(alloc: Global, bytes: &[u8], dead: &[Vec<u8>]) -> Result<Proposed, Refusal>
+    ensures reached { IfOk result (λ p. IsGoalReached bytes.now (map (λ name. name.items) dead.now) p) }
 {
-    let Goal { ring, wanted } = goal;
-    let mut text = write_ring(alloc, &ring)?;
-    let plan = reach(alloc, ring, &wanted, dead)?;
-    text.extend_from_slice(plan.as_slice())?;
-    Ok(text)
-}
-
-/// Of a bundle of two rings the first, a plan that leads from it to the second, and its certificate, around the nodes that are named dead. Refused is the first fault
-/// of the rings, a name that the first does not declare, as `UnknownNode(0)`, and what `reach` refuses.
-pub fn goal_bundle(alloc: Global, bytes: &[u8], dead: &[Vec<u8>]) -> Result<Vec<u8>, Refusal>
-    ensures reached { IfOk result (λ text. IsGoalReached bytes.now (map (λ name. name.items) dead.now) text.items) }
-{
-    let goal = read_goal(alloc, bytes)?;
-    let nodes = nodes_of(alloc, &goal.ring, dead)?;
-    lead(alloc, goal, nodes.as_slice())
+    let Goal { ring, wanted } = read_goal(alloc, bytes)?;
+    let nodes = nodes_of(alloc, &ring, dead)?;
+    Ok(reach(alloc, ring, &wanted, nodes.as_slice())?)
 }
 
 // Whether each node is a member once the change is made.
@@ -256,21 +245,20 @@ fn ask_by_options(
     )
 }
 
-/// Of a bundle of a ring and a change the ring, a plan that leads from it to one with the members of the change, and its certificate, around the nodes that are
+/// Reads a ring and a change, and finds a plan that leads from the ring to one with the members of the change, around the nodes that are
 /// named dead, by weight and with racks apart as the options say. A dead member leaves, whether or not the change says so. Where the options have sizes, a slot has a
 /// new owner only if it was a leaver's, or if it has keys and goes to a node that joins and stores no more than its share. Refused is the first fault of the texts, a name
 /// that the ring does not declare, as `UnknownNode(0)`, a partition that it does not have, as `TooLarge` with its line among the sizes, a change that leaves too few members, as
 /// `NoPlan`, and what `reach` refuses.
-pub fn wish_bundle(alloc: Global, bytes: &[u8], options: &Options) -> Result<Vec<u8>, Refusal>
-    ensures reached { IfOk result (λ text.
-        IsWishReached bytes.now options.now text.items) }
+pub fn wish_bundle(alloc: Global, bytes: &[u8], options: &Options) -> Result<Proposed, Refusal>
+    ensures reached { IfOk result (IsWishReached bytes.now options.now) }
 {
     let Wanted { ring, change } = read_wanted(alloc, bytes)?;
     let nodes = nodes_of(alloc, &ring, options.dead.as_slice())?;
     let change = with_dead(&ring, change, nodes.as_slice())?;
     let wanted = wished_ring(alloc, &ring, &change, options)?;
     ask_by_options(alloc, &ring, &change, options, &wanted)?;
-    lead(alloc, Goal { ring, wanted }, nodes.as_slice())
+    Ok(reach(alloc, ring, &wanted, nodes.as_slice())?)
 }
 
 /// The ring of a change, and the ring that is wished for.
@@ -282,11 +270,10 @@ pub fn wished_goal(alloc: Global, bytes: &[u8], options: &Options) -> Result<Goa
     Ok(Goal { ring, wanted })
 }
 
-/// What leads to the ring that is wished for: `goal_bundle` of two rings, and `wish_bundle` of a ring and a change. By sizes there is nothing to choose of two
-/// rings: they are refused as a change that is none.
-pub fn led_bundle(alloc: Global, bytes: &[u8], options: &Options) -> Result<Vec<u8>, Refusal>
-    ensures led { IfOk result (λ text.
-        IsLed bytes.now options.now text.items) }
+/// Finds a plan that leads to the ring that is wished for: `goal_bundle` of two rings, and `wish_bundle` of a ring and a change. By sizes there is nothing to
+/// choose of two rings: they are refused as a change that is none.
+pub fn led_bundle(alloc: Global, bytes: &[u8], options: &Options) -> Result<Proposed, Refusal>
+    ensures led { IfOk result (IsLed bytes.now options.now) }
 {
     match (kind_of(bytes), &options.sizes) {
         (Kind::Plan | Kind::History, None) => goal_bundle(alloc, bytes, options.dead.as_slice()),

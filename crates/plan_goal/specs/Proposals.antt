@@ -2,6 +2,7 @@
 use Rattle.std.specs.Prelude.{◌≡◌, ℕ, true, List, ◌++◌, Some}
 use Rattle.ring_names.specs.declared.refusal.Refusal.{Refusal}
 use Rattle.ring_names.specs.declared.refusal.Refusal.TheVariants.{NoPlan, OutOfMemory}
+use Rattle.ring_table.specs.Spelling.{ring_text}
 use Rattle.ring_table.specs.Value.{RingValue}
 use Rattle.plan_text.specs.declared.step.Planned.{Planned}
 use Rattle.plan_text.specs.Changes.{fulfils}
@@ -20,15 +21,16 @@ pub record Makes (ring : RingValue) (change : Change) (plan : List Planned) (cer
   pub cert_suits : CertSuits ring cert
   pub fulfils : fulfils plan change.joins change.leaves ≡ true
 
--- the bytes are the text of a plan that makes the change, and of a certificate by which the checker accepts the plan
-pub record IsProposed (ring : RingValue) (change : Change) (bytes : List ℕ) : Type 0 where
-  pub plan : List Planned
-  pub cert : Cert
+-- the texts of a ring, a plan and a certificate
+abbrev pub front_text : RingValue → List Planned → Cert → List ℕ
+front_text ring plan cert = ring_text ring ++ (plan_text ring plan ++ cert_text ring cert)
+
+-- the plan makes the change, and the checker accepts it by the certificate
+pub record IsProposed (ring : RingValue) (change : Change) (plan : List Planned) (cert : Cert) : Type 0 where
   pub is_plan : IsPlan plan
   pub suits : CertSuits ring cert
   pub certified : IsCertified ring plan cert
   pub fulfils : fulfils plan change.joins change.leaves ≡ true
-  pub text : bytes ≡ plan_text ring plan ++ cert_text ring cert
 
 -- why there is none: memory ran out, no plan was found, or the checker refused one of the ring that makes the change, for this reason; by some
 -- certificate, since the planner, which gives both, promises nothing

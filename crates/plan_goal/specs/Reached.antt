@@ -1,5 +1,5 @@
 -- Plans that lead from a ring to another one, and leave dead nodes alone.
-use Rattle.std.specs.Prelude.{◌≡◌, ℕ, ◌+◌, ◌<◌, Bool, true, false, not, ◌&&◌, ◌||◌, List, [], ◌∷◌, ◌++◌, map, length, Some}
+use Rattle.std.specs.Prelude.{◌≡◌, ℕ, ◌+◌, ◌<◌, Bool, true, false, not, ◌&&◌, ◌||◌, List, [], ◌∷◌, map, length, Some}
 use Rattle.std.specs.List.{list_all}
 use Rattle.ring_names.specs.Lists.{has}
 use Rattle.ring_names.specs.declared.ids.NodeId.{NodeId}
@@ -13,11 +13,9 @@ use Rattle.plan_text.specs.declared.step.Step.{Step}
 use Rattle.plan_text.specs.declared.step.Step.TheVariants.{Join, Mirror, Copy, Switch, Drop, Retire}
 use Rattle.plan_text.specs.declared.step.Planned.{Planned}
 use Rattle.plan_text.specs.Changes.{numbers}
-use Rattle.plan_text.specs.Spelling.{plan_text}
 use Rattle.plan_text.specs.Steps.{joined, retired}
 use Rattle.plan_text.specs.Valid.{Suits as PlanSuits}
 use Rattle.plan_cert.specs.declared.cert.Cert.{Cert}
-use Rattle.plan_cert.specs.Spelling.{cert_text}
 use Rattle.plan_cert.specs.Valid.{Suits as CertSuits}
 use Rattle.plan_stage.specs.Parties.{source_slots}
 use Rattle.plan_cover.specs.declared.present.Serving.{Serving}
@@ -103,14 +101,11 @@ pub record Leads (ring wanted : RingValue) (dead : List NodeId) (plan : List Pla
   pub members : HasMembers ring wanted dead plan
   pub spared : spares ring plan dead ≡ true
 
--- the bytes are the text of a plan that leads there, and of a certificate by which the checker accepts it, so that it keeps its promises
-pub record IsReached (ring wanted : RingValue) (dead : List NodeId) (bytes : List ℕ) : Type 0 where
-  pub plan : List Planned
-  pub cert : Cert
+-- the plan leads there, and the checker accepts it by the certificate, so that it keeps its promises
+pub record IsReached (ring wanted : RingValue) (dead : List NodeId) (plan : List Planned) (cert : Cert) : Type 0 where
   pub leads : Leads ring wanted dead plan cert
   pub certified : IsCertified ring plan cert
   pub keeps : KeepsPromises ring plan
-  pub text : bytes ≡ plan_text ring plan ++ cert_text ring cert
 
 -- why there is none: memory ran out, no plan was found, or the checker refused one that leads there, for this reason; by some certificate, since the
 -- search, which gives both, promises nothing

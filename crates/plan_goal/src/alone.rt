@@ -7,6 +7,7 @@ ghost use Rattle.plan_goal.specs.Joins.{joins_alone, no_claims};
 ghost use Rattle.plan_goal.specs.Proposals.{IsProposed};
 
 use crate::judging::{Rejected, judge};
+use crate::proposed::Proposed;
 use change_text::Change;
 use plan_cert::{Cert, Chains};
 use plan_text::{Plan, Step};
@@ -37,18 +38,19 @@ fn no_claims(alloc: Global) -> Cert
     }
 }
 
-/// The text of the plan by which the change's nodes join, where nobody leaves. Its only refusal is `OutOfMemory`.
-pub fn propose_joins(alloc: Global, ring: Ring, change: &Change) -> Result<Vec<u8>, Refusal>
+/// Proposes the plan by which the change's nodes join, if no node leaves. Its only refusal is `OutOfMemory`.
+pub fn propose_joins(alloc: Global, ring: Ring, change: &Change) -> Result<Proposed, Refusal>
     requires change { IsChange ring change.now }
     requires nobody { change.now.leaves ≡ [] }
-    ensures proposed { IfOk result (λ v. IsProposed ring change.now v.items) }
+    ensures ring { IfOk result (λ p. p.approved.ring ≡ ring) }
+    ensures proposed { IfOk result (λ p. IsProposed ring change.now p.approved.plan p.cert) }
     ensures memory { IfErr result (λ e. e ≡ OutOfMemory) }
 {
     // A ring has few nodes, and so few can join.
     let _ = ring.n();
     let plan = joins_alone(alloc, change.joins.as_slice())?;
     match judge(alloc, ring, change, plan, no_claims(alloc)) {
-        Ok(text) => Ok(text),
+        Ok(found) => Ok(found),
         Err(rejected) => {
             let Rejected { refusal, .. } = rejected;
             Err(refusal)

@@ -5,8 +5,8 @@ ghost use Rattle.ring_names.specs.declared.refusal.Refusal.TheVariants.{OutOfMem
 ghost use Rattle.plan_check.specs.Certified.{IsCertified};
 ghost use Rattle.plan_goal.specs.Proposals.{Makes, IsProposed, IsTurnedAway};
 
+use crate::proposed::Proposed;
 use change_text::Change;
-use find_rounds::write_texts;
 use plan_cert::Cert;
 use plan_check::{Turned, check};
 use plan_text::Plan;
@@ -30,17 +30,17 @@ fn makes(ring: &Ring, change: &Change, plan: &Plan, cert: &Cert) -> bool
         && plan.fulfils(change.joins.as_slice(), change.leaves.as_slice())
 }
 
-/// The text to propose, where the plan makes the change and the checker accepts it by the certificate. Refused otherwise, the ring
-/// comes back: with `NoPlan` where the plan is none of the ring that makes the change, or the certificate none of the ring; with the
-/// checker's refusal where it refuses the plan; and with `OutOfMemory` where memory ran out.
+/// Proposes the plan if it makes the change and the checker accepts it by the certificate. Otherwise the ring comes back with the refusal: `NoPlan`
+/// if the plan does not suit the ring or make the change, or if the certificate does not suit the ring; else the checker's.
 pub fn judge(
     alloc: Global,
     ring: Ring,
     change: &Change,
     plan: Plan,
     cert: Cert,
-) -> Result<Vec<u8>, Rejected>
-    ensures proposed { IfOk result (λ v. IsProposed ring change.now v.items) }
+) -> Result<Proposed, Rejected>
+    ensures ring { IfOk result (λ p. p.approved.ring ≡ ring) }
+    ensures proposed { IfOk result (λ p. IsProposed ring change.now p.approved.plan p.cert) }
     ensures refused { IfErr result (λ r. IsTurnedAway ring change.now r.refusal) }
     ensures same { IfErr result (λ r. r.ring ≡ ring) }
     ensures memory { Makes ring change.now plan cert → IsCertified ring plan cert
@@ -52,12 +52,8 @@ pub fn judge(
         let refusal = Refusal::NoPlan;
         return Err(Rejected { ring, refusal });
     }
-    let text = match write_texts(alloc, &ring, &plan, &cert) {
-        Ok(text) => text,
-        Err(refusal) => return Err(Rejected { ring, refusal }),
-    };
     match check(alloc, ring, plan, &cert) {
-        Ok(_) => Ok(text),
+        Ok(approved) => Ok(Proposed { approved, cert }),
         Err(turned) => {
             let Turned { ring, refusal, .. } = turned;
             Err(Rejected { ring, refusal })

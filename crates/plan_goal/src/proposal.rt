@@ -7,6 +7,7 @@ ghost use Rattle.plan_goal.specs.Proposals.{IsProposed, IsTurnedAway};
 
 use crate::alone::propose_joins;
 use crate::judging::{Rejected, judge};
+use crate::proposed::Proposed;
 use crate::reaching::cause;
 use change_text::Change;
 use plan_maker::make;
@@ -14,9 +15,10 @@ use ring_names::Refusal;
 use ring_table::Ring;
 use std::alloc::Global;
 
-// The text of the planner's plan, if the planner finds one that makes the change and that the checker accepts.
-fn propose_made(alloc: Global, ring: Ring, change: &Change) -> Result<Vec<u8>, Rejected>
-    ensures proposed { IfOk result (λ v. IsProposed ring change.now v.items) }
+// The planner's plan, if the planner finds one that makes the change and that the checker accepts.
+fn propose_made(alloc: Global, ring: Ring, change: &Change) -> Result<Proposed, Rejected>
+    ensures ring { IfOk result (λ p. p.approved.ring ≡ ring) }
+    ensures proposed { IfOk result (λ p. IsProposed ring change.now p.approved.plan p.cert) }
     ensures refused { IfErr result (λ r. IsTurnedAway ring change.now r.refusal) }
     ensures same { IfErr result (λ r. r.ring ≡ ring) }
 {
@@ -34,20 +36,20 @@ fn propose_made(alloc: Global, ring: Ring, change: &Change) -> Result<Vec<u8>, R
     }
 }
 
-/// The texts of a plan that makes the change and of its certificate, where the checker accepts the plan by that certificate: the planner's
-/// plan, or where that is none and nobody leaves, the plan by which the change's nodes join and nothing else happens.
+/// Proposes a plan that makes the change, with a certificate by which the checker accepts it. If the planner has none and no node leaves, the change's
+/// nodes join and nothing else happens.
 ///
-/// Refused is a change for which the planner finds no plan, as `NoPlan`; one whose plan the checker refuses, by the checker's refusal;
-/// and want of memory, as `OutOfMemory`. Where nobody leaves, only memory is refused.
-pub fn propose(alloc: Global, ring: Ring, change: &Change) -> Result<Vec<u8>, Refusal>
+/// If the planner finds no plan, the refusal is `NoPlan`. If the checker refuses the plan, it is the checker's. If no node leaves, only memory is refused.
+pub fn propose(alloc: Global, ring: Ring, change: &Change) -> Result<Proposed, Refusal>
     requires { IsChange ring change.now }
-    ensures proposed { IfOk result (λ v. IsProposed ring change.now v.items) }
+    ensures ring { IfOk result (λ p. p.approved.ring ≡ ring) }
+    ensures proposed { IfOk result (λ p. IsProposed ring change.now p.approved.plan p.cert) }
     ensures refused { IfErr result (IsTurnedAway ring change.now) }
     // Where nobody leaves, there is always a plan.
     ensures joins { change.now.leaves ≡ [] → IfErr result (λ e. e ≡ OutOfMemory) }
 {
     match propose_made(alloc, ring, change) {
-        Ok(text) => Ok(text),
+        Ok(found) => Ok(found),
         Err(rejected) => {
             let Rejected { ring, refusal } = rejected;
             if refusal == Refusal::OutOfMemory || !change.leaves.as_slice().is_empty() {

@@ -1,5 +1,5 @@
 -- What a job makes of a bundle, by its parts.
-use Rattle.std.proofs.Common.{◌≡◌, ◌==◌, if◌then◌else◌, Bool, true, false, ℕ, List, None, Result, Ok, Err, IfOk, IfErr, [], refl, ap, sym, ◌∙◌, subst}
+use Rattle.std.proofs.Common.{◌≡◌, ◌==◌, if◌then◌else◌, Bool, true, false, ℕ, List, None, Result, Ok, Err, IfOk, IfErr, [], ◌++◌, refl, ap, sym, ◌∙◌, subst}
 use Rattle.std.specs.Global.{Vec}
 use Rattle.ring_names.specs.declared.refusal.Refusal.{Refusal}
 use Rattle.ring_names.specs.declared.refusal.Refusal.TheVariants.{OutOfMemory}
@@ -7,19 +7,21 @@ use Rattle.texts.specs.Judging.{Gives}
 use Rattle.texts.specs.Left.{whole_text}
 use Rattle.ring_table.specs.Value.{RingValue, migrated}
 use Rattle.plan_text.specs.declared.step.Planned.{Planned}
+use Rattle.plan_text.specs.Spelling.{plan_text}
 use Rattle.plan_cert.specs.declared.cert.Cert.{Cert}
+use Rattle.plan_cert.specs.Spelling.{cert_text}
 use Rattle.plan_cert.specs.Valid.{Suits}
 use Rattle.change_text.specs.declared.wanted.Wanted.{Wanted}
 use Rattle.change_text.specs.Wanted.{wanted_at}
 use Rattle.plan_check.specs.First.{first_refusal}
-use Rattle.plan_goal.specs.Proposals.{IsProposed, IsTurnedAway}
+use Rattle.plan_goal.specs.Proposals.{IsProposed, no_memory}
 use Rattle.ring_script.specs.Bundles.{bundle_at}
 use Rattle.ring_script.specs.Play.{play_text}
 use Rattle.ring_script.specs.declared.bundle.Bundle.{Bundle}
 use Rattle.ring_script.specs.declared.bundle.Kind.TheVariants.{Check, Play}
 use Rattle.ringplan_job.specs.declared.job.Job.TheVariants.{Plan}
 use Rattle.ringplan_jobs.specs.Answers.{texts_of}
-use Rattle.ringplan_jobs.specs.Verdict.{IsAnswerTo, MakesIf, judged, migrated_text, migration, plays, shown, verdict}
+use Rattle.ringplan_jobs.specs.Verdict.{IsAnswer, IsAnswerTo, MakesIf, judged, migrated_text, migration, plays, shown, verdict}
 
 pub verdict-bad : (bytes : List ℕ) (e : Refusal) → whole_text (bundle_at Check) bytes ≡ Err e → verdict bytes ≡ Err e
 unfolding verdict
@@ -59,11 +61,16 @@ gives-play b ring plan (Ok v) accepted same p q =
     rw accepted (ap Ok (sym text))
 gives-play b ring plan (Err e) accepted same p q = λ other. absurd (other q)
 
--- what proposes a plan for the change that was read makes what is wanted, memory aside
-pub gives-plan : (bytes : List ℕ) (w : Wanted) (r : Result (Vec ℕ) Refusal) → whole_text wanted_at bytes ≡ Ok w → IfOk r (λ v. IsProposed w.ring w.change v.items) → IfErr r (IsTurnedAway w.ring w.change)
-    → (w.change.leaves ≡ [] → IfErr r (λ e. e ≡ OutOfMemory)) → MakesIf Plan bytes (texts_of r)
-gives-plan bytes w (Ok v) h p q j = subst (λ (x : Result Wanted Refusal). IsAnswerTo x (Ok v.items)) (sym h) p
-gives-plan bytes w (Err e) h p q j = λ other. subst (λ (x : Result Wanted Refusal). IsAnswerTo x (Err e)) (sym h) (q, j)
+-- what writes the texts of a plan that makes the change gives an answer to it
+pub gives-answer : (w : Wanted) (ring : RingValue) (plan : List Planned) (cert : Cert) (r : Result (Vec ℕ) Refusal) → ring ≡ w.ring → IsProposed w.ring w.change plan cert
+    → IfOk r (λ v. v.items ≡ plan_text ring plan ++ cert_text ring cert) → IfErr r (λ e. e ≡ OutOfMemory) → IsAnswer w (texts_of r)
+gives-answer w ring plan cert (Ok v) same p text q = (plan, cert, p, subst (λ (x : RingValue). v.items ≡ plan_text x plan ++ cert_text x cert) same text)
+gives-answer w ring plan cert (Err e) same p text q = (no_memory q, λ none. q)
+
+-- an answer to the change that was read is what is wanted, memory aside
+pub gives-plan : (bytes : List ℕ) (w : Wanted) (r : Result (Vec ℕ) Refusal) → whole_text wanted_at bytes ≡ Ok w → IsAnswer w (texts_of r) → MakesIf Plan bytes (texts_of r)
+gives-plan bytes w (Ok v) h is = subst (λ (x : Result Wanted Refusal). IsAnswerTo x (Ok v.items)) (sym h) is
+gives-plan bytes w (Err e) h is = λ other. subst (λ (x : Result Wanted Refusal). IsAnswerTo x (Err e)) (sym h) is
 
 -- a certificate of a ring is one of the ring migrated: the nodes are the same
 pub cert-migrated : (ring : RingValue) (v : Cert) → Suits ring v → Suits (migrated ring) v

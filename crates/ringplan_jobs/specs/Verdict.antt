@@ -6,7 +6,9 @@ use Rattle.texts.specs.Judging.{map_ok}
 use Rattle.texts.specs.Left.{◌>>=◌, whole_text}
 use Rattle.ring_table.specs.Value.{migrated}
 use Rattle.ring_table.specs.Spelling.{ring_text}
+use Rattle.plan_text.specs.declared.step.Planned.{Planned}
 use Rattle.plan_text.specs.Spelling.{plan_text}
+use Rattle.plan_cert.specs.declared.cert.Cert.{Cert}
 use Rattle.plan_cert.specs.Spelling.{cert_text}
 use Rattle.change_text.specs.declared.wanted.Wanted.{Wanted}
 use Rattle.change_text.specs.Wanted.{wanted_at}
@@ -52,7 +54,7 @@ plays bytes = whole_text (bundle_at kind.Play) bytes >>= shown
 
 -- the text of a plan that makes the change, and of its certificate; or why there is none, and where nobody leaves that is want of memory
 abbrev pub IsAnswer : Wanted → Result (List ℕ) Refusal → Type 0
-IsAnswer w (Ok text) = IsProposed w.ring w.change text
+IsAnswer w (Ok text) = (plan : List Planned) × (cert : Cert) × IsProposed w.ring w.change plan cert × (text ≡ plan_text w.ring plan ++ cert_text w.ring cert)
 IsAnswer w (Err e) = IsTurnedAway w.ring w.change e × (w.change.leaves ≡ [] → e ≡ OutOfMemory)
 
 -- the first fault of what was read, and where there is none an answer to the change

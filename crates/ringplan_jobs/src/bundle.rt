@@ -13,14 +13,15 @@ ghost use Rattle.plan_check.specs.First.{first_refusal};
 ghost use Rattle.plan_check.specs.Headline.{KeepsPromises};
 ghost use Rattle.ring_script.specs.Bundles.{IsOfRing, bundle_at};
 ghost use Rattle.ring_script.specs.declared.bundle.Kind.TheVariants.{Check, Play};
+ghost use Rattle.change_text.specs.Valid.{IsChange};
 ghost use Rattle.change_text.specs.Wanted.{wanted_at};
 ghost use Rattle.ringplan_job.specs.declared.job.Job.TheVariants.{Check as Checking, Plan as Planning};
 ghost use Rattle.ringplan_jobs.specs.Answers.{texts_of};
 ghost use Rattle.ringplan_jobs.specs.Verdict.{TextsKeepPromises, MakesIf, judged, migrated_text, migration, plays};
-ghost use Rattle.ringplan_jobs.specs.Verdict.{shown, verdict};
+ghost use Rattle.ringplan_jobs.specs.Verdict.{IsAnswer, shown, verdict};
 
 use crate::replaying::{replay_bundle, replay_whole};
-use change_text::read_wanted;
+use change_text::{Wanted, read_wanted};
 use plan_cert::{Cert, write_cert};
 use plan_check::{OpenGate, Turned, check, check_parallel};
 use plan_goal::propose;
@@ -185,6 +186,17 @@ fn play_given(alloc: Global, bytes: Vec<u8>) -> Result<Vec<u8>, Refusal>
     }
 }
 
+// Writes the texts of a plan that makes the change, and of its certificate.
+fn plan_wanted(alloc: Global, wanted: Wanted) -> Result<Vec<u8>, Refusal>
+    requires { IsChange wanted.ring wanted.change }
+    ensures { IsAnswer wanted (texts_of result) }
+{
+    match propose(alloc, wanted.ring, &wanted.change) {
+        Ok(found) => found.text(alloc),
+        Err(e) => Err(e),
+    }
+}
+
 /// The texts of a plan that makes the change of a bundle of a ring and a change, and of the plan's certificate, where the checker accepts the plan.
 /// Else the first fault of the texts, and where there is none `NoPlan` or the checker's refusal; where nobody leaves there is always a plan.
 /// `OutOfMemory` comes only where memory ran out, behind the first four lines of the ring.
@@ -194,7 +206,7 @@ pub fn plan_bundle(alloc: Global, bytes: &[u8]) -> Result<Vec<u8>, Refusal>
     ensures late { IfErr result (λ e. e ≡ OutOfMemory → NoFaultBefore 5 (whole_text wanted_at bytes.now)) }
 {
     match read_wanted(alloc, bytes) {
-        Ok(wanted) => propose(alloc, wanted.ring, &wanted.change),
+        Ok(wanted) => plan_wanted(alloc, wanted),
         Err(e) => Err(e),
     }
 }

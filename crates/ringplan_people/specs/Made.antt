@@ -4,12 +4,13 @@ use Rattle.ring_names.specs.declared.refusal.Refusal.{Refusal}
 use Rattle.ring_names.specs.Refusals.{line_of, number_of}
 use Rattle.texts.specs.Left.{whole_text}
 use Rattle.ring_table.specs.Value.{RingValue}
-use Rattle.ring_table.specs.Spelling.{ring_text}
 use Rattle.plan_text.specs.declared.step.Planned.{Planned}
+use Rattle.plan_cert.specs.declared.cert.Cert.{Cert as CertValue}
 use Rattle.change_text.specs.declared.wanted.Wanted.{Wanted}
 use Rattle.change_text.specs.Wanted.{wanted_at}
 use Rattle.plan_check.specs.Approval.{IsApproved}
-use Rattle.plan_goal.specs.Proposals.{IsProposed}
+use Rattle.plan_goal.specs.declared.proposed.Proposed.{Proposed}
+use Rattle.plan_goal.specs.Proposals.{IsProposed, front_text}
 use Rattle.plan_lines.specs.Lines.{steps_text}
 use Rattle.plan_lines.specs.MoveLines.{moves_text}
 use Rattle.ringplan_jobs.specs.Answers.{refused_status}
@@ -21,7 +22,7 @@ use Rattle.ringplan_job.specs.declared.making.Color.{Color}
 use Rattle.ringplan_job.specs.declared.making.Statement.{Statement}
 use Rattle.ringplan_job.specs.declared.making.Statement.TheVariants as statements
 use Rattle.plan_bundles.specs.Certs.{IsCertifiedText}
-use Rattle.plan_bundles.specs.Goals.{IsLed}
+use Rattle.plan_bundles.specs.Goals.{IsLed, IsLedText}
 use Rattle.plan_bundles.specs.Windows.{AreAskedOf}
 use Rattle.plan_around.specs.Around.{IsAround}
 use Rattle.ringplan_people.specs.Studies.{IsStudyOf, HasApproved, IsShown, IsLeftBy, IsLeftNow}
@@ -29,7 +30,7 @@ use Rattle.ringplan_people.specs.Why.{HasKept, IsWhy}
 
 -- the text is that of the bytes' ring, of a plan that makes their change, and of its certificate
 abbrev pub IsBundleOf : List ℕ → List ℕ → Type 0
-IsBundleOf bytes text = (w : Wanted) × (more : List ℕ) × (whole_text wanted_at bytes ≡ Ok w) × IsProposed w.ring w.change more × (text ≡ ring_text w.ring ++ more)
+IsBundleOf bytes text = (w : Wanted) × (plan : List Planned) × (cert : CertValue) × (whole_text wanted_at bytes ≡ Ok w) × IsProposed w.ring w.change plan cert × (text ≡ front_text w.ring plan cert)
 
 -- the text has a certificate for the ring and the plan with which the bytes begin, or for those of a bundle that is made of their change
 abbrev pub IsCertOf : List ℕ → List ℕ → Type 0
@@ -48,7 +49,7 @@ IsMade (Draw wish) bytes text = HasApproved bytes
 IsMade Steps bytes text = OfPlan (λ ring plan. text ≡ steps_text ring plan) bytes
 IsMade Moves bytes text = OfPlan (λ ring plan. text ≡ moves_text ring plan) bytes
 IsMade (Windows cut) bytes text = OfPlan (λ ring plan. AreAskedOf ring plan cut.only text) bytes
-IsMade (Goal options status) bytes text = IsLed bytes options text
+IsMade (Goal options status) bytes text = IsLedText bytes options text
 IsMade (Around options back) bytes text = IsAround bytes (map (λ name. name.items) options.dead.items) back text
 IsMade (Why color) bytes text = ⊥
 IsMade (State statement) bytes text = ⊥
@@ -64,7 +65,7 @@ IsTold making = ⊤
 abbrev pub IsStated : Statement → List ℕ → ℕ → Type 0
 IsStated statements.Why bytes status = (status ≡ 0 → HasKept bytes) × (status ≤ 3)
 IsStated (statements.Show wish) bytes status = (status ≡ 0 → IsShown bytes) × (status ≤ 3)
-IsStated (statements.Goal options how) bytes status = (((status ≡ 0) ⊎ ((status ≡ 4) × (how ≡ exit.Steps))) × ((text : List ℕ) × IsLed bytes options text))
+IsStated (statements.Goal options how) bytes status = (((status ≡ 0) ⊎ ((status ≡ 4) × (how ≡ exit.Steps))) × ((p : Proposed) × IsLed bytes options p))
     ⊎ ((status ≢ 0) × (status ≤ 3))
 
 -- the status at what was made: 0, or 4 where a goal asks it to say whether the plan has steps

@@ -5,8 +5,7 @@ ghost use Rattle.plan_runs.specs.World.{World as TheWorld};
 ghost use Rattle.ring_core.specs.World.{Meets, plan_of, ring_of};
 ghost use Rattle.ringplan_people.specs.Studies.{IsLeftAt, IsLeftBy, IsLeftNow, IsPlanOf, members_now};
 
-use crate::changing::study_change;
-use crate::study::{Study, accepted, studied, study_plan};
+use crate::study::{Study, accepted, studied, study_change, study_plan};
 use crate::why::push_words_of;
 use helpers::Words;
 use history_text::read_replay;

@@ -4,12 +4,11 @@ ghost use Rattle.std.specs.Prelude.{IfOk};
 ghost use Rattle.ringplan_people.specs.Made.{IsBundleOf, IsCertOf};
 
 use crate::why::push_words_of;
-use change_text::read_wanted;
+use change_text::{Wanted, read_wanted};
 use helpers::Words;
 use plan_bundles::{Kind, cert_bundle, found_bundle, kind_of, push_excess};
+use plan_goal::propose;
 use ring_names::Refusal;
-use ring_table::write_ring;
-use ringplan_jobs::plan_bundle;
 use std::alloc::Global;
 
 // What is said where the search for a certificate was given up.
@@ -20,12 +19,9 @@ const GIVEN_UP: &[u8; 268] =
 fn planned(alloc: Global, bytes: &[u8]) -> Result<Vec<u8>, Refusal>
     ensures { IfOk result (λ text. IsBundleOf bytes.now text.items) }
 {
-    let plan = plan_bundle(alloc, bytes)?;
-    // The planner has taken the ring, so it is read again.
-    let wanted = read_wanted(alloc, bytes)?;
-    let mut text = write_ring(alloc, &wanted.ring)?;
-    text.extend_from_slice(plan.as_slice())?;
-    Ok(text)
+    let Wanted { ring, change } = read_wanted(alloc, bytes)?;
+    let found = propose(alloc, ring, &change)?;
+    found.bundle(alloc)
 }
 
 // A certificate for a bundle with a change: a plan is made first.

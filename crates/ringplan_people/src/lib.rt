@@ -3,7 +3,6 @@
 
 mod after;
 mod cert;
-mod changing;
 mod goal_words;
 mod history_words;
 mod object;
@@ -18,7 +17,6 @@ mod why;
 mod windows;
 
 pub use after::after_bundle;
-pub use plan_bundles::{cert_bundle, goal_bundle, wish_bundle};
 pub use reporting::{Report, report_bundle, report_unread};
 pub use show::{draw_bundle, show_bundle};
 pub use stating::state_bundle;

@@ -3,6 +3,7 @@
 ghost use Rattle.std.specs.Prelude.{◌≡◌, ◌≢◌, ◌≤◌, ◌⊎◌, ◌++◌, ℕ, List, [], IfOk};
 ghost use Rattle.ring_names.specs.Refusals.{line_of, number_of};
 ghost use Rattle.ringplan_jobs.specs.Answers.{refused_status};
+ghost use Rattle.plan_bundles.specs.Goals.{IsLedText};
 ghost use Rattle.ringplan_people.specs.Made.{IsMade, IsMadeWith, IsRefusal, IsReport, IsStated, IsTold};
 ghost use Rattle.ringplan_people.specs.Why.{IsWhy};
 
@@ -16,7 +17,7 @@ use crate::why::{push_words_of, why_bundle};
 use crate::windows::{push_windows_words, windows_bundle};
 use helpers::Words;
 use plan_around::around_bundle;
-use plan_bundles::{front, led_bundle};
+use plan_bundles::led_bundle;
 use ring_names::Refusal;
 use ringplan_job::{Color, Exit, Making, Options, Statement};
 use ringplan_jobs::{Answer, answer_of};
@@ -30,12 +31,37 @@ pub struct Report {
     pub status: u8,
 }
 
-// What is made of the bundle. Adds what standard error says of a bundle around dead nodes.
+// What standard error says of what is made, and whether that is a plan with steps that was asked for.
+#[derive(Drop)]
+struct Notes {
+    words: Words,
+    has_steps: bool,
+}
+
+// The text of a plan that leads to the goal ring. Notes which dead nodes leave though the change does not say so, and whether the plan has steps.
+fn make_goal(
+    alloc: Global,
+    bytes: &[u8],
+    options: &Options,
+    notes: &mut Notes,
+) -> Result<Vec<u8>, Refusal>
+    ensures { IfOk result (λ text. IsLedText bytes.now options.now text.items) }
+{
+    let found = led_bundle(alloc, bytes, options)?;
+    push_dead_leavers(alloc, &mut notes.words, bytes, options)?;
+    notes.has_steps = found.approved.plan().len() > 0;
+    if !notes.has_steps {
+        notes.words.text(b"ringplan: the plan has no steps, as the ring is what it shall be\n");
+    }
+    found.bundle(alloc)
+}
+
+// What is made of the bundle. Adds what standard error says of it.
 fn make_of(
     alloc: Global,
     making: &Making,
     bytes: &[u8],
-    notes: &mut Words,
+    notes: &mut Notes,
 ) -> Result<Vec<u8>, Refusal>
     requires { IsTold making.now }
     ensures { IfOk result (λ text. IsMade making.now bytes.now text.items) }
@@ -49,86 +75,51 @@ fn make_of(
         Making::Steps => steps_bundle(alloc, bytes),
         Making::Moves => moves_bundle(alloc, bytes),
         Making::Windows(cut) => windows_bundle(alloc, bytes, *cut),
-        Making::Goal(options, _) => led_bundle(alloc, bytes, options),
+        Making::Goal(options, _) => make_goal(alloc, bytes, options, notes),
         Making::Around(options, back) => {
-            around_bundle(alloc, bytes, options.dead.as_slice(), *back, notes)
+            around_bundle(
+                alloc,
+                bytes,
+                options.dead.as_slice(),
+                *back,
+                &mut notes.words,
+            )
         }
     }
 }
 
-// Whether the ring's text has a plan without steps after it.
-fn has_no_steps(output: &[u8]) -> bool {
-    output[front(output, 1)..].starts_with(b"plan 1\nend\n")
-}
-
-// Adds what standard error says of a goal: which dead nodes leave though the change does not say so, and that a plan which was asked for has no steps.
-fn push_goal_notes(
-    alloc: Global,
-    out: &mut Words,
-    options: &Options,
-    bytes: &[u8],
-    output: &[u8],
-) -> Result<(), Refusal> {
-    push_dead_leavers(alloc, out, bytes, options)?;
-    if has_no_steps(output) {
-        out.text(b"ringplan: the plan has no steps, as the ring is what it shall be\n");
-    }
-    Ok(())
-}
-
-// Adds what standard error says of what was made.
-fn push_notes(
-    alloc: Global,
-    out: &mut Words,
-    making: &Making,
-    bytes: &[u8],
-    output: &[u8],
-) -> Result<(), Refusal> {
-    match making {
-        Making::Goal(options, _) => push_goal_notes(alloc, out, options, bytes, output),
-        _ => Ok(()),
-    }
-}
-
 /// The exit status at a goal: 4 where it asks whether the plan has steps, and the plan has.
-pub(crate) fn goal_status(exit: Exit, output: &[u8]) -> u8
+pub(crate) fn goal_status(exit: Exit, has_steps: bool) -> u8
     ensures { (result ≡ 0) ⊎ ((result ≡ 4) × (exit ≡ Exit.Steps)) }
 {
     match exit {
         Exit::Steps => {
-            if has_no_steps(output) {
-                return 0;
+            if has_steps {
+                return 4;
             }
-            4
+            0
         }
         Exit::Printed => 0,
     }
 }
 
 // The exit status at what was made.
-fn made_status(making: &Making, output: &[u8]) -> u8
+fn made_status(making: &Making, has_steps: bool) -> u8
     ensures { IsMadeWith making.now result }
 {
     match making {
-        Making::Goal(_, exit) => goal_status(*exit, output),
+        Making::Goal(_, exit) => goal_status(*exit, has_steps),
         _ => 0,
     }
 }
 
 // The report of what was made, with these notes.
-fn made(
-    alloc: Global,
-    making: &Making,
-    bytes: &[u8],
-    output: Vec<u8>,
-    notes: Words,
-) -> Result<Report, Refusal>
+fn made(making: &Making, output: Vec<u8>, notes: Notes) -> Result<Report, Refusal>
     ensures { IfOk result (λ r. (r.output.items ≡ output.items) × IsMadeWith making.now r.status) }
 {
-    let mut notes = notes;
-    push_notes(alloc, &mut notes, making, bytes, output.as_slice())?;
-    let errors = notes.end()?;
-    let status = made_status(making, output.as_slice());
+    let Notes { words, has_steps } = notes;
+    let errors = words.end()?;
+    let status = made_status(making, has_steps);
     Ok(Report {
         output,
         errors,
@@ -184,9 +175,12 @@ fn report_made(alloc: Global, making: &Making, bytes: &[u8]) -> Result<Report, R
     requires { IsTold making.now }
     ensures { IfOk result (λ r. IsReport making.now bytes.now r.output.items r.status) }
 {
-    let mut notes = Words::new(alloc);
+    let mut notes = Notes {
+        words: Words::new(alloc),
+        has_steps: false,
+    };
     match make_of(alloc, making, bytes, &mut notes) {
-        Ok(output) => made(alloc, making, bytes, output, notes),
+        Ok(output) => made(making, output, notes),
         Err(refusal) => {
             let mut words = Words::new(alloc);
             push_said(alloc, &mut words, making, bytes, &refusal)?;

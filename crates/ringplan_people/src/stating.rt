@@ -15,6 +15,7 @@ use crate::study::{Study, studied};
 use crate::why::{Outcome, push_accepted, push_why};
 use helpers::{Words, at, small, word};
 use plan_bundles::{front, led_bundle};
+use plan_goal::Proposed;
 use ring_names::Refusal;
 use ring_table::{Ring, read_ring};
 use ringplan_job::{Exit, Options, Statement, Wish};
@@ -323,13 +324,13 @@ fn state_shown(alloc: Global, bytes: &[u8], wish: &Wish) -> Result<Answer, Refus
 }
 
 // The bundle of a plan that leads to the goal ring, and how much it moves.
-fn led_object(alloc: Global, text: &[u8]) -> Result<Object, Refusal> {
-    let found = studied(alloc, text)?;
+fn led_object(alloc: Global, found: &Proposed) -> Result<Object, Refusal> {
     let (ring, plan) = (found.approved.ring(), found.approved.plan());
     let scene = Scene::of(alloc, &found.approved, &found.cert)?;
+    let text = found.bundle(alloc)?;
     let mut object = Object::new(alloc);
     object.text("answer", b"yes")?;
-    object.text("bundle", text)?;
+    object.text("bundle", text.as_slice())?;
     object.number("steps", plan.len())?;
     put_change(&mut object, alloc, ring, &scene)?;
     Ok(object)
@@ -354,12 +355,12 @@ fn state_unled(
 // A plan that leads to the goal ring.
 fn state_goal(alloc: Global, bytes: &[u8], options: &Options, exit: Exit) -> Result<Answer, Refusal>
     ensures { IfOk result (λ answer. (((answer.status ≡ 0) ⊎ ((answer.status ≡ 4) × (exit ≡ Exit.Steps)))
-        × ((text : _) × IsLed bytes.now options.now text)) ⊎ ((answer.status ≢ 0) × (answer.status ≤ 3))) }
+        × ((p : _) × IsLed bytes.now options.now p)) ⊎ ((answer.status ≢ 0) × (answer.status ≤ 3))) }
 {
     match led_bundle(alloc, bytes, options) {
-        Ok(text) => {
-            let object = led_object(alloc, text.as_slice())?;
-            object.answer(goal_status(exit, text.as_slice()))
+        Ok(found) => {
+            let object = led_object(alloc, &found)?;
+            object.answer(goal_status(exit, found.approved.plan().len() > 0))
         }
         Err(refusal) => state_unled(alloc, bytes, options, &refusal),
     }

@@ -4,12 +4,13 @@ ghost use Rattle.std.specs.Prelude.{◌≡◌, None, IfOk, IfSome};
 ghost use Rattle.plan_text.specs.Valid.{Suits};
 ghost use Rattle.ringplan_people.specs.Studies.{IsPlanOf, IsStudyOf, IsRecorded};
 
-use crate::changing::study_change;
+use change_text::{Wanted, read_wanted};
 use history_text::read_replay;
 use plan_around::follow;
 use plan_bundles::{Kind, kind_of};
 use plan_cert::Cert;
 use plan_check::{Approved, check};
+use plan_goal::{Proposed, propose};
 use plan_runs::Entry;
 use plan_text::Plan;
 use ring_names::Refusal;
@@ -52,6 +53,20 @@ pub(crate) fn study_plan(alloc: Global, bytes: &[u8]) -> Result<Study, Refusal>
 {
     let bundle = read_bundle(alloc, Sections::Check, bytes)?;
     accepted(alloc, bundle.ring, bundle.plan, bundle.cert)
+}
+
+/// A bundle with a change, and a plan that makes it.
+pub(crate) fn study_change(alloc: Global, bytes: &[u8]) -> Result<Study, Refusal>
+    ensures of { IfOk result (λ s. IsPlanOf bytes.now s.approved.ring s.approved.plan) }
+    ensures history { IfOk result (λ s. s.history ≡ None) }
+{
+    let Wanted { ring, change } = read_wanted(alloc, bytes)?;
+    let Proposed { approved, cert } = propose(alloc, ring, &change)?;
+    Ok(Study {
+        approved,
+        cert,
+        history: None,
+    })
 }
 
 // A bundle with a history.

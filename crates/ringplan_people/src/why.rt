@@ -12,7 +12,7 @@ ghost use Rattle.ringplan_people.specs.Why.{AnswersCheck, BeginsWith, IsWhy};
 
 use crate::history_words::{tell_history, unless_memory};
 use crate::painting::painted;
-use crate::study::{Study, studied};
+use crate::study::{Study, studied, study_change};
 use change_text::{Wanted, read_wanted};
 use helpers::Words;
 use plan_bundles::{Kind, cert_bundle, front, kind_of};
@@ -21,7 +21,7 @@ use plan_check::{Turned, check};
 use ring_names::Refusal;
 use ring_script::Bundle;
 use ringplan_job::Color;
-use ringplan_jobs::{Answer, Kind as Sections, answer_of, check_bundle, plan_bundle, read_bundle};
+use ringplan_jobs::{Answer, Kind as Sections, answer_of, check_bundle, read_bundle};
 use show_refusal::{Read, Remedy, tell_plan};
 use show_why::{Page, Said, tell_text};
 use std::alloc::Global;
@@ -51,7 +51,7 @@ fn asked(alloc: Global, mended: &[u8], was: &Refusal) -> Result<Outcome, Refusal
             Ok(()) => Ok(Outcome::Accepted),
             Err(refusal) => next(refusal, was),
         },
-        Kind::Change => match plan_bundle(alloc, mended) {
+        Kind::Change => match study_change(alloc, mended) {
             Ok(_) => Ok(Outcome::Planned),
             Err(refusal) => next(refusal, was),
         },

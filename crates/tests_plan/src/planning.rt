@@ -172,7 +172,8 @@ fn proposal_checked<RT: AllocGlobal + Abort>(rt: &RT, text: &str) -> Result<(), 
 // The text of the plan for a change of the ring.
 fn proposal_over(alloc: Global, ring: Ring) -> Result<Vec<u8>, Refusal> {
     let change = read_change(alloc, &ring, CHANGE)?;
-    propose(alloc, ring, &change)
+    let found = propose(alloc, ring, &change)?;
+    found.text(alloc)
 }
 
 fn proposal(alloc: Global) -> Result<Vec<u8>, Refusal> {

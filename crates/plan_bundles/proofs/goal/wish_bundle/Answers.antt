@@ -1,5 +1,4 @@
 use Rattle.std.proofs.Common.{◌≡◌, ◌∙◌, List, Some, map, sym, ap, subst}
-use Rattle.std.proofs.lemmas.Result.{IfOk-weaker}
 use Rattle.ring_names.specs.Names.{place}
 use Rattle.ring_names.specs.declared.ids.NodeId.{NodeId}
 use Rattle.ring_table.specs.Value.{names_of}
@@ -18,4 +17,5 @@ returns c =
     let around = subst (λ (dead : List NodeId). HasChangedMembers w.ring (with_dead w.ring dead w.change) wanted) same changed in
     let by-change = subst (λ (change : Change). IsSizedAsAsked c.args.options.now w.ring change wanted) c.in_ok-change.ensures c.in_ok-ask_by_options.ensures in
     let sized = subst (λ (dead : List NodeId). IsSizedAsAsked c.args.options.now w.ring (with_dead w.ring dead w.change) wanted) same by-change in
-    record { reached = IfOk-weaker c.lead.result _ _ (λ text is. (w, c.in_ok-ring.ensures.read, wanted, c.as_slice-3.result.now, named, around, sized, is)) c.lead.ensures }
+    let p = c.in_ok-reach.ensures in
+    record { reached = (w, c.in_ok-ring.ensures.read, wanted, c.as_slice-3.result.now, named, around, sized, (p.ring, p.reached)) }

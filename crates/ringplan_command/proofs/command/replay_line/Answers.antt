@@ -1,4 +1,4 @@
-use Rattle.std.proofs.Common.{◌≡◌, ◌∙◌, ap, sym, subst, codes, List, [], ℕ}
+use Rattle.std.proofs.Common.{◌≡◌, sym, subst, codes, List, [], ℕ}
 use Rattle.std.specs.Prelude.{Option}
 use Rattle.clap.specs.Words.{first_of, found_of, rows_of, subcommand_rows_of}
 use Rattle.ringplan_job.specs.declared.job.Job.TheVariants.{Replay}

@@ -35,6 +35,6 @@ returns g c =
     let wrong = mistaken _ (kind_of c.in-Err.error) (λ e. c.in_default.not-DisplayHelp (c.kind.ensures ∙ e)) (λ e. c.in_default.not-DisplayVersion (c.kind.ensures ∙ e)) (λ e. c.in_default.not-OutOfMemory (c.kind.ensures ∙ e)) among in
     let is = c.alone-in_default.ensures.request in
     record {
-      kinds = subst (λ (r : Request). Answers (asked words) r) (sym is) (turned_away (asked words) (Mistaken c.in_ok-text.text) (inl wrong) tt);
-      files = inr (c.alone-in_default.ensures.files, λ job. no_job (Mistaken c.in_ok-text.text) tt (subst IsJob is job));
+      kinds = subst (λ (r : Request). Answers (asked words) r) (sym is) (turned_away (asked words) (Mistaken c.in_ok-text-in-Err.text) (inl wrong) tt);
+      files = inr (c.alone-in_default.ensures.files, λ job. no_job (Mistaken c.in_ok-text-in-Err.text) tt (subst IsJob is job));
     }

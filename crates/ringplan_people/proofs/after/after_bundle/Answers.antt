@@ -6,4 +6,4 @@ pub returns-in_ok-study_change-in-Change : goal.returns-in_ok-study_change-in-Ch
 returns-in_ok-study_change-in-Change c = record { after = IfOk-weaker c.ring_left.result _ _ (λ text is. inr is) c.ring_left.ensures }
 
 pub returns-in_ok-study_plan-in-Plan : goal.returns-in_ok-study_plan-in-Plan
-returns-in_ok-study_plan-in-Plan c = record { after = IfOk-weaker c.ring_left.result _ _ (λ text is. inr is) c.ring_left.ensures }
+returns-in_ok-study_plan-in-Plan c = record { after = IfOk-weaker c.ring_left-in-Plan.result _ _ (λ text is. inr is) c.ring_left-in-Plan.ensures }

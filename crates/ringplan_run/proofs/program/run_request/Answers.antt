@@ -4,7 +4,7 @@ use Rattle.ringplan_jobs.specs.Answers.{texts_of}
 use Rattle.ringplan_command.specs.Command.{Answers}
 use Rattle.ringplan_command.specs.declared.command.Request.{Request}
 use Rattle.ringplan_run.specs.Run.{described, help, refused}
-use Rattle.ringplan_run.proofs.Runs.{asked_choice, many_few, ran, ran_asked, ran_by, ran_driven, ran_found, ran_out, ran_part, ran_report, ran_stated, said}
+use Rattle.ringplan_run.proofs.Runs.{asked_choice, many_few, ran, ran_asked, ran_by, ran_driven, ran_out, ran_part, ran_report, ran_stated, said}
 use Rattle.ringplan_run.proofs.Deliveries.{prints_nothing}
 use Rattle.ringplan_run.proofs.program.run_request.Goals as goal
 
