@@ -8,7 +8,7 @@ use Rattle.ring_table.specs.Value.{RingValue}
 use Rattle.plan_runs.specs.declared.event.Event.{Event}
 use Rattle.plan_runs.specs.declared.event.Event.TheVariants.{StartPut, StartGet}
 use Rattle.plan_runs.specs.declared.event.Entry.{Entry}
-use Rattle.history_parts.specs.declared.choice.Choice.{Choice}
+use Rattle.ring_names.specs.declared.choice.Choice.{Choice}
 use Rattle.history_parts.specs.Choices.{is_chosen}
 use Rattle.history_parts.specs.Parts.{puts_after, gets_after, entry_in, with_entry, all_puts, all_gets, part_after, part_of, is_key_in, is_marked, or_none}
 use Rattle.history_parts.specs.Cuts.{CutValue, after_event, entry_next}

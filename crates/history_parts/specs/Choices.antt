@@ -1,7 +1,7 @@
 -- Which partitions a part sees.
 use Rattle.std.specs.Prelude.{◌==◌, ◌%◌, ◌<◌, ◌&&◌, ℕ, Bool, nat_le}
-use Rattle.history_parts.specs.declared.choice.Choice.{Choice}
-use Rattle.history_parts.specs.declared.choice.Choice.TheVariants.{Share, Range}
+use Rattle.ring_names.specs.declared.choice.Choice.{Choice}
+use Rattle.ring_names.specs.declared.choice.Choice.TheVariants.{Share, Range}
 
 -- whether the partition is one of them
 abbrev pub is_chosen : Choice → ℕ → Bool

@@ -6,7 +6,7 @@ mod cut;
 mod laws;
 mod marks;
 
-pub use choice::Choice;
+pub use choice::mark_chosen;
 pub use cut::{Cut, part};
 pub use laws::{parts_decide, parts_end, parts_follow};
 pub use marks::Marks;

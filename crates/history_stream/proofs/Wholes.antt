@@ -13,7 +13,7 @@ use Rattle.plan_runs.specs.declared.event.Entry.{Entry}
 use Rattle.script_text.specs.Valid.{AreWriters}
 use Rattle.history_text.specs.Said.{SaidEntry}
 use Rattle.history_text.specs.Spelling.{entry_line}
-use Rattle.history_parts.specs.declared.choice.Choice.{Choice}
+use Rattle.ring_names.specs.declared.choice.Choice.{Choice}
 use Rattle.history_parts.specs.Choices.{is_chosen}
 use Rattle.history_parts.specs.Cuts.{first_cut}
 use Rattle.history_parts.specs.Parts.{all_gets, all_puts, is_marked, part_of}

@@ -9,7 +9,7 @@ use Rattle.ring_table.specs.Value.{RingValue, names_of}
 use Rattle.plan_runs.specs.declared.event.Entry.{Entry}
 use Rattle.history_text.specs.Said.{SaidEntry}
 use Rattle.history_text.specs.Spelling.{entry_line, history_text}
-use Rattle.history_parts.specs.declared.choice.Choice.{Choice}
+use Rattle.ring_names.specs.declared.choice.Choice.{Choice}
 use Rattle.history_parts.specs.Choices.{is_chosen}
 use Rattle.history_parts.specs.Parts.{is_marked, part_of}
 use Rattle.history_stream.specs.declared.cutting.Part.{Part}

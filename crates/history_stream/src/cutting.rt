@@ -17,9 +17,9 @@ use crate::place::Place;
 use crate::reader::{Reader, Stage};
 use crate::room::PartText;
 use bundle_text::MAX_INPUT;
-use history_parts::{Choice, Cut};
+use history_parts::{Cut, mark_chosen};
 use memchr::memchr;
-use ring_names::{Names, Refusal};
+use ring_names::{Choice, Names, Refusal};
 use std::alloc::Global;
 use std::io::Read;
 
@@ -136,7 +136,7 @@ fn cut_history<R: Read + Drop>(
     ensures { (more : List ℕ) × Tells (R.remaining input.old) more × CutsRest choice wanted front (first.items ++ more) result }
 {
     let FrontText { ring, text, line } = front;
-    let marks = choice.marks(alloc, ring.q())?;
+    let marks = mark_chosen(alloc, choice, ring.q())?;
     let mut part = PartText::of(text);
     part.push_text(b"history 1\n")?;
     let mut reader = Reader {

@@ -2,6 +2,7 @@
 //! and the names that are numbered in order of first sight.
 #![tactic(auto)]
 
+mod choice;
 mod decimal;
 mod finder;
 mod ids;
@@ -14,6 +15,7 @@ mod refusal;
 mod rows;
 mod value;
 
+pub use choice::Choice;
 pub use decimal::push_decimal;
 pub use ids::{NodeId, Slot, WriterId};
 pub use listed::Listed;

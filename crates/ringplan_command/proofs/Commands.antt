@@ -32,8 +32,8 @@ use Rattle.ringplan_job.specs.declared.making.Color.{Color}
 use Rattle.ringplan_job.specs.declared.making.Color.TheVariants.{Auto, Always, Never}
 use Rattle.ringplan_command.specs.Makings.{MeansColor, but_text}
 use Rattle.ringplan_command.specs.Parts.{IsShare, MeansChoice, PartTexts, texts_in}
-use Rattle.history_parts.specs.declared.choice.Choice.{Choice}
-use Rattle.history_parts.specs.declared.choice.Choice.TheVariants.{Range, Share}
+use Rattle.ring_names.specs.declared.choice.Choice.{Choice}
+use Rattle.ring_names.specs.declared.choice.Choice.TheVariants.{Range, Share}
 use Rattle.ringplan_command.specs.Numbers.{HasNoNumber}
 
 is_free : is_simple_and_free ringplan ≡ true

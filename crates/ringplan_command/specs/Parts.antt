@@ -3,8 +3,8 @@ use Rattle.std.specs.Prelude.{◌≡◌, ◌==◌, ℕ, ◌<◌, ◌≤◌, List
 use Rattle.std.specs.List.{after_first, before_first, position_or_len}
 use Rattle.clap.specs.Words.{first_value, one_text}
 use Rattle.clap.specs.declared.parser.matches.Found.{Found}
-use Rattle.history_parts.specs.declared.choice.Choice.{Choice}
-use Rattle.history_parts.specs.declared.choice.Choice.TheVariants.{Share, Range}
+use Rattle.ring_names.specs.declared.choice.Choice.{Choice}
+use Rattle.ring_names.specs.declared.choice.Choice.TheVariants.{Share, Range}
 use Rattle.ringplan_command.specs.Numbers.{IsNumberFrom, IsNumberNamed, IsNumberTo}
 use Rattle.ringplan_command.specs.declared.parts.PartWish.{PartWish}
 

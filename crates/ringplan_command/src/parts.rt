@@ -2,13 +2,13 @@
 
 ghost use Rattle.std.specs.Prelude.{◌≡◌, ℕ, codes, MatchOption};
 ghost use Rattle.clap.specs.Words.{first_value, found_of, one_text};
-ghost use Rattle.history_parts.specs.declared.choice.Choice.{Choice as TheChoice};
-ghost use Rattle.history_parts.specs.declared.choice.Choice.TheVariants.{Range, Share};
+ghost use Rattle.ring_names.specs.declared.choice.Choice.{Choice as TheChoice};
+ghost use Rattle.ring_names.specs.declared.choice.Choice.TheVariants.{Range, Share};
 ghost use Rattle.ringplan_command.specs.Parts.{IsRange, IsShare, MeansChoice, PartTexts, ReadsPart, texts_in};
 
 use crate::counts::{Count, MOST_PARTS, count_of};
 use clap::ArgMatches;
-use history_parts::Choice;
+use ring_names::Choice;
 
 // The greatest number of an entry of a part that is judged.
 const MOST_ENTRY: u32 = 999_999;

@@ -9,8 +9,8 @@ use Rattle.ringplan_command.specs.declared.form.Form.{Form}
 use Rattle.ringplan_job.specs.declared.job.Job.{Job}
 use Rattle.ringplan_job.specs.declared.job.Job.TheVariants.{Check}
 use Rattle.ringplan_jobs.specs.Answers.{output_of, refused_status, status_of}
-use Rattle.history_parts.specs.declared.choice.Choice.{Choice}
-use Rattle.history_parts.specs.declared.choice.Choice.TheVariants.{Range, Share}
+use Rattle.ring_names.specs.declared.choice.Choice.{Choice}
+use Rattle.ring_names.specs.declared.choice.Choice.TheVariants.{Range, Share}
 use Rattle.history_parts.specs.Choices.{IsChoice}
 use Rattle.history_stream.specs.declared.cutting.Part.{Part}
 use Rattle.history_stream.specs.declared.cutting.NoPart.{NoPart}

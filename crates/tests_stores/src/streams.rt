@@ -4,10 +4,10 @@ ghost use Rattle.std.specs.Prelude.{◌<◌, Some};
 ghost use Rattle.history_parts.specs.Choices.{IsChoice};
 
 use crate::answering::{CHAINS, MOVE_STEPS, RING};
-use history_parts::{Choice, part};
+use history_parts::part;
 use history_stream::{NoPart, Part, cut_stream};
 use history_text::{push_entry, read_replay};
-use ring_names::Refusal;
+use ring_names::{Choice, Refusal};
 use std::alloc::Global;
 use std::io;
 use std::io::Read;

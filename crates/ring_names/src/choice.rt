@@ -1,0 +1,10 @@
+//! A choice of partitions.
+
+/// Partitions that a part of a history sees.
+#[derive(Clone, Copy, Debug, PartialEq, Eq)]
+pub enum Choice {
+    /// Partition p if p modulo `of` is `part`; `of` is not 0.
+    Share { of: u32, part: u32 },
+    /// The partitions from `first` to `last`.
+    Range { first: u32, last: u32 },
+}
