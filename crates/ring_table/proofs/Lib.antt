@@ -5,3 +5,4 @@ pub mod NodesLaws
 pub mod RingForm
 pub mod RingLaws
 pub mod RingLates
+pub mod Changing

@@ -1,5 +1,5 @@
 -- A ring as one form: what is read, how it is spelled and what is allowed.
-use Rattle.std.proofs.Common.{◌≡◌, ℕ, zero, suc, ◌+◌, ◌<◌, ◌≤◌, ◌^◌, Bool, true, false, not, cond, nat_lt, nat_le, ◌==◌, ◌&&◌, List, [], ◌∷◌, ◌++◌, length, map, codes, Option, Some, None, Ok, Err, refl, ap, ◌∙◌, arith}
+use Rattle.std.proofs.Common.{◌≡◌, ℕ, zero, suc, ◌+◌, ◌<◌, ◌≤◌, Bool, true, false, not, cond, nat_lt, nat_le, ◌==◌, List, [], ◌∷◌, ◌++◌, length, map, codes, Option, Some, None, Ok, Err, refl, ap, ◌∙◌, arith}
 use Rattle.std.proofs.Common.{rules, length-append, is_some, decimal}
 use Rattle.std.specs.List.{AllByRecursion, list_all}
 use Rattle.std.proofs.lemmas.Bool.{lt-ltb, ltb-true, le-ltb, le-leb, leb-true, eqb-true, not-false}
@@ -10,7 +10,7 @@ use Rattle.ring_table.proofs.Terms.{all_different, AllNew, place, NodeId, Allowa
 use Rattle.ring_names.specs.Space.{is_space}
 use Rattle.texts.proofs.Forms.{IsPart, IsPlain, Any, Always, BeginsOther, At, is_word, some_lines, Form, LineForm, Section, Advances, of_item, field_of, mapped, pair, word, room, judge_words, AreWords, words-are, words-at}
 use Rattle.texts.proofs.Forms.{one_of, both, line, one, many, then, made, ending, BadLine, Repeated, NotMember, is_name, decimal_value, IsPlainLine, EachNext}
-use Rattle.texts.proofs.Forms.{◌>>=◌, IsItem-word, bind_ok, ok_is, at-bind, at-if}
+use Rattle.texts.proofs.Forms.{IsItem-word, bind_ok, ok_is, at-bind, at-if}
 use Rattle.texts.proofs.Forms.{judges-word, advances-line, advances-map, advances-then, decimal-value, value-decimal, decimal-plain, name-plain}
 use Rattle.texts.proofs.MoreForms.{Fields, number, unsaid, maybe, judged_line, at_least_one, after}
 use Rattle.ring_names.specs.declared.refusal.Refusal.TheVariants.{QuorumTooSmall, SharedNode}

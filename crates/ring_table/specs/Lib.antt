@@ -3,3 +3,4 @@ pub mod Valid
 pub mod Spelling
 pub mod Reading
 pub mod Kept
+pub mod Changed

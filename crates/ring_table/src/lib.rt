@@ -2,6 +2,7 @@
 #![tactic(auto)]
 
 mod allowance;
+mod changed;
 mod declared;
 mod field;
 mod head;

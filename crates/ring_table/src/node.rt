@@ -1,7 +1,8 @@
 //! A node as its ring declares it.
 
-ghost use Rattle.std.specs.Prelude.{◌≡◌};
+ghost use Rattle.std.specs.Prelude.{◌≡◌, map};
 ghost use Rattle.ring_table.specs.Value.{is_member};
+ghost use Rattle.ring_table.specs.Spelling.{name_at};
 
 use crate::allowance::Allowance;
 use ring_names::{Listed, NodeId};
@@ -24,5 +25,15 @@ pub(crate) fn is_member(nodes: &[Node], node: NodeId) -> bool
     match nodes.get(node.0 as usize) {
         Some(node) => node.is_member,
         None => false,
+    }
+}
+
+// The name of the node of that number, or no bytes if there is no such node.
+pub(crate) fn name_at(nodes: &[Node], node: NodeId) -> &[u8]
+    ensures { result.now ≡ name_at (map (λ x. x.name) nodes.now) node }
+{
+    match nodes.get(node.0 as usize) {
+        Some(node) => node.name.as_slice(),
+        None => &[],
     }
 }

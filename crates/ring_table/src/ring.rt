@@ -7,7 +7,7 @@ ghost use Rattle.texts.specs.Name.{is_name};
 use crate::allowance::NodeSide;
 use crate::declared::Declared;
 use crate::head::Head;
-use crate::node::{Node, is_member};
+use crate::node::{Node, is_member, name_at};
 use ring_names::{Listed, Names, NodeId, Slot};
 use std::marker::Model;
 
@@ -62,6 +62,7 @@ impl Ring {
     ghost use Rattle.ring_table.specs.declared.node.Node.{Node};
     ghost use Rattle.ring_table.specs.Value.{RingValue, names_of, is_member, allowance_of, row_of, owner_of, migrated};
     ghost use Rattle.ring_table.specs.Reading.{ring_of};
+    ghost use Rattle.ring_table.specs.Spelling.{name_at};
     ghost use Rattle.ring_names.specs.Space.{is_space};
     ghost use Rattle.ring_table.specs.Valid.{IsRing};
 
@@ -159,6 +160,13 @@ impl Ring {
         ensures valid { IsRing self.now }
     {
         self.nodes.as_slice()
+    }
+
+    /// The name of the node of that number, or no bytes if the ring has no such node. Takes no memory.
+    pub fn name(&self, node: u32) -> &[u8]
+        ensures { result.now ≡ name_at (names_of self.now) (record { 0 = node }) }
+    {
+        name_at(self.nodes.as_slice(), NodeId(node))
     }
 
     /// The node of that name, if it is declared. Takes no memory.

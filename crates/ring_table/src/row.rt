@@ -99,7 +99,7 @@ fn owners(names: &Names, count: u32, fields: &mut Fields) -> Result<Row, Refusal
     }
 }
 
-fn are_members(nodes: &[Node], row: &[NodeId]) -> bool
+pub(crate) fn are_members(nodes: &[Node], row: &[NodeId]) -> bool
     ensures { result ≡ list_all (is_member_of nodes.now) row.now }
 {
     row.iter().all(|owner| is_member(nodes, *owner))
@@ -112,7 +112,7 @@ fn is_among(owner: NodeId, row: &[NodeId]) -> bool
 }
 
 #[tactic(auto, using(crate::proofs::RowLaws::among))]
-fn are_different(row: &[NodeId]) -> bool
+pub(crate) fn are_different(row: &[NodeId]) -> bool
     ensures { result ≡ differ (map (λ x. x.0) row.now) }
 {
     let Some((first, others)) = row.split_first() else {

@@ -10,7 +10,7 @@ ghost use Rattle.ring_table.specs.Spelling.{allowance_fields, node_fields, name_
 ghost use Rattle.ring_table.specs.Value.{names_of};
 
 use crate::allowance::Allowance;
-use crate::node::Node;
+use crate::node::{Node, name_at};
 use crate::ring::Ring;
 use ring_names::{Listed, NodeId, Refusal, push_decimal};
 use std::alloc::{AllocError, Global};
@@ -99,10 +99,7 @@ pub fn push_name(out: &mut Vec<u8>, nodes: &[Node], owner: NodeId) -> Result<(),
     ensures { OnOk result (out.new.items ≡ out.old.items ++ 32 ∷ name_at (map (λ x. x.name) nodes.now) owner) }
 {
     out.push(b' ')?;
-    if let Some(node) = nodes.get(owner.0 as usize) {
-        out.extend_from_slice(node.name.as_slice())?;
-    }
-    Ok(())
+    out.extend_from_slice(name_at(nodes, owner))
 }
 
 // The owners of a row, each behind a space.
