@@ -9,14 +9,13 @@ use crate::settling::settle;
 use crate::sources::Listing;
 use crate::told::Saying;
 use crate::writing::{Written, write};
-use helpers::Words;
+use helpers::{Words, is_set, put};
 use plan_cert::Cert;
-use plan_runs::Entry;
+use plan_moves::Progress;
+use plan_runs::{Back, Entry};
 use plan_text::Plan;
 use ring_names::{NodeId, Refusal, Slot};
 use ring_table::Ring;
-use ringplan_job::Back;
-use show_plan::Progress;
 use std::alloc::Global;
 use std::collections::BTreeMap;
 
@@ -83,26 +82,11 @@ pub(crate) struct Search<'a> {
     pub(crate) words: Words,
 }
 
-/// What is marked at the place; false where there is no such place.
-pub(crate) fn is_set(marks: &[bool], place: u32) -> bool {
-    match marks.get(place as usize) {
-        Some(mark) => *mark,
-        None => false,
-    }
-}
-
-/// Marks the place, if there is one.
-pub(crate) fn mark(marks: &mut [bool], place: u32) {
-    if let Some(old) = marks.get_mut(place as usize) {
-        *old = true;
-    }
-}
-
 // By node, whether it is dead.
 fn flags(task: &Task) -> Result<Vec<bool>, Refusal> {
     let mut dead = vec![in task.alloc; false; task.ring.nodes().len()]?;
     for node in task.dead {
-        mark(dead.as_mut_slice(), node.0);
+        put(dead.as_mut_slice(), node.0, true);
     }
     Ok(dead)
 }
@@ -180,7 +164,7 @@ impl<'a> Search<'a> {
     /// Leaves the step out, if there is one.
     pub(crate) fn remove(&mut self, step: Option<u32>) {
         if let Some(step) = step {
-            mark(self.gone.as_mut_slice(), step);
+            put(self.gone.as_mut_slice(), step, true);
             self.is_changed = true;
         }
     }

@@ -1,6 +1,7 @@
 //! What a history has begun, and the hints that nodes keep after it.
 
-use crate::around::{Task, mark};
+use crate::around::Task;
+use helpers::put;
 use plan_runs::{Entry, Event, Reply};
 use ring_names::{Refusal, Slot};
 use std::collections::BTreeSet;
@@ -28,7 +29,7 @@ impl Begun {
     // An entry more.
     fn note(&mut self, entry: &Entry) -> Result<(), Refusal> {
         match &entry.event {
-            Event::Do(step) | Event::OpenCopy(step) => mark(self.begun.as_mut_slice(), *step),
+            Event::Do(step) | Event::OpenCopy(step) => put(self.begun.as_mut_slice(), *step, true),
             Event::Hint(_, _, node) => {
                 if let Reply::Ticket(slot, _) = &entry.reply {
                     self.hints.insert((*slot, node.0))?;

@@ -1,11 +1,11 @@
 //! What each step of the new plan waits for: what it waited for, its slot's step before it, and by the allowances a copy in which its nodes take part.
 
-use crate::around::{Search, is_set};
+use crate::around::Search;
 use crate::moving::Move;
 use crate::needs::Needs;
 use crate::owners::Way;
 use crate::sources::Listing;
-use helpers::{at, raise, set, small};
+use helpers::{at, is_set, raise, set, small};
 use plan_text::{Source, Step};
 use ring_names::{NodeId, Refusal, Slot};
 use ring_table::{Allowance, Side};

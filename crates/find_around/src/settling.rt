@@ -1,11 +1,11 @@
 //! What becomes of each move, and of joins and retirements.
 
-use crate::around::{Search, mark};
+use crate::around::Search;
 use crate::moving::{Move, first_owner};
 use crate::told::Outcome;
-use helpers::small;
+use helpers::{put, small};
+use plan_runs::Back;
 use ring_names::{NodeId, Refusal, Slot};
-use ringplan_job::Back;
 
 // What becomes of a move, as far as the next move of its slot needs to know.
 #[derive(Clone, Copy, Debug)]
@@ -186,10 +186,10 @@ impl Search<'_> {
     fn take_back(&mut self, it: &Move) -> Result<(), Refusal> {
         self.note_taken(it.slot, it.target)?;
         if let Some(mirror) = it.mirror {
-            mark(self.taken.as_mut_slice(), mirror);
+            put(self.taken.as_mut_slice(), mirror, true);
         }
         if let Some(copy) = it.copy {
-            mark(self.fresh.as_mut_slice(), copy);
+            put(self.fresh.as_mut_slice(), copy, true);
         }
         self.is_changed = true;
         Ok(())

@@ -1,9 +1,9 @@
 //! Other sources for a copy: slots that can be read, in place of a dead owner.
 
-use crate::around::{Search, mark};
+use crate::around::Search;
 use crate::moving::Move;
 use crate::owners::Way;
-use helpers::{at, raise};
+use helpers::{at, put, raise};
 use plan_text::{Source, Step};
 use ring_names::{Refusal, Slot};
 use ring_table::Allowance;
@@ -124,7 +124,7 @@ impl Search<'_> {
             self.list(&mut listing, it.slot.partition, copy, *one)?;
         }
         self.listings.insert(copy, listing)?;
-        mark(self.fresh.as_mut_slice(), copy);
+        put(self.fresh.as_mut_slice(), copy, true);
         self.is_changed = true;
         Ok(true)
     }

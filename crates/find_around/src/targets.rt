@@ -2,9 +2,8 @@
 
 use crate::around::Search;
 use crate::moving::{Move, first_owner};
-use helpers::{at, raise, set, small};
+use helpers::{at, rack, raise, set, small};
 use ring_names::{NodeId, Slot};
-use show_plan::{name, rack};
 
 // The byte that a rack's name follows.
 const RACK: u8 = b'.';
@@ -49,7 +48,7 @@ impl Search<'_> {
     // Whether the two nodes are in one rack.
     fn are_kin(&self, node: u32, other: u32) -> bool {
         let ring = self.task.ring;
-        rack(name(ring, node), RACK) == rack(name(ring, other), RACK)
+        rack(ring.name(node), RACK) == rack(ring.name(other), RACK)
     }
 
     // How many of the partition's other slots are in the node's rack in the end.
@@ -79,7 +78,7 @@ impl Search<'_> {
     /// Another target for the move, with fewest slots: in another rack than the partition's other slots, if there is one.
     pub(crate) fn other_target(&mut self, it: &Move) -> Option<u32> {
         self.mark_busy(it.slot.partition);
-        let has_racks = name(self.task.ring, it.target).contains(&RACK);
+        let has_racks = self.task.ring.name(it.target).contains(&RACK);
         let owners = if has_racks {
             self.others(it)
         } else {

@@ -2,7 +2,6 @@
 
 use crate::around::Search;
 use ring_names::{Refusal, Slot};
-use show_plan::name;
 
 /// What becomes of a slot, where that is not what the plan said.
 #[derive(Clone, Copy, Debug, PartialEq, Eq)]
@@ -37,14 +36,14 @@ impl Search<'_> {
     /// Says this of the node.
     pub(crate) fn say_of_node(&mut self, words: &[u8], node: u32) {
         let ring = self.task.ring;
-        self.words.fill(words, &[name(ring, node)], &[]);
+        self.words.fill(words, &[ring.name(node)], &[]);
     }
 
     /// Says this of the node and the slot.
     pub(crate) fn say_of_slot(&mut self, words: &[u8], node: u32, slot: Slot) {
         let ring = self.task.ring;
         self.words
-            .fill(words, &[name(ring, node)], &[slot.partition, slot.index]);
+            .fill(words, &[ring.name(node)], &[slot.partition, slot.index]);
     }
 
     // What is to be said of the slot so far.
@@ -82,7 +81,7 @@ impl Search<'_> {
     fn say_of_nodes(&mut self, words: &[u8], node: u32, other: u32) {
         let ring = self.task.ring;
         self.words
-            .fill(words, &[name(ring, node), name(ring, other)], &[]);
+            .fill(words, &[ring.name(node), ring.name(other)], &[]);
     }
 
     // Says what becomes of a slot, after its name.

@@ -2,10 +2,12 @@
 #![tactic(auto)]
 
 mod numbers;
+mod racks;
 mod words;
 
 pub use numbers::{
-    NONE, at, lower, parts, parts_of, place_of, quotient, raise, row, set, set_word, small, swap,
-    word,
+    NONE, at, is_set, lower, parts, parts_of, place_of, put, quotient, raise, row, set, set_word,
+    small, swap, word,
 };
+pub use racks::rack;
 pub use words::Words;

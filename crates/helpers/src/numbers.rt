@@ -56,6 +56,21 @@ pub fn set_word(words: &mut [u64], place: usize, new: u64) {
     }
 }
 
+/// The mark at the place, and false if there is none.
+pub fn is_set(marks: &[bool], place: u32) -> bool {
+    match marks.get(place as usize) {
+        Some(mark) => *mark,
+        None => false,
+    }
+}
+
+/// Writes the mark at the place, if there is one.
+pub fn put(marks: &mut [bool], place: u32, mark: bool) {
+    if let Some(old) = marks.get_mut(place as usize) {
+        *old = mark;
+    }
+}
+
 /// The row of that place, and none where there is none.
 pub fn row(rows: &Rows, place: usize) -> &[u32] {
     if place < rows.len() {

@@ -16,7 +16,7 @@ use Rattle.plan_check.specs.Headline.{KeepsPromises}
 use Rattle.history_text.specs.Replays.{Parts, replay_at}
 use Rattle.history_text.specs.Spelling.{history_text}
 use Rattle.ring_core.specs.Replays.{IsHistory}
-use Rattle.ringplan_job.specs.declared.making.Back.{Back}
+use Rattle.plan_runs.specs.declared.back.Back.{Back}
 use Rattle.plan_past.specs.Past.{IsSamePast}
 use Rattle.plan_bundles.specs.Goals.{AreNamed}
 use Rattle.plan_around.specs.Apart.{AreApart}

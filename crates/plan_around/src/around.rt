@@ -15,12 +15,11 @@ use plan_bundles::nodes_of;
 use plan_cert::Cert;
 use plan_check::Approved;
 use plan_past::{SamePast, same_past};
-use plan_runs::Entry;
+use plan_runs::{Back, Entry};
 use plan_text::Plan;
 use ring_core::replay;
 use ring_names::{Names, NodeId, Refusal};
 use ring_table::{Ring, read_ring, write_ring};
-use ringplan_job::Back;
 use std::alloc::Global;
 
 // A plan that has begun, as it was read.

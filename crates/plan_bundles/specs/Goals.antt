@@ -15,7 +15,7 @@ use Rattle.plan_goal.specs.declared.proposed.Proposed.{Proposed}
 use Rattle.plan_goal.specs.Proposals.{front_text}
 use Rattle.plan_goal.specs.Reached.{IsReached}
 use Rattle.size_text.specs.declared.size.PartitionSize.{PartitionSize}
-use Rattle.ringplan_job.specs.declared.options.Options.{Options}
+use Rattle.change_text.specs.declared.options.Options.{Options}
 use Rattle.plan_bundles.specs.Rings.{flags}
 use Rattle.plan_bundles.specs.Sized.{IsSized, sizes_by, weights_by}
 

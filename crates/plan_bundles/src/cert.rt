@@ -15,7 +15,6 @@ use plan_goal::write_front;
 use plan_text::{Plan, read_plan_section};
 use ring_names::{NodeId, Refusal};
 use ring_table::{Ring, Side, read_ring_section};
-use show_plan::name;
 use std::alloc::Global;
 use texts::Lines;
 
@@ -108,7 +107,7 @@ pub fn push_excess(
     };
     let Front { ring, plan } = read_front(alloc, text)?;
     if let Some(excess) = overload(alloc, &ring, &plan, NodeId(*node))? {
-        fill_excess(out, name(&ring, *node), excess);
+        fill_excess(out, ring.name(*node), excess);
     }
     Ok(())
 }

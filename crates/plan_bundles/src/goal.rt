@@ -8,13 +8,12 @@ ghost use Rattle.plan_bundles.specs.Goals.{leaves_too, with_dead as the_change_w
 use crate::rings::rewritten;
 use crate::sections::{Kind, kind_of};
 use crate::sized::{are_kept, sizes_of, weights_of};
-use change_text::{Change, Wanted, read_wanted};
+use change_text::{Change, Options, Wanted, read_wanted};
+use helpers::rack;
 use plan_goal::{Goal, Proposed, is_among, reach, read_goal};
 use plan_maker::{Wish, wished};
 use ring_names::{Listed, Names, NodeId, Refusal};
 use ring_table::{Ring, read_ring, write_ring};
-use ringplan_job::Options;
-use show_plan::rack;
 use size_text::PartitionSize;
 use std::alloc::Global;
 

@@ -7,7 +7,6 @@
 
 use ring_names::{NodeId, Refusal};
 use ring_table::{Node, Ring};
-use show_plan::name;
 
 /// The most bytes that all windows of a plan may have together: as many as a bundle may.
 pub const MAX_WINDOWS: usize = 67_108_864;
@@ -77,7 +76,7 @@ fn owners_bytes(ring: &Ring) -> usize {
 fn row_bytes(ring: &Ring, owners: &[NodeId]) -> usize {
     let mut bytes = 0usize;
     for owner in owners {
-        bytes = bytes.saturating_add(name(ring, owner.0).len());
+        bytes = bytes.saturating_add(ring.name(owner.0).len());
     }
     bytes
 }

@@ -2,9 +2,12 @@
 #![tactic(auto)]
 
 mod depth;
+mod kept;
 mod movement;
 mod owners;
+mod progress;
 
 pub use depth::rounds;
 pub use movement::{Move, moves};
 pub use owners::{last_owners, owned};
+pub use progress::Progress;

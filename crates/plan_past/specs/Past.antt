@@ -13,8 +13,8 @@ use Rattle.plan_runs.specs.declared.event.Entry.{Entry}
 use Rattle.plan_runs.specs.declared.event.Reply.{Reply}
 use Rattle.plan_runs.specs.declared.event.Reply.TheVariants.{Ticket}
 use Rattle.plan_past.specs.declared.lowering.Lowered.{Lowered}
-use Rattle.ringplan_job.specs.declared.making.Back.{Back}
-use Rattle.ringplan_job.specs.declared.making.Back.TheVariants.{Never, Allowed}
+use Rattle.plan_runs.specs.declared.back.Back.{Back}
+use Rattle.plan_runs.specs.declared.back.Back.TheVariants.{Never, Allowed}
 
 -- the step's number in the other plan, if it has one
 abbrev pub number_in : List (Option ℕ) → ℕ → Option ℕ

@@ -3,9 +3,9 @@
 ghost use Rattle.std.specs.Prelude.{◌≡◌};
 ghost use Rattle.plan_past.specs.Past.{number_in, allows, mirror_in};
 
+use plan_runs::Back;
 use plan_text::{Plan, Step};
 use ring_names::{NodeId, Slot};
-use ringplan_job::Back;
 
 /// Whether mirrors may be taken back.
 pub(crate) fn allows(back: Back) -> bool

@@ -8,10 +8,9 @@ use crate::lowering::{lowered_after, none_taken};
 use crate::names::{allows, mirror_in, number_in};
 use crate::renaming::told;
 use crate::same::keep_all;
-use plan_runs::{Entry, Event};
+use plan_runs::{Back, Entry, Event};
 use plan_text::Plan;
 use ring_names::Refusal;
-use ringplan_job::Back;
 use std::alloc::Global;
 
 /// Two plans, and what the steps of the first are called in the second.

@@ -1,12 +1,16 @@
 //! What can happen in a run of a plan: events and replies, the world that they change, and what holds of each run, be the plan sound or not.
 #![tactic(auto)]
 
+mod back;
 mod event;
 mod laws;
+mod same;
 mod words;
 
+pub use back::Back;
 pub use event::{Entry, Event, Reply};
 pub use laws::{
     holding_is_tested, runs_reach, runs_split, succession_is_of_causes, succession_is_tested,
 };
+pub use same::{is_same_event, is_same_reply};
 pub use words::{Key, Seen};

@@ -7,9 +7,8 @@ ghost use Rattle.ring_core.specs.World.{ring_of, plan_of, Meets, Passes, Answers
 ghost use Rattle.ring_core.specs.Faults.{FailsAt};
 
 use crate::world::World;
-use plan_runs::{Entry, Reply};
+use plan_runs::{Entry, Reply, is_same_reply};
 use ring_names::Refusal;
-use ring_receipts::is_same_reply;
 
 /// The reply of the entry's event, where the store answers it so, and the store has changed by the event. Else `Mismatch`, with the place and the
 /// number of the event's refusal, where the store is as it was; or with the place and 0, where the store answers it otherwise and has changed. Out of

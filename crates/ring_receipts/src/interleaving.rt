@@ -6,8 +6,7 @@ ghost use Rattle.ring_names.specs.declared.refusal.Refusal.TheVariants.{OutOfMem
 ghost use Rattle.ring_receipts.specs.Interleaving.{rises, Stands, standing, Interleaves, AreStanding};
 
 use crate::receipt::Receipt;
-use crate::same::{is_same_reply, same_event};
-use plan_runs::Entry;
+use plan_runs::{Entry, is_same_event, is_same_reply};
 use ring_names::{Listed, Refusal};
 use std::alloc::Global;
 
@@ -35,7 +34,8 @@ fn stands(history: &[Entry], receipt: &Receipt) -> bool
 {
     match history.get(receipt.index as usize) {
         Some(entry) => {
-            same_event(&entry.event, &receipt.event) && is_same_reply(&entry.reply, &receipt.reply)
+            is_same_event(&entry.event, &receipt.event)
+                && is_same_reply(&entry.reply, &receipt.reply)
         }
         None => false,
     }

@@ -11,12 +11,10 @@ mod interleaving;
 mod kinds;
 mod outcome;
 mod receipt;
-mod same;
 mod starts;
 
 pub use agreeing::agrees;
 pub use asked::Asked;
 pub use outcome::Outcome;
 pub use receipt::Receipt;
-pub use same::is_same_reply;
 pub use starts::{all_ended, number_of};

@@ -4,8 +4,8 @@ use Rattle.std.specs.Str.{bytes_eq}
 use Rattle.clap.specs.Words.{Row, all_of, first_of, one_of}
 use Rattle.ringplan_command.specs.Files.{but_dash}
 use Rattle.ringplan_command.specs.Numbers.{IsCount, IsNumberNamed}
-use Rattle.ringplan_job.specs.declared.making.Back.{Back}
-use Rattle.ringplan_job.specs.declared.making.Back.TheVariants.{Allowed, Never as NoBack}
+use Rattle.plan_runs.specs.declared.back.Back.{Back}
+use Rattle.plan_runs.specs.declared.back.Back.TheVariants.{Allowed, Never as NoBack}
 use Rattle.ringplan_job.specs.declared.making.Color.{Color}
 use Rattle.ringplan_job.specs.declared.making.Color.TheVariants.{Always, Never}
 use Rattle.ringplan_job.specs.declared.making.Cut.{Cut}
@@ -21,7 +21,7 @@ use Rattle.ringplan_job.specs.declared.making.Shape.TheVariants.{Short, Whole}
 use Rattle.ringplan_job.specs.declared.making.Statement.{Statement}
 use Rattle.ringplan_job.specs.declared.making.Statement.TheVariants as stated
 use Rattle.ringplan_job.specs.declared.making.Wish.{Wish}
-use Rattle.ringplan_job.specs.declared.options.Options.{Options}
+use Rattle.change_text.specs.declared.options.Options.{Options}
 
 -- the text of a form of answers, but for `text`, which is also the form if none is named
 abbrev pub but_text : Option (List ℕ) → Option (List ℕ)

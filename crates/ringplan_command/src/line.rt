@@ -12,10 +12,10 @@ use crate::help::{NO_BYTE, NO_COLOR, NO_FORMAT, NO_RATE, NO_WEIGHT, NO_WINDOW};
 use crate::naming::{names_of, weights_of};
 use crate::reading::{is_set, number_of, text_of};
 use crate::word::Word;
+use change_text::Options;
 use clap::ArgMatches;
-use ringplan_job::{
-    Back, Color, Cut, DrawWish, Exit, Making, Options, Picture, Shape, Statement, Wish,
-};
+use plan_runs::Back;
+use ringplan_job::{Color, Cut, DrawWish, Exit, Making, Picture, Shape, Statement, Wish};
 use std::alloc::{AllocError, Global};
 
 // The most rounds of copies that a window may have, and the most windows.

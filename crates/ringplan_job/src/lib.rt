@@ -3,10 +3,6 @@
 
 mod job;
 mod making;
-mod options;
 
 pub use job::Job;
-pub use making::{
-    Back, Color, Cut, DrawWish, Exit, Making, Picture, Screen, Shape, Statement, Wish,
-};
-pub use options::Options;
+pub use making::{Color, Cut, DrawWish, Exit, Making, Picture, Screen, Shape, Statement, Wish};

@@ -2,7 +2,7 @@
 
 ghost use Rattle.std.specs.Prelude.{◌≡◌, ◌≢◌};
 
-use crate::options::Options;
+use change_text::Options;
 
 /// Where a text for people goes.
 #[derive(Clone, Copy, Debug, PartialEq, Eq)]
@@ -121,15 +121,6 @@ pub enum Statement {
     Show(Wish),
     /// A plan that leads to the ring that is wished for, and how much it moves.
     Goal(Options, Exit),
-}
-
-/// Whether a plan around dead nodes may take back mirrors that have begun.
-#[derive(Clone, Copy, Debug, PartialEq, Eq)]
-pub enum Back {
-    /// They stay.
-    Never,
-    /// Those that no copy can fill any more are taken back.
-    Allowed,
 }
 
 /// What can be made of a bundle.

@@ -5,7 +5,7 @@ use Rattle.ringplan_job.specs.declared.making.Exit.{Exit}
 use Rattle.ringplan_job.specs.declared.making.Exit.TheVariants as exits
 use Rattle.ringplan_job.specs.declared.making.Making.{Making}
 use Rattle.ringplan_job.specs.declared.making.Making.TheVariants.{Goal}
-use Rattle.ringplan_job.specs.declared.options.Options.{Options}
+use Rattle.change_text.specs.declared.options.Options.{Options}
 use Rattle.ringplan_people.specs.Made.{IsMadeWith}
 
 -- a fact holds where there is a value

@@ -11,12 +11,12 @@ use helpers::Words;
 use history_text::read_replay;
 use plan_bundles::{Kind, front, kind_of, rewritten, ring_after};
 use plan_check::Approved;
+use plan_moves::Progress;
 use plan_runs::Entry;
 use plan_text::{Plan, Step};
 use ring_core::{World, replay};
 use ring_names::{NodeId, Refusal, Slot};
 use ring_table::Ring;
-use show_plan::Progress;
 use std::alloc::Global;
 
 // By slot, the step that set a mirror which no step has switched.

@@ -2,23 +2,15 @@
 
 use crate::show::show_bundle;
 use crate::why::push_words_of;
-use change_text::{Wanted, read_wanted};
+use change_text::{Options, Wanted, read_wanted};
 use helpers::Words;
 use plan_bundles::{Kind, front, kind_of, nodes_of, wished_goal};
 use plan_goal::{Aim, Goal, Unfit, is_among, read_goal, why_unfit};
 use ring_names::{NodeId, Refusal};
 use ring_table::{Ring, read_ring};
-use ringplan_job::{Color, Options, Shape, Wish};
+use ringplan_job::{Color, Shape, Wish};
 use show_why::{Page, Said, push_printed, tell_text};
 use std::alloc::Global;
-
-// The bytes of a node's name.
-fn name(ring: &Ring, node: u32) -> &[u8] {
-    match ring.nodes().get(node as usize) {
-        Some(node) => node.name.as_slice(),
-        None => b"?",
-    }
-}
 
 // Says why no plan leads there, whatever its steps.
 fn push_unfit(out: &mut Words, goal: &Goal, unfit: Unfit) {
@@ -35,13 +27,13 @@ fn push_unfit(out: &mut Words, goal: &Goal, unfit: Unfit) {
             };
             out.fill(
                 b"refused: the rings do not declare node @ alike: its name, its allowance and its place among the `node` lines must be the same\n",
-                &[name(declared, node)],
+                &[declared.name(node)],
                 &[],
             )
         }
         Unfit::DeadJoiner(node) => out.fill(
             b"refused: @ is dead and cannot join: let the change not join it\n",
-            &[name(ring, node)],
+            &[ring.name(node)],
             &[],
         ),
         Unfit::DeadOwner(slot) => out.fill(
@@ -277,7 +269,7 @@ pub fn push_dead_leavers(
         if ring.is_member(*node) && !is_among(change.leaves.as_slice(), *node) {
             out.fill(
                 b"ringplan: @ is dead, so it leaves, though the change does not say so\n",
-                &[name(&ring, node.0)],
+                &[ring.name(node.0)],
                 &[],
             );
         }

@@ -15,11 +15,12 @@ use crate::stating::state_bundle;
 use crate::steps::{moves_bundle, steps_bundle};
 use crate::why::{push_words_of, why_bundle};
 use crate::windows::{push_windows_words, windows_bundle};
+use change_text::Options;
 use helpers::Words;
 use plan_around::around_bundle;
 use plan_bundles::led_bundle;
 use ring_names::Refusal;
-use ringplan_job::{Color, Exit, Making, Options, Statement};
+use ringplan_job::{Color, Exit, Making, Statement};
 use ringplan_jobs::{Answer, answer_of};
 use std::alloc::Global;
 

@@ -5,13 +5,15 @@ ghost use Rattle.ringplan_people.specs.Studies.{HasApproved, IsShown};
 
 use crate::painting::painted;
 use crate::study::{Study, studied};
+use change_text::Options;
 use plan_bundles::{front, sizes_of};
+use plan_moves::Progress;
 use plan_text::Plan;
 use ring_names::Refusal;
 use ring_table::{Ring, read_ring};
-use ringplan_job::{DrawWish, Options, Picture, Shape as Asked, Wish};
+use ringplan_job::{DrawWish, Picture, Shape as Asked, Wish};
 use show_picture::{Sheet, map_picture, picture};
-use show_plan::{Present, Progress, Scene, Shape, Sized, View, Volumes, ring_summary, summary};
+use show_plan::{Present, Scene, Shape, Sized, View, Volumes, ring_summary, summary};
 use std::alloc::Global;
 
 /// What is shown of a bundle's plan, and how far its history has come, where there is one.

@@ -13,15 +13,16 @@ use crate::reporting::goal_status;
 use crate::show::{Shown, ask_sizes, shown_by, volumes_of};
 use crate::study::{Study, studied};
 use crate::why::{Outcome, push_accepted, push_why};
-use helpers::{Words, at, small, word};
+use change_text::Options;
+use helpers::{Words, at, rack, small, word};
 use plan_bundles::{front, led_bundle};
 use plan_goal::Proposed;
 use ring_names::Refusal;
 use ring_table::{Ring, read_ring};
-use ringplan_job::{Exit, Options, Statement, Wish};
+use ringplan_job::{Exit, Statement, Wish};
 use ringplan_jobs::{Answer, refusal_members, status_of};
 use serde_json::Value;
-use show_plan::{Present, Scene, Volumes, name, rack};
+use show_plan::{Present, Scene, Volumes};
 use show_why::Said;
 use std::alloc::Global;
 
@@ -72,7 +73,7 @@ fn numbers_value(alloc: Global, numbers: &[u32]) -> Result<Value, Refusal> {
 fn names_value(alloc: Global, ring: &Ring, nodes: &[u32]) -> Result<Value, Refusal> {
     let mut values = Vec::new(alloc);
     for node in nodes {
-        values.push(text_value(alloc, name(ring, *node))?)?;
+        values.push(text_value(alloc, ring.name(*node))?)?;
     }
     Ok(Value::Array(values))
 }
@@ -147,9 +148,9 @@ fn node_object(
     racks_behind: Option<u8>,
 ) -> Result<Object, Refusal> {
     let mut object = Object::new(alloc);
-    object.text("name", name(ring, node))?;
+    object.text("name", ring.name(node))?;
     if let Some(behind) = racks_behind {
-        object.text("rack", rack(name(ring, node), behind))?;
+        object.text("rack", rack(ring.name(node), behind))?;
     }
     object.put("is_member", Value::from(present.is_member(node)))?;
     object.number("slots", at(present.owned.as_slice(), node as usize))?;

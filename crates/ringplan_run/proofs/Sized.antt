@@ -6,7 +6,7 @@ use Rattle.ringplan_job.specs.declared.making.Exit.{Exit}
 use Rattle.ringplan_job.specs.declared.making.Making.TheVariants.{Goal, Show, State}
 use Rattle.ringplan_job.specs.declared.making.Statement.TheVariants as statements
 use Rattle.ringplan_job.specs.declared.making.Wish.{Wish}
-use Rattle.ringplan_job.specs.declared.options.Options.{Options}
+use Rattle.change_text.specs.declared.options.Options.{Options}
 use Rattle.ringplan_run.specs.Run.{unsized, unsized_wish}
 
 module _ (asked : Asked) where

@@ -19,7 +19,7 @@ use Rattle.ringplan_job.specs.declared.making.Making.{Making}
 use Rattle.ringplan_job.specs.declared.making.Making.TheVariants.{Goal, Show, State}
 use Rattle.ringplan_job.specs.declared.making.Statement.{Statement}
 use Rattle.ringplan_job.specs.declared.making.Wish.{Wish}
-use Rattle.ringplan_job.specs.declared.options.Options.{Options}
+use Rattle.change_text.specs.declared.options.Options.{Options}
 use Rattle.ringplan_job.specs.declared.making.Statement.TheVariants as statements
 use Rattle.ringplan_people.specs.Made.{IsReport}
 

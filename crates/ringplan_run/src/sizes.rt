@@ -6,8 +6,9 @@ ghost use Rattle.ringplan_job.specs.declared.making.Making.TheVariants.{State};
 ghost use Rattle.ringplan_run.specs.Run.{AreNamedBy, HasSizes, HasSizesOf, NamesSizes, StatesSizes, unsized, unsized_wish};
 
 use crate::files::{Harmless, Limit, open};
+use change_text::Options;
 use ring_names::Refusal;
-use ringplan_job::{Making, Options, Statement, Wish};
+use ringplan_job::{Making, Statement, Wish};
 use ringplan_jobs::read_all;
 use size_text::{PartitionSize, read_sizes};
 use std::alloc::Global;

@@ -6,7 +6,7 @@ use crate::state::{State, state_of};
 use crate::style::{GIVE, TAKE};
 use crate::svg::{Area, Point, push_area, push_titled};
 use helpers::{Words, small};
-use show_plan::{Shown, name};
+use show_plan::Shown;
 
 // How words stand on a bar: white on a filled one.
 const LIGHT: &[u8] = b"b on";
@@ -37,9 +37,9 @@ fn whole_words(sheet: &Sheet, shown: &Shown, takes: bool) -> Words {
     });
     let reads = sheet.scene.shown.read_by(shown);
     if !takes {
-        words.text(name(sheet.ring, shown.to));
+        words.text(sheet.ring.name(shown.to));
     } else if reads.len() == 1 {
-        words.text(name(sheet.ring, reads[0]));
+        words.text(sheet.ring.name(reads[0]));
     } else {
         words.number(small(reads.len()));
         words.text(b" nodes");
@@ -90,7 +90,7 @@ fn title(sheet: &Sheet, shown: &Shown) -> Words {
     words.text(b" from ");
     show_plan::push_names(&mut words, sheet.ring, sheet.scene.shown.read_by(shown), 7);
     words.text(b" to ");
-    words.text(name(sheet.ring, shown.to));
+    words.text(sheet.ring.name(shown.to));
     words
 }
 

@@ -1,9 +1,8 @@
 //! The columns of a map: one for each node, or for many together.
 
 use crate::sheet::Sheet;
-use helpers::{at, small};
+use helpers::{at, rack, small};
 use ring_names::{NodeId, Refusal};
-use show_plan::{name, rack};
 
 // How many columns a map has at most.
 const MOST: usize = 60;
@@ -53,10 +52,10 @@ struct Placed {
 
 // The number of the node's rack among those seen; the racks are told by a node of each.
 fn rack_of(sheet: &Sheet, seen: &mut Vec<u32>, node: u32, behind: u8) -> Result<u32, Refusal> {
-    let own = rack(name(sheet.ring, node), behind);
+    let own = rack(sheet.ring.name(node), behind);
     let mut number = 0u32;
     for other in seen.as_slice() {
-        if rack(name(sheet.ring, *other), behind) == own {
+        if rack(sheet.ring.name(*other), behind) == own {
             return Ok(number);
         }
         number = number.saturating_add(1);

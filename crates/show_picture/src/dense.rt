@@ -14,7 +14,7 @@ use crate::svg::{
 use crate::widths::width;
 use helpers::{Words, at, parts_of, raise, small};
 use ring_names::Refusal;
-use show_plan::{Shown, name, push_many};
+use show_plan::{Shown, push_many};
 
 // How many columns there are at most.
 const COLUMNS: u32 = 60;
@@ -168,7 +168,7 @@ fn label(sheet: &Sheet, band: &Band) -> Words {
     match band.node {
         Some(node) => {
             words.text(sign(band.kind));
-            words.text(name(sheet.ring, node));
+            words.text(sheet.ring.name(node));
         }
         None => match band.kind {
             0 => push_many(&mut words, band.count, b"more is down", b"more are down"),

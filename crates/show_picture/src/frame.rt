@@ -7,7 +7,7 @@ use crate::svg::{Area, Caption, MARGIN, Point, WIDE, push_area, push_said, push_
 use crate::widths::width;
 use helpers::{Words, parts_of, small};
 use ring_names::Refusal;
-use show_plan::{fewest_moves, name, push_change, push_many, push_moves, push_names, push_quorum};
+use show_plan::{fewest_moves, push_change, push_many, push_moves, push_names, push_quorum};
 
 // How wide the bar of progress is.
 const BAR: u32 = 210;
@@ -117,7 +117,7 @@ pub fn name_class(sheet: &Sheet, node: u32) -> &'static [u8] {
 pub fn push_name(sheet: &Sheet, out: &mut Words, at: Point, node: u32, room: u32) {
     let look = Look::new(name_class(sheet, node), 12, b" text-anchor=\"end\"");
     let mut words = Words::new(sheet.alloc);
-    words.text(name(sheet.ring, node));
+    words.text(sheet.ring.name(node));
     let is_bold = sheet.leaves(node) || sheet.joins(node);
     let room = if is_bold {
         (room / 9).saturating_mul(8)

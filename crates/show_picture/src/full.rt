@@ -14,7 +14,7 @@ use crate::svg::{
 use crate::widths::width;
 use helpers::{Words, small};
 use ring_names::Refusal;
-use show_plan::{Shown, name};
+use show_plan::Shown;
 
 // How high a lane is, and the least that a row is.
 const LANE: u32 = 19;
@@ -238,7 +238,7 @@ fn words_before(sheet: &Sheet, nodes: &[u32]) -> Result<u32, Refusal> {
     for node in nodes {
         let at_once = sheet.at_once(*node);
         let role = role_of(sheet, *node, at_once.len() > 0);
-        wide = wide.max(width(name(sheet.ring, *node), 12).saturating_mul(9) / 8);
+        wide = wide.max(width(sheet.ring.name(*node), 12).saturating_mul(9) / 8);
         wide = wide.max(width(role.end()?.as_slice(), 10));
         wide = wide.max(width(at_once.end()?.as_slice(), 10));
     }

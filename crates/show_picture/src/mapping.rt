@@ -7,9 +7,9 @@ use crate::frame::{caption_of, name_class, push_frame, push_key};
 use crate::sheet::Sheet;
 use crate::svg::{Area, Caption, MARGIN, Point, WIDE, push_area, push_picture, push_said};
 use crate::widths::width;
-use helpers::{Words, at, parts_of, small};
+use helpers::{Words, at, parts_of, rack, small};
 use ring_names::Refusal;
-use show_plan::{name, push_many, rack};
+use show_plan::push_many;
 
 // How far down the names of racks stand, and those of the columns begin.
 const HEAD: u32 = 98;
@@ -121,7 +121,7 @@ impl Grid {
     // The name of the rack over its first column.
     fn push_rack(&self, sheet: &Sheet, out: &mut Words, place: usize, behind: u8, node: u32) {
         let mut words = Words::new(sheet.alloc);
-        words.text(rack(name(sheet.ring, node), behind));
+        words.text(rack(sheet.ring.name(node), behind));
         let look = Look::new(b"h", 11, b"");
         let room = self.column.saturating_mul(2).max(30);
         push_fitting(out, Point::at(self.x(place), HEAD), look, &words, room)
@@ -236,7 +236,7 @@ impl Grid {
 
 // What stands over a column: the name of its node or of the first, or that of its rack.
 fn label(sheet: &Sheet, columns: &Columns, column: &Column) -> Words {
-    let own = name(sheet.ring, column.node);
+    let own = sheet.ring.name(column.node);
     let mut words = Words::new(sheet.alloc);
     match (columns.sharing, columns.racks_behind) {
         (Sharing::Racks, Some(behind)) => words.text(rack(own, behind)),

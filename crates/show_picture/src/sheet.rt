@@ -1,9 +1,10 @@
 //! What a picture is made of.
 
 use helpers::{Words, at};
+use plan_moves::Progress;
 use plan_text::Plan;
 use ring_table::Ring;
-use show_plan::{Present, Progress, Scene, Shown};
+use show_plan::{Present, Scene, Shown};
 use std::alloc::Global;
 
 /// An approved plan with what is shown of it, and how far a run has come, where there is one.

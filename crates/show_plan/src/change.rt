@@ -1,6 +1,6 @@
 //! Who joins and who leaves, and what must move for it.
 
-use crate::names::{name, push_many, push_names};
+use crate::names::{push_many, push_names};
 use crate::scene::Scene;
 use helpers::{Words, small};
 use ring_table::Ring;
@@ -9,7 +9,7 @@ use ring_table::Ring;
 fn push_who(out: &mut Words, ring: &Ring, nodes: &[u32], one: &[u8], more: &[u8]) {
     let mut width = 0usize;
     for node in nodes {
-        width = width.saturating_add(name(ring, *node).len());
+        width = width.saturating_add(ring.name(*node).len());
     }
     if nodes.len() <= 3 && width <= 40 {
         push_names(out, ring, nodes, 3);

@@ -1,6 +1,6 @@
 //! Racks, as the names of nodes tell them.
 
-use crate::names::{name, rack};
+use helpers::rack;
 use ring_names::{Listed, NodeId};
 use ring_table::Ring;
 
@@ -8,8 +8,8 @@ use ring_table::Ring;
 fn shares_rack(ring: &Ring, row: &[NodeId], behind: u8) -> bool {
     for first in 0..row.len() {
         for second in first + 1..row.len() {
-            let one = rack(name(ring, row[first].0), behind);
-            let other = rack(name(ring, row[second].0), behind);
+            let one = rack(ring.name(row[first].0), behind);
+            let other = rack(ring.name(row[second].0), behind);
             if one == other {
                 return true;
             }

@@ -5,13 +5,11 @@
 mod change;
 mod domains;
 mod failing;
-mod kept;
 mod loads;
 mod names;
 mod overview;
 mod pieces;
 mod present;
-mod progress;
 mod ring;
 mod rounds;
 mod running;
@@ -24,10 +22,9 @@ mod writing;
 
 pub use change::{fewest_moves, push_change, push_moves};
 pub use loads::Loads;
-pub use names::{name, push_many, push_names, push_quorum, rack};
+pub use names::{push_many, push_names, push_quorum};
 pub use overview::{Shape, Sized, View, summary};
 pub use present::Present;
-pub use progress::Progress;
 pub use ring::ring_summary;
 pub use scene::Scene;
 pub use shown::{AllShown, Shown};

@@ -3,14 +3,6 @@
 use helpers::Words;
 use ring_table::Ring;
 
-/// The name of the node of that number.
-pub fn name(ring: &Ring, node: u32) -> &[u8] {
-    match ring.nodes().get(node as usize) {
-        Some(node) => node.name.as_slice(),
-        None => &[],
-    }
-}
-
 /// The names of the nodes: `a`, `a and b`, `a, b and c`. Of more than `most` nodes the last stand as a number: `a, b and 7 others`.
 pub fn push_names(out: &mut Words, ring: &Ring, nodes: &[u32], most: usize) {
     let shown = if nodes.len() > most {
@@ -28,7 +20,7 @@ pub fn push_names(out: &mut Words, ring: &Ring, nodes: &[u32], most: usize) {
             let is_last = others == 0 && place.saturating_add(1) == shown;
             out.text(if is_last { b" and " } else { b", " });
         }
-        out.text(name(ring, *node));
+        out.text(ring.name(*node));
         place = place.saturating_add(1);
     }
     if others > 0 {
@@ -61,22 +53,5 @@ pub fn push_quorum(out: &mut Words, ring: &Ring, first: &[u8], second: &[u8]) {
             b"store may be lost",
             b"stores may be lost",
         );
-    }
-}
-
-/// The part of a name that names its rack: what stands behind its last byte of that kind, or all of it where there is none.
-pub fn rack(name: &[u8], behind: u8) -> &[u8] {
-    let mut start = 0usize;
-    let mut place = 0usize;
-    for byte in name {
-        place = place.saturating_add(1);
-        if *byte == behind {
-            start = place;
-        }
-    }
-    if start < name.len() {
-        &name[start..]
-    } else {
-        name
     }
 }

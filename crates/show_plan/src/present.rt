@@ -1,9 +1,9 @@
 //! How a ring stands after the last entry of a history.
 
-use crate::progress::{Progress, is_set};
 use crate::scene::Scene;
 use crate::shown::Shown;
-use plan_moves::owned;
+use helpers::is_set;
+use plan_moves::{Progress, owned};
 use plan_text::{Plan, Step};
 use ring_names::{Listed, NodeId, Refusal};
 use ring_table::Ring;

@@ -2,11 +2,11 @@
 
 use crate::domains::sharing;
 use crate::failing::{all_pairs, count_shared, kept_by_one};
-use crate::names::{push_many, push_quorum, rack};
+use crate::names::{push_many, push_quorum};
 use crate::present::Present;
 use crate::span::Span;
 use crate::writing::{end_line, push_left, push_number_right, push_spaces, push_tenths};
-use helpers::{Words, at, parts_of, small};
+use helpers::{Words, at, parts_of, rack, small};
 use ring_names::Refusal;
 use ring_table::{Allowance, Node, Ring};
 use std::alloc::Global;

@@ -1,6 +1,6 @@
 //! The rounds of copies.
 
-use crate::names::{name, push_many};
+use crate::names::push_many;
 use crate::overview::{Shape, Sized, View};
 use crate::pieces::Flow;
 use crate::shown::Shown;
@@ -107,7 +107,7 @@ fn push_read(view: &View, out: &mut Words, shown: &Shown) {
         if !is_first {
             out.byte(b'+');
         }
-        out.text(name(view.ring, *node));
+        out.text(view.ring.name(*node));
         is_first = false;
     }
 }
@@ -118,7 +118,7 @@ fn tell_copy(view: &View, word: &mut Words, shown: &Shown, is_first: bool) {
     if is_first {
         push_read(view, word, shown);
         word.text(b" > ");
-        word.text(name(view.ring, shown.to));
+        word.text(view.ring.name(shown.to));
         word.text(b": ");
     }
     push_slot(word, shown)

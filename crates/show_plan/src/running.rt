@@ -1,10 +1,10 @@
 //! How far a run of a plan has come, in words.
 
-use crate::names::{name, push_many};
+use crate::names::push_many;
 use crate::overview::View;
-use crate::progress::Progress;
 use crate::writing::{end_line, push_times};
 use helpers::Words;
+use plan_moves::Progress;
 use plan_text::Step;
 use ring_names::Slot;
 
@@ -36,7 +36,7 @@ fn push_words(view: &View, out: &mut Words, word: &[u8], slot: Option<Slot>, nod
     }
     if let Some(node) = node {
         out.byte(b' ');
-        out.text(name(view.ring, node));
+        out.text(view.ring.name(node));
     }
 }
 

@@ -1,6 +1,6 @@
 //! The table of the nodes that take part or are down.
 
-use crate::names::{name, push_many, push_names};
+use crate::names::{push_many, push_names};
 use crate::overview::{Shape, Sized, View};
 use crate::scene::Scene;
 use crate::volumes::Volumes;
@@ -154,7 +154,7 @@ impl Table {
         let loads = &view.scene.loads;
         for node in self.rows.as_slice() {
             let place = *node as usize;
-            self.names = self.names.max(name(view.ring, *node).len());
+            self.names = self.names.max(view.ring.name(*node).len());
             self.at_once = self.at_once.max(push_at_once(view, line, *node));
             line.clear();
             self.top = self.top.max(at(loads.before.as_slice(), place));
@@ -168,7 +168,7 @@ impl Table {
         line.text(b"  ");
         line.byte(sign(view, node));
         line.byte(b' ');
-        push_left(line, name(view.ring, node), self.names);
+        push_left(line, view.ring.name(node), self.names);
         push_spaces(line, 2);
         let wide = push_at_once(view, line, node);
         push_spaces(line, self.at_once.saturating_sub(wide).saturating_add(2));

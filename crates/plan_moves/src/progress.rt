@@ -1,6 +1,7 @@
 //! How far a run of a plan has come.
 
 use crate::kept::Kept;
+use helpers::{at, is_set, put, raise};
 use plan_runs::{Entry, Event};
 use plan_text::Plan;
 use ring_names::Refusal;
@@ -51,9 +52,7 @@ impl Progress {
         match event {
             Event::Do(step) => put(self.done.as_mut_slice(), *step, true),
             Event::OpenCopy(step) => put(self.is_open.as_mut_slice(), *step, true),
-            Event::ChunkCopy(step, _) => {
-                helpers::raise(self.chunks.as_mut_slice(), *step as usize)
-            }
+            Event::ChunkCopy(step, _) => { raise(self.chunks.as_mut_slice(), *step as usize) }
             Event::CloseCopy(step) => {
                 put(self.is_open.as_mut_slice(), *step, false);
                 put(self.done.as_mut_slice(), *step, true);
@@ -93,7 +92,7 @@ impl Progress {
 
     /// How many chunks of the copy are copied, of 16.
     pub fn chunks(&self, step: u32) -> u32 {
-        helpers::at(self.chunks.as_slice(), step as usize).min(16)
+        at(self.chunks.as_slice(), step as usize).min(16)
     }
 
     /// How many steps are done.
@@ -118,20 +117,5 @@ impl Progress {
             }
         }
         true
-    }
-}
-
-// Writes at the place, if there is one.
-fn put(marks: &mut [bool], place: u32, mark: bool) {
-    if let Some(old) = marks.get_mut(place as usize) {
-        *old = mark;
-    }
-}
-
-/// What is written at the place; false where there is no such place.
-pub fn is_set(marks: &[bool], place: u32) -> bool {
-    match marks.get(place as usize) {
-        Some(mark) => *mark,
-        None => false,
     }
 }

@@ -5,14 +5,14 @@ ghost use Rattle.std.specs.Prelude.{◌≡◌, ◌↔◌, IsTrue};
 use plan_runs::{Event, Reply};
 use ring_names::Slot;
 
-fn same_slot(a: Slot, b: Slot) -> bool
+fn is_same_slot(a: Slot, b: Slot) -> bool
     ensures { IsTrue result ↔ (a ≡ b) }
 {
     a.partition == b.partition && a.index == b.index
 }
 
-/// Whether the two are the same event.
-pub(crate) fn same_event(a: &Event, b: &Event) -> bool
+/// Whether the two are the same event. Takes no memory.
+pub fn is_same_event(a: &Event, b: &Event) -> bool
     ensures { IsTrue result ↔ (a.now ≡ b.now) }
 {
     match (a, b) {
@@ -35,7 +35,7 @@ pub(crate) fn same_event(a: &Event, b: &Event) -> bool
         (Event::EndGet(m), Event::EndGet(n)) => *m == *n,
         (Event::Down(x), Event::Down(y)) => x.0 == y.0,
         (Event::Up(x), Event::Up(y)) => x.0 == y.0,
-        (Event::Handoff(x, s), Event::Handoff(y, t)) => x.0 == y.0 && same_slot(*s, *t),
+        (Event::Handoff(x, s), Event::Handoff(y, t)) => x.0 == y.0 && is_same_slot(*s, *t),
         (Event::Lose(x), Event::Lose(y)) => x.0 == y.0,
         _ => false,
     }
@@ -48,7 +48,7 @@ pub fn is_same_reply(a: &Reply, b: &Reply) -> bool
     match (a, b) {
         (Reply::Plain, Reply::Plain) => true,
         (Reply::Put(m), Reply::Put(n)) => *m == *n,
-        (Reply::Ticket(s, m), Reply::Ticket(t, n)) => same_slot(*s, *t) && *m == *n,
+        (Reply::Ticket(s, m), Reply::Ticket(t, n)) => is_same_slot(*s, *t) && *m == *n,
         (Reply::Get(m), Reply::Get(n)) => *m == *n,
         (Reply::Found(v), Reply::Found(u)) => v.as_slice() == u.as_slice(),
         (Reply::Answer(v), Reply::Answer(u)) => v.as_slice() == u.as_slice(),
