@@ -53,11 +53,11 @@ ROWS = (
     # A mend is a text of its own.
     Row("why", "copy_out_of_order", (2, 2, 2, 0)),
     # The ring that is left, or wished for, is made as a text and read.
-    Row("after", "move_one_slot", (2, 1, 1, 0)),
-    Row("after", "plan_replace", (2, 0, 1, 0)),
-    Row("after", "replay_a_move", (2, 1, 1, 1)),
-    Row("goal", "plan_replace", (3, 0, 1, 0)),
-    Row("goal --format json", "plan_replace", (3, 0, 1, 0)),
+    Row("after", "move_one_slot", (1, 1, 1, 0)),
+    Row("after", "plan_replace", (1, 0, 1, 0)),
+    Row("after", "replay_a_move", (1, 1, 1, 1)),
+    Row("goal", "plan_replace", (1, 0, 1, 0)),
+    Row("goal --format json", "plan_replace", (1, 0, 1, 0)),
     # Two rings.
     Row("goal --dead c", "goal_around_a_dead_node", (2, 0, 1, 0)),
 )

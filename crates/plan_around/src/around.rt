@@ -19,7 +19,7 @@ use plan_runs::{Back, Entry};
 use plan_text::Plan;
 use ring_core::replay;
 use ring_names::{Names, NodeId, Refusal};
-use ring_table::{Ring, read_ring, write_ring};
+use ring_table::Ring;
 use std::alloc::Global;
 
 // A plan that has begun, as it was read.
@@ -32,16 +32,6 @@ struct Begun<'a> {
     history: &'a [Entry],
     dead: &'a [NodeId],
     back: Back,
-}
-
-// The ring once more.
-fn same_ring(alloc: Global, ring: &Ring) -> Result<Ring, Refusal>
-    ensures { IfOk result (λ v. v ≡ ring.now) }
-{
-    // A ring is valid.
-    let _ = ring.n();
-    let text = write_ring(alloc, ring)?;
-    read_ring(alloc, text.as_slice())
 }
 
 /// Asks whether the history is a run of the approved plan.
@@ -154,7 +144,7 @@ fn around_read(
         writers,
         history,
     } = read;
-    let other = same_ring(alloc, &ring)?;
+    let other = ring.copy(alloc)?;
     let approved = accepted(alloc, ring, plan, &cert)?;
     let entries = history.as_slice();
     follow(alloc, &approved, entries)?;

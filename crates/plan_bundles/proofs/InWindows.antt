@@ -1,4 +1,4 @@
--- Rings that are given in another way, and what is kept of windows.
+-- What is kept of the texts of windows.
 use Rattle.std.proofs.Common.{◌≡◌, ◌∙◌, ℕ, ◌+◌, ◌-◌, List, [], ◌∷◌, ◌++◌, Option, Some, None, length, ap, sym, subst, arith}
 use Rattle.std.specs.Prelude.{slice_get}
 use Rattle.std.specs.List.{concat}
@@ -7,19 +7,8 @@ use Rattle.std.proofs.lemmas.List.{append-nil, length-append}
 use Rattle.std.proofs.lemmas.List.Folds.{concat-append}
 use Rattle.std.proofs.lemmas.Option.{slice_get_within}
 use Rattle.ring_names.proofs.InLists.{get_front, get_last}
-use Rattle.ring_table.specs.Value.{RingValue}
-use Rattle.plan_text.specs.declared.step.Planned.{Planned}
-use Rattle.plan_moves.specs.Owners.{last_owners}
-use Rattle.plan_bundles.specs.Rings.{IsRingOf, members_after}
 use Rattle.plan_bundles.specs.Windows.{Keeps}
 use Rattle.plan_bundles.specs.declared.windows.Asked.TheVariants.{All, After, Found}
-
--- the ring behind a plan, where both are given in another way
-pub behind-same : (text : List ℕ) (ring ring2 : RingValue) (plan plan2 : List Planned) → ring2 ≡ ring → plan2 ≡ plan
-    → IsRingOf ring2 text (last_owners ring2 plan2) (members_after ring2 plan2 (length ring2.nodes)) → IsRingOf ring text (last_owners ring plan) (members_after ring plan (length ring.nodes))
-behind-same text ring ring2 plan plan2 e f h =
-    subst (λ (p : List Planned). IsRingOf ring text (last_owners ring p) (members_after ring p (length ring.nodes))) f
-    (subst (λ (r : RingValue). IsRingOf r text (last_owners r plan2) (members_after r plan2 (length r.nodes))) e h)
 
 -- one text more: all texts, one after the other
 pub keeps-all : (only : Option ℕ) (texts : List (List ℕ)) (old new : Vec ℕ) (text : List ℕ) → new.items ≡ old.items ++ text → Keeps only texts (All old) → Keeps only (texts ++ text ∷ []) (All new)

@@ -5,6 +5,7 @@ use Rattle.ring_names.specs.Lists.{has}
 use Rattle.ring_names.specs.Names.{place}
 use Rattle.texts.specs.Left.{whole_text}
 use Rattle.ring_table.specs.Value.{RingValue, names_of, is_member}
+use Rattle.ring_table.specs.Changed.{changed}
 use Rattle.change_text.specs.declared.change.Change.{Change}
 use Rattle.change_text.specs.declared.wanted.Wanted.{Wanted}
 use Rattle.change_text.specs.Wanted.{wanted_at}
@@ -44,9 +45,9 @@ leaves_too ring (x ∷ dead) leaves = leaves_too ring dead (if is_member ring.no
 abbrev pub with_dead : RingValue → List NodeId → Change → Change
 with_dead ring dead change = record { joins = change.joins; leaves = leaves_too ring dead change.leaves }
 
--- the second ring has the members that the change makes of the first one's
+-- the second ring is the first one with the members that the change makes, and with other owners
 abbrev pub HasChangedMembers : RingValue → Change → RingValue → Type 0
-HasChangedMembers ring change wanted = map (λ x. x.is_member) wanted.nodes ≡ flags (is_changed_member ring change) (length ring.nodes)
+HasChangedMembers ring change wanted = (rows : List (List NodeId)) × (wanted ≡ changed ring rows (flags (is_changed_member ring change) (length ring.nodes)))
 
 -- each slot of a ring may have its owner in the wanted one by these sizes, where nodes of these names have these weights
 abbrev pub IsSizedBy : RingValue → Change → List PartitionSize → List (List ℕ) → List ℕ → RingValue → Type 0

@@ -2,41 +2,34 @@
 use Rattle.std.specs.Prelude.{◌≡◌, ℕ, ◌-◌, ◌+◌, List, [], ◌∷◌, ◌++◌, Option, Some, None, length, slice_get}
 use Rattle.std.specs.List.{concat}
 use Rattle.ring_table.specs.Value.{RingValue}
-use Rattle.ring_table.specs.Valid.{IsRing}
 use Rattle.ring_table.specs.Spelling.{ring_text}
 use Rattle.plan_text.specs.declared.step.Planned.{Planned}
-use Rattle.plan_text.specs.Spelling.{plan_text}
 use Rattle.plan_cert.specs.declared.cert.Cert.{Cert}
-use Rattle.plan_cert.specs.Spelling.{cert_text}
-use Rattle.plan_moves.specs.Owners.{last_owners}
 use Rattle.plan_check.specs.Certified.{IsCertified}
 use Rattle.plan_check.specs.Headline.{KeepsPromises}
 use Rattle.plan_bundles.specs.declared.windows.Asked.{Asked}
 use Rattle.plan_bundles.specs.declared.windows.Asked.TheVariants.{All, After, Found}
 use Rattle.plan_bundles.specs.Cuts.{IsCut}
-use Rattle.plan_bundles.specs.Rings.{IsRingOf, members_after}
+use Rattle.plan_goal.specs.Proposals.{front_text}
+use Rattle.plan_bundles.specs.Rings.{ring_left}
 
--- a window over a ring's text: that text, this plan, which keeps its promises, and its certificate; and the text of the ring that the plan leaves
-pub record IsWindow (before text : List ℕ) (plan : List Planned) (after : List ℕ) : Type 0 where
-  pub ring : RingValue
+-- a window over a ring: the texts of the ring, of this plan, which keeps its promises, and of its certificate
+pub record IsWindow (ring : RingValue) (plan : List Planned) (text : List ℕ) : Type 0 where
   pub cert : Cert
-  pub is_ring : IsRing ring
-  pub begins : before ≡ ring_text ring
-  pub text_is : text ≡ before ++ (plan_text ring plan ++ cert_text ring cert)
+  pub text_is : text ≡ front_text ring plan cert
   pub certified : IsCertified ring plan cert
   pub keeps : KeepsPromises ring plan
-  pub leaves : IsRingOf ring after (last_owners ring plan) (members_after ring plan (length ring.nodes))
 
--- windows one after the other, by their texts and their plans, from one ring's text to another's
-pub data AreWindows (first : List ℕ) : List (List ℕ) → List (List Planned) → List ℕ → Type 0 where
+-- windows one after the other, by their texts and their plans, from one ring to another, each over the ring that the one before it leaves
+pub data AreWindows (first : RingValue) : List (List ℕ) → List (List Planned) → RingValue → Type 0 where
   no_window : AreWindows first [] [] first
-  one_more : (texts : List (List ℕ)) (plans : List (List Planned)) (before text : List ℕ) (plan : List Planned) (after : List ℕ) → AreWindows first texts plans before → IsWindow before text plan after
-      → AreWindows first (texts ++ text ∷ []) (plans ++ plan ∷ []) after
+  one_more : (texts : List (List ℕ)) (plans : List (List Planned)) (before : RingValue) (text : List ℕ) (plan : List Planned) → AreWindows first texts plans before → IsWindow before plan text
+      → AreWindows first (texts ++ text ∷ []) (plans ++ plan ∷ []) (ring_left before plan)
 
--- the windows' plans are the plan, cut; they lead from the ring's text to that of the ring that the plan leaves
+-- the windows' plans are the plan, cut; they lead from the ring to the one that the plan leaves
 abbrev pub AreWindowsOf : RingValue → List Planned → List (List ℕ) → Type 0
-AreWindowsOf ring plan texts = (plans : List (List Planned)) × (last : List ℕ) × AreWindows (ring_text ring) texts plans last × IsCut plan plans
-    × IsRingOf ring last (last_owners ring plan) (members_after ring plan (length ring.nodes))
+AreWindowsOf ring plan texts = (plans : List (List Planned)) × (last : RingValue) × AreWindows ring texts plans last × IsCut plan plans
+    × (ring_text last ≡ ring_text (ring_left ring plan))
 
 -- what is asked for of texts: the one of a number, counted from 1, or all, one after the other
 abbrev pub IsAsked : List (List ℕ) → Option ℕ → List ℕ → Type 0
@@ -53,7 +46,7 @@ Keeps None texts (Found text) = ⊥
 Keeps (Some number) texts (All text) = ⊥
 
 -- the same of windows of these plans
-abbrev pub AreKept : List ℕ → List (List Planned) → Option ℕ → Asked → List ℕ → Type 0
+abbrev pub AreKept : RingValue → List (List Planned) → Option ℕ → Asked → RingValue → Type 0
 AreKept first plans only asked last = (texts : List (List ℕ)) × AreWindows first texts plans last × Keeps only texts asked
 
 -- the text is what is asked for of windows of the plan

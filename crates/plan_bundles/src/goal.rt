@@ -1,20 +1,18 @@
-//! Bundles that lead from a ring to the ring that it shall become.
+//! Plans that lead from a ring to the ring that it should become.
 
 ghost use Rattle.std.specs.Prelude.{◌≡◌, map, length, IfOk, OnOk};
 ghost use Rattle.plan_bundles.specs.Rings.{flags};
-ghost use Rattle.plan_bundles.specs.Goals.{AreNamed, HasChangedMembers, IsGoalReached, IsLed, IsSizedAsAsked, IsSizedBy, IsWishReached, is_changed_member};
+ghost use Rattle.plan_bundles.specs.Goals.{AreNamed, HasChangedMembers, IsGoalReached, IsLed, IsSizedAsAsked, IsWishReached, is_changed_member};
 ghost use Rattle.plan_bundles.specs.Goals.{leaves_too, with_dead as the_change_with_dead};
 
-use crate::rings::rewritten;
 use crate::sections::{Kind, kind_of};
-use crate::sized::{are_kept, sizes_of, weights_of};
+use crate::sized::{Measures, are_kept, sizes_of, weights_of};
 use change_text::{Change, Options, Wanted, read_wanted};
 use helpers::rack;
 use plan_goal::{Goal, Proposed, is_among, reach, read_goal};
 use plan_maker::{Wish, wished};
 use ring_names::{Listed, Names, NodeId, Refusal};
-use ring_table::{Ring, read_ring, write_ring};
-use size_text::PartitionSize;
+use ring_table::Ring;
 use std::alloc::Global;
 
 /// The nodes of these names, in their order. A name that the ring does not declare is `UnknownNode(0)`.
@@ -38,7 +36,7 @@ pub fn goal_bundle(alloc: Global, bytes: &[u8], dead: &[Vec<u8>]) -> Result<Prop
 {
     let Goal { ring, wanted } = read_goal(alloc, bytes)?;
     let nodes = nodes_of(alloc, &ring, dead)?;
-    Ok(reach(alloc, ring, &wanted, nodes.as_slice())?)
+    reach(alloc, ring, &wanted, nodes.as_slice())
 }
 
 // Whether each node is a member once the change is made.
@@ -89,22 +87,7 @@ pub fn with_dead(ring: &Ring, change: Change, dead: &[NodeId]) -> Result<Change,
     })
 }
 
-// The ring with the members of the change and these owners.
-fn wanted_ring(
-    alloc: Global,
-    ring: &Ring,
-    change: &Change,
-    rows: &[Listed<NodeId>],
-) -> Result<Ring, Refusal>
-    ensures { IfOk result (λ wanted. HasChangedMembers ring.now change.now wanted) }
-{
-    let members = members_of(alloc, ring, change)?;
-    let text = write_ring(alloc, ring)?;
-    let found = rewritten(alloc, ring, text.as_slice(), rows, members.as_slice())?;
-    read_ring(alloc, found.as_slice())
-}
-
-// Of each node the parts of the slots that it shall have.
+// For each node, how many parts of the slots it should have.
 fn weights(alloc: Global, ring: &Ring, options: &Options) -> Result<Vec<u32>, Refusal> {
     let nodes = nodes_of(alloc, ring, options.weighed.as_slice())?;
     let count = ring.nodes().len();
@@ -184,43 +167,14 @@ fn wished_ring(
 ) -> Result<Ring, Refusal>
     ensures { IfOk result (λ wanted. HasChangedMembers ring.now change.now wanted) }
 {
-    let placed = placed(alloc, ring, change, options)?;
-    wanted_ring(alloc, ring, change, placed.as_slice())
+    let rows = placed(alloc, ring, change, options)?;
+    let members = members_of(alloc, ring, change)?;
+    ring.with(alloc, rows.as_slice(), members.as_slice())
 }
 
-// Asks whether each slot may have its owner in the wanted ring by the sizes. Where it may not, that is `NoPlan`.
+// Asks whether each slot may have its owner in the wanted ring by the sizes of the options. If it may not, that is `NoPlan`. Without sizes
+// there is nothing to ask.
 fn ask_sized(
-    alloc: Global,
-    ring: &Ring,
-    change: &Change,
-    sizes: &[PartitionSize],
-    weighed: &[Vec<u8>],
-    weights: &[u32],
-    wanted: &Ring,
-) -> Result<(), Refusal>
-    ensures { OnOk result (IsSizedBy ring.now change.now sizes.now (map (λ name. name.items) weighed.now) weights.now wanted.now) }
-{
-    let sizes = sizes_of(alloc, ring.q(), sizes)?;
-    let nodes = nodes_of(alloc, ring, weighed)?;
-    let weights = weights_of(alloc, ring.nodes().len(), nodes.as_slice(), weights)?;
-    let (joins, leaves) = (change.joins.as_slice(), change.leaves.as_slice());
-    let is_kept = are_kept(
-        alloc,
-        ring,
-        joins,
-        leaves,
-        sizes.as_slice(),
-        weights.as_slice(),
-        wanted,
-    )?;
-    if is_kept {
-        return Ok(());
-    }
-    Err(Refusal::NoPlan)
-}
-
-// Asks that by the sizes of the options. Without sizes there is nothing to ask.
-fn ask_by_options(
     alloc: Global,
     ring: &Ring,
     change: &Change,
@@ -232,16 +186,16 @@ fn ask_by_options(
     let Some(sizes) = &options.sizes else {
         return Ok(());
     };
-    let (weighed, weights) = (options.weighed.as_slice(), options.weights.as_slice());
-    ask_sized(
-        alloc,
-        ring,
-        change,
-        sizes.as_slice(),
-        weighed,
-        weights,
-        wanted,
-    )
+    let nodes = nodes_of(alloc, ring, options.weighed.as_slice())?;
+    let count = ring.nodes().len();
+    let measures = Measures {
+        sizes: sizes_of(alloc, ring.q(), sizes.as_slice())?,
+        weights: weights_of(alloc, count, nodes.as_slice(), options.weights.as_slice())?,
+    };
+    if are_kept(alloc, ring, change, &measures, wanted)? {
+        return Ok(());
+    }
+    Err(Refusal::NoPlan)
 }
 
 /// Reads a ring and a change, and finds a plan that leads from the ring to one with the members of the change, around the nodes that are
@@ -256,8 +210,8 @@ pub fn wish_bundle(alloc: Global, bytes: &[u8], options: &Options) -> Result<Pro
     let nodes = nodes_of(alloc, &ring, options.dead.as_slice())?;
     let change = with_dead(&ring, change, nodes.as_slice())?;
     let wanted = wished_ring(alloc, &ring, &change, options)?;
-    ask_by_options(alloc, &ring, &change, options, &wanted)?;
-    Ok(reach(alloc, ring, &wanted, nodes.as_slice())?)
+    ask_sized(alloc, &ring, &change, options, &wanted)?;
+    reach(alloc, ring, &wanted, nodes.as_slice())
 }
 
 /// The ring of a change, and the ring that is wished for.

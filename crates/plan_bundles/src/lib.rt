@@ -14,7 +14,7 @@ mod windows;
 
 pub use cert::{cert_bundle, found_bundle, push_excess};
 pub use goal::{goal_bundle, led_bundle, nodes_of, wish_bundle, wished_goal};
-pub use rings::{rewritten, ring_after};
+pub use rings::ring_after;
 pub use room::MAX_WINDOWS;
 pub use sections::{Kind, front, kind_of};
 pub use sized::sizes_of;

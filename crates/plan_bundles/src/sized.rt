@@ -6,6 +6,7 @@ ghost use Rattle.plan_bundles.specs.Rings.{flags};
 ghost use Rattle.ring_names.specs.Lists.{has};
 ghost use Rattle.plan_text.specs.Changes.{numbers};
 
+use change_text::Change;
 use plan_goal::is_among;
 use ring_names::{Listed, NodeId, Refusal};
 use ring_table::Ring;
@@ -149,43 +150,41 @@ fn is_at_most(one: u64, by: u64, other: u64, times: u32) -> Option<bool>
     Some(first <= second)
 }
 
-// Whether the node joins, and stores no more than its share.
-fn takes(
-    joins: &[NodeId],
-    loads: &[u64],
+// Who joins, what each node stores and all together, and the weights of each and of all together.
+#[derive(Clone, Copy)]
+struct Shares<'a> {
+    joins: &'a [NodeId],
+    loads: &'a [u64],
     stored: u64,
-    weights: &[u32],
+    weights: &'a [u32],
     all: u64,
-    node: u32,
-) -> Result<bool, Refusal>
-    ensures { IfOk result (λ is. is ≡ takes joins.now loads.now stored weights.now all node) }
-{
-    let load = load_at(loads, node as usize);
-    let weight = number_at(weights, node as usize);
-    match is_at_most(load, all, stored, weight) {
-        Some(is_fair) => Ok(is_among(joins, NodeId(node)) && is_fair),
-        None => Err(Refusal::NoPlan),
-    }
 }
 
-// Whether each of so many nodes does.
-fn flags_of(
-    alloc: Global,
-    joins: &[NodeId],
-    loads: &[u64],
-    stored: u64,
-    weights: &[u32],
-    all: u64,
-    nodes: u32,
-) -> Result<Vec<bool>, Refusal>
-    ensures { IfOk result (λ v. v.items ≡ flags (takes joins.now loads.now stored weights.now all) nodes) }
-{
-    let mut takers = Vec::new(alloc);
-    'nodes: for node in 0..nodes {
-        let is_taker = takes(joins, loads, stored, weights, all, node)?;
-        takers.push(is_taker)?;
+impl<'a> Shares<'a> {
+    // Whether the node joins, and stores no more than its share.
+    fn take(self, node: u32) -> Result<bool, Refusal>
+        ensures { IfOk result (λ is. is ≡ takes self.joins.now self.loads.now self.stored self.weights.now self.all node) }
+    {
+        let load = load_at(self.loads, node as usize);
+        let weight = number_at(self.weights, node as usize);
+        match is_at_most(load, self.all, self.stored, weight) {
+            Some(is_fair) => Ok(is_among(self.joins, NodeId(node)) && is_fair),
+            None => Err(Refusal::NoPlan),
+        }
     }
-    Ok(takers)
+
+    // Whether each of so many nodes does.
+    fn flags(self, alloc: Global, nodes: u32) -> Result<Vec<bool>, Refusal>
+        ensures { IfOk result (λ v. v.items
+            ≡ flags (takes self.joins.now self.loads.now self.stored self.weights.now self.all) nodes) }
+    {
+        let mut takers = Vec::new(alloc);
+        'nodes: for node in 0..nodes {
+            let is_taker = self.take(node)?;
+            takers.push(is_taker)?;
+        }
+        Ok(takers)
+    }
 }
 
 // Whether each node of the ring joins, and stores no more than its share.
@@ -202,9 +201,15 @@ fn takers_of(
     let (Some(stored), Some(all)) = (all_stored(sizes, ring), all_weights(weights, ring)) else {
         return Err(Refusal::NoPlan);
     };
+    let shares = Shares {
+        joins,
+        loads: loads.as_slice(),
+        stored,
+        weights,
+        all,
+    };
     // A ring has few nodes.
-    let count = ring.nodes().len() as u32;
-    flags_of(alloc, joins, loads.as_slice(), stored, weights, all, count)
+    shares.flags(alloc, ring.nodes().len() as u32)
 }
 
 // Whether each node of the ring leaves.
@@ -269,27 +274,29 @@ fn may_rows(
     true
 }
 
-/// Whether the wanted ring keeps what is promised.
+/// The size of each partition, and the weight of each node.
+#[derive(Drop)]
+pub struct Measures {
+    pub sizes: Vec<u32>,
+    pub weights: Vec<u32>,
+}
+
+/// Whether the wanted ring keeps what is promised of a change by sizes.
 pub fn are_kept(
     alloc: Global,
     ring: &Ring,
-    joins: &[NodeId],
-    leaves: &[NodeId],
-    sizes: &[u32],
-    weights: &[u32],
+    change: &Change,
+    measures: &Measures,
     wanted: &Ring,
 ) -> Result<bool, Refusal>
-    ensures { IfOk result (λ is. IsTrue is → IsSized ring.now joins.now leaves.now sizes.now weights.now wanted.now) }
+    ensures { IfOk result (λ is. IsTrue is
+        → IsSized ring.now change.now.joins change.now.leaves measures.now.sizes.items measures.now.weights.items wanted.now) }
 {
-    let takers = takers_of(alloc, joins, sizes, weights, wanted)?;
-    let leavers = leavers_of(alloc, leaves, ring)?;
-    Ok(may_rows(
-        leavers.as_slice(),
-        takers.as_slice(),
-        sizes,
-        ring.rows(),
-        wanted.rows(),
-    ))
+    let (sizes, weights) = (measures.sizes.as_slice(), measures.weights.as_slice());
+    let takers = takers_of(alloc, change.joins.as_slice(), sizes, weights, wanted)?;
+    let leavers = leavers_of(alloc, change.leaves.as_slice(), ring)?;
+    let (before, after) = (ring.rows(), wanted.rows());
+    Ok(may_rows(leavers.as_slice(), takers.as_slice(), sizes, before, after))
 }
 
 // Puts the size at the place of its partition. A partition that there is not is refused with the line.

@@ -1,48 +1,57 @@
 //! A plan in windows, each a bundle of its own over the ring that the one before it leaves.
 
-ghost use Rattle.std.specs.Prelude.{ℕ, List, [], ◌∷◌, ◌++◌, Option, IfOk};
+ghost use Rattle.std.specs.Prelude.{◌≡◌, ℕ, List, [], ◌∷◌, ◌++◌, Option, IfOk, IsTrue};
+ghost use Rattle.ring_table.specs.Spelling.{ring_text};
 ghost use Rattle.plan_check.specs.Approval.{IsApproved};
 ghost use Rattle.plan_bundles.specs.declared.windows.Asked.TheVariants.{After};
+ghost use Rattle.plan_bundles.specs.Rings.{ring_left};
 ghost use Rattle.plan_bundles.specs.Windows.{IsWindow, AreKept, AreAskedOf, IsAsked, Keeps};
 
 use crate::cutting::cut;
 use crate::pieces::is_cut;
-use crate::rings::{ask_ring, members_left, ring_after};
+use crate::rings::ring_after;
 use crate::room::Room;
 use find_chains::certificate;
-use find_rounds::write_texts;
 use plan_check::{Approved, Turned, check};
-use plan_moves::{last_owners, rounds};
+use plan_goal::write_front;
+use plan_moves::rounds;
 use plan_text::Plan;
 use ring_names::Refusal;
-use ring_table::{read_ring, write_ring};
+use ring_table::{Ring, write_ring};
 use std::alloc::Global;
 
-// A window, and the text of the ring that it leaves.
+// The text of a window, and the ring that it leaves.
 #[derive(Drop)]
 struct Window {
     text: Vec<u8>,
-    next: Vec<u8>,
+    next: Ring,
 }
 
-// The window of a plan over the ring of that text.
-fn window_over(alloc: Global, before: &[u8], plan: Plan) -> Result<Window, Refusal>
-    ensures { IfOk result (λ w. IsWindow before.now w.text.items plan w.next.items) }
+// The window of a plan over a ring.
+fn window_over(alloc: Global, ring: Ring, plan: Plan) -> Result<Window, Refusal>
+    ensures window { IfOk result (λ w. IsWindow ring plan w.text.items) }
+    ensures next { IfOk result (λ w. w.next ≡ ring_left ring plan) }
 {
-    let ring = read_ring(alloc, before)?;
     if !plan.suits(&ring) {
         return Err(Refusal::NoPlan);
     }
     let found = certificate(alloc, &ring, &plan)?;
-    let mut text = Vec::from_slice(alloc, before)?;
-    text.extend_from_slice(write_texts(alloc, &ring, &plan, &found.cert)?.as_slice())?;
+    let text = write_front(alloc, &ring, &plan, &found.cert)?;
     match check(alloc, ring, plan, &found.cert) {
         Ok(approved) => {
-            let next = ring_after(alloc, &approved, before)?;
+            let next = ring_after(alloc, &approved)?;
             Ok(Window { text, next })
         }
         Err(Turned { refusal, .. }) => Err(refusal),
     }
+}
+
+// Whether the two rings have one text.
+fn is_same_ring(alloc: Global, one: &Ring, other: &Ring) -> Result<bool, Refusal>
+    ensures { IfOk result (λ is. IsTrue is → ring_text one.now ≡ ring_text other.now) }
+{
+    let text = write_ring(alloc, one)?;
+    Ok(text.as_slice() == write_ring(alloc, other)?.as_slice())
 }
 
 // What is kept of the texts of windows.
@@ -102,28 +111,28 @@ impl Asked {
     }
 }
 
-// Windows one after the other, and the text of the ring that they leave.
+// Windows one after the other, and the ring that they leave.
 #[derive(Drop)]
 struct Windows {
     asked: Asked,
-    next: Vec<u8>,
+    next: Ring,
 }
 
 // The windows of these plans, one after the other. More than the most bytes are `TooLarge(0)`, as soon as that is known.
 fn all_windows(
     alloc: Global,
-    first: &[u8],
+    first: Ring,
     plans: Vec<Plan>,
     mut room: Room,
     only: Option<u32>,
 ) -> Result<Windows, Refusal>
-    ensures { IfOk result (λ w. AreKept first.now plans.items only w.asked w.next.items) }
+    ensures { IfOk result (λ w. AreKept first plans.items only w.asked w.next) }
 {
     let mut asked = Asked::new(alloc, only);
-    let mut next = Vec::from_slice(alloc, first)?;
+    let mut next = first;
     for plan in plans {
         room.ask()?;
-        let window = window_over(alloc, next.as_slice(), plan)?;
+        let window = window_over(alloc, next, plan)?;
         room.take(window.text.as_slice());
         asked = asked.add(window.text)?;
         next = window.next;
@@ -153,15 +162,9 @@ pub fn cut_plan(
         return Err(Refusal::NoPlan);
     }
     let room = Room::new(ring, first.as_slice(), pieces.plans.len());
-    let windows = all_windows(alloc, first.as_slice(), pieces.plans, room, only)?;
-    let rows = last_owners(alloc, ring, plan)?;
-    let members = members_left(alloc, ring, plan)?;
-    ask_ring(
-        alloc,
-        ring,
-        windows.next.as_slice(),
-        rows.as_slice(),
-        members.as_slice(),
-    )?;
+    let windows = all_windows(alloc, ring.copy(alloc)?, pieces.plans, room, only)?;
+    if !is_same_ring(alloc, &windows.next, &ring_after(alloc, approved)?)? {
+        return Err(Refusal::NoPlan);
+    }
     windows.asked.end()
 }

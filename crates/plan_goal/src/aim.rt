@@ -1,4 +1,4 @@
-//! Where a plan shall lead.
+//! Where a plan should lead.
 
 use crate::alike::{has_space, is_node};
 use crate::dead::Dead;
@@ -7,7 +7,7 @@ use ring_names::{NodeId, Refusal, Slot};
 use ring_table::{Node, Ring};
 use std::alloc::Global;
 
-/// A ring, the ring that it shall become, and the nodes that are dead for good.
+/// A ring, the ring that it should become, and the nodes that are dead for good.
 #[derive(Clone, Copy)]
 pub struct Aim<'a> {
     pub alloc: Global,
@@ -23,11 +23,11 @@ pub enum Unfit {
     Space,
     /// The node of that number has another name, another allowance, or stands in one of the rings alone.
     Node(u32),
-    /// The node of that number shall join, and is dead.
+    /// The node of that number should join, and is dead.
     DeadJoiner(u32),
-    /// That slot shall go to a node that is dead.
+    /// That slot should go to a node that is dead.
     DeadOwner(Slot),
-    /// Of that partition a slot of a dead node shall go to another one, and fewer slots than a read asks for have other owners.
+    /// A slot of a dead node in that partition should go to another node, and fewer slots than a read asks for have other owners.
     Unread(u32),
 }
 
@@ -149,7 +149,7 @@ pub fn joins(aim: &Aim) -> Result<Vec<u32>, Refusal> {
     Ok(nodes)
 }
 
-/// The members that retire, by number: those that shall be none and are not dead.
+/// The members that retire, by number: those that should be members no longer and are not dead.
 pub fn retires(aim: &Aim) -> Result<Vec<u32>, Refusal> {
     let mut nodes = Vec::new(aim.alloc);
     for number in 0..small(aim.ring.nodes().len()) {

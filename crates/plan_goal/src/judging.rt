@@ -31,7 +31,7 @@ fn makes(ring: &Ring, change: &Change, plan: &Plan, cert: &Cert) -> bool
 }
 
 /// Proposes the plan if it makes the change and the checker accepts it by the certificate. Otherwise the ring comes back with the refusal: `NoPlan`
-/// if the plan does not suit the ring or make the change, or if the certificate does not suit the ring; else the checker's.
+/// if the plan does not suit the ring or make the change, or if the certificate does not suit the ring; otherwise the checker's.
 pub fn judge(
     alloc: Global,
     ring: Ring,

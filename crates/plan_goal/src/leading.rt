@@ -48,7 +48,7 @@ fn is_member_after(aim: &Aim, plan: &Plan, node: NodeId) -> bool
     (aim.ring.is_member(node) || plan.is_joined(node)) && !plan.is_retired(node)
 }
 
-// Whether the node shall be one: where it is wanted, and where it is dead and is one.
+// Whether the node should be a member: if it is wanted, or if it is dead and is a member.
 fn is_member_wanted(aim: &Aim, node: NodeId) -> bool
     ensures { result ≡ member_wanted aim.now.ring.now aim.now.wanted.now aim.now.dead.now node.0 }
 {
@@ -80,7 +80,7 @@ fn has_owners(aim: &Aim, plan: &Plan) -> Result<bool, Refusal>
     Ok(are_alike(found.as_slice(), aim.wanted.rows()))
 }
 
-/// Whether the rings differ in owners and members alone, the plan and the certificate are of the first one, and the plan leads where it shall and spares the dead.
+/// Whether the rings differ in owners and members alone, the plan and the certificate are of the first one, and the plan leads where it should and spares the dead.
 pub fn leads(aim: &Aim, plan: &Plan, cert: &Cert) -> Result<bool, Refusal>
     ensures ok { IfOk result (λ b. IsTrue b → Leads aim.now.ring.now aim.now.wanted.now aim.now.dead.now plan.now cert.now) }
     ensures memory { IfErr result (λ e. e ≡ OutOfMemory) }

@@ -24,11 +24,12 @@ pub struct Proposed {
     pub ghost suits: { CertSuits approved.ring cert },
 }
 
-/// Writes the texts of a ring, a plan and a certificate, one after the other.
+/// Writes the texts of a ring, a plan and a certificate, one after the other. Only memory is refused.
 pub fn write_front(alloc: Global, ring: &Ring, plan: &Plan, cert: &Cert) -> Result<Vec<u8>, Refusal>
     requires plan_suits { PlanSuits ring.now plan.now }
     requires cert_suits { CertSuits ring.now cert.now }
-    ensures { IfOk result (λ v. v.items ≡ front_text ring.now plan.now cert.now) }
+    ensures text { IfOk result (λ v. v.items ≡ front_text ring.now plan.now cert.now) }
+    ensures memory { IfErr result (λ e. e ≡ OutOfMemory) }
 {
     let mut text = write_ring(alloc, ring)?;
     let claims = write_texts(alloc, ring, plan, cert)?;
@@ -47,9 +48,10 @@ impl Proposed {
         write_texts(alloc, ring, plan, &self.cert)
     }
 
-    /// Writes the texts of the ring, the plan and the certificate.
+    /// Writes the texts of the ring, the plan and the certificate. Only memory is refused.
     pub fn bundle(&self, alloc: Global) -> Result<Vec<u8>, Refusal>
-        ensures { IfOk result (λ v. v.items ≡ front_text self.now.approved.ring self.now.approved.plan self.now.cert) }
+        ensures text { IfOk result (λ v. v.items ≡ front_text self.now.approved.ring self.now.approved.plan self.now.cert) }
+        ensures memory { IfErr result (λ e. e ≡ OutOfMemory) }
     {
         let (ring, plan) = (self.approved.ring(), self.approved.plan());
         write_front(alloc, ring, plan, &self.cert)

@@ -74,7 +74,7 @@ fn checked(alloc: Global, ring: Ring, plan: Plan, cert: Cert) -> Result<Proposed
 /// a set, so only slots that need to move do. A dead node gives nothing and takes nothing: its slots are read from R others, it is not dropped from, and
 /// it does not retire.
 ///
-/// If no plan can lead there, or none is found, the refusal is `NoPlan`; else it is the checker's, or `OutOfMemory`.
+/// If no plan can lead there, or none is found, the refusal is `NoPlan`; otherwise it is the checker's, or `OutOfMemory`.
 pub fn reach(alloc: Global, ring: Ring, wanted: &Ring, dead: &[NodeId]) -> Result<Proposed, Refusal>
     ensures ring { IfOk result (λ p. p.approved.ring ≡ ring) }
     ensures reached { IfOk result (λ p. IsReached ring wanted.now dead.now p.approved.plan p.cert) }

@@ -1,4 +1,4 @@
-//! A ring and the ring that it shall become, in one text.
+//! A ring and the ring that it should become, in one text.
 
 ghost use Rattle.std.specs.Prelude.{◌≡◌, IfOk, IfErr};
 ghost use Rattle.ring_names.specs.declared.refusal.Refusal.TheVariants.{OutOfMemory};
@@ -13,7 +13,7 @@ use ring_table::{Ring, read_ring_section};
 use std::alloc::Global;
 use texts::Lines;
 
-/// A ring, and the ring that it shall become.
+/// A ring, and the ring that it should become.
 #[derive(Drop)]
 pub struct Goal {
     pub ring: Ring,

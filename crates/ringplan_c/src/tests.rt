@@ -138,7 +138,7 @@ fn says<RT: AllocGlobal + Abort>(
 fn speaks_of_texts(rt: HostRuntime) {
     let ring = behind_ring!("");
     let planned = behind_ring!(
-        "plan 1\nend\ncert 1\nend\nringplan: the plan has no steps, as the ring is what it shall be\n"
+        "plan 1\nend\ncert 1\nend\nringplan: the plan has no steps: the ring is as wanted already\n"
     );
     let (exit, dead, rounds) = ("--exit-code", "--dead\0a\0", "--rounds\0001\0");
     says(&rt, "goal", exit, CHANGE, &mut [0; 141], (0, 65, planned));

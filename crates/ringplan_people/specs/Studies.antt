@@ -3,13 +3,13 @@ use Rattle.std.specs.Prelude.{◌≡◌, ℕ, Bool, true, List, Ok, length}
 use Rattle.texts.specs.Left.{whole_text}
 use Rattle.ring_table.specs.Value.{RingValue}
 use Rattle.ring_table.specs.Spelling.{ring_text}
+use Rattle.ring_table.specs.Changed.{changed}
 use Rattle.plan_text.specs.declared.step.Planned.{Planned}
 use Rattle.plan_text.specs.Changes.{fulfils}
 use Rattle.plan_runs.specs.declared.event.Entry.{Entry}
 use Rattle.change_text.specs.declared.wanted.Wanted.{Wanted}
 use Rattle.change_text.specs.Wanted.{wanted_at}
 use Rattle.history_text.specs.Replays.{Parts, replay_at}
-use Rattle.plan_moves.specs.Owners.{last_owners}
 use Rattle.plan_check.specs.Approval.{IsApproved}
 use Rattle.ring_core.specs.Replays.{IsHistory}
 use Rattle.ring_script.specs.Bundles.{bundle_at}
@@ -18,7 +18,7 @@ use Rattle.ring_script.specs.declared.bundle.Kind.TheVariants as kind
 use Rattle.plan_runs.specs.Runs.{IsRun}
 use Rattle.plan_runs.specs.World.{World, is_member_now}
 use Rattle.ring_core.specs.Tables.{owners_now}
-use Rattle.plan_bundles.specs.Rings.{IsRingOf, flags, members_after}
+use Rattle.plan_bundles.specs.Rings.{flags, ring_left}
 
 -- the ring and the plan of a bundle without a history: those of its texts, or its ring and a plan that makes its change
 pub data IsPlanOf (bytes : List ℕ) (ring : RingValue) (plan : List Planned) : Type 0 where
@@ -58,7 +58,8 @@ members_now ring plan w = flags (is_member_now ring plan w)
 
 -- the text is that of the ring, with the owners and the members of the world to which the history leads
 abbrev pub IsLeftAt : RingValue → List Planned → List Entry → List ℕ → Type 0
-IsLeftAt ring plan history text = ∥ ((w : World) × IsRun ring plan history w × IsRingOf ring text (owners_now ring plan w) (members_now ring plan w (length ring.nodes))) ∥₁
+IsLeftAt ring plan history text = ∥ ((w : World) × IsRun ring plan history w
+    × (text ≡ ring_text (changed ring (owners_now ring plan w) (members_now ring plan w (length ring.nodes))))) ∥₁
 
 -- the same of a bundle with a history
 abbrev pub IsLeftNow : List ℕ → List ℕ → Type 0
@@ -66,5 +67,4 @@ IsLeftNow bytes text = (ring : RingValue) × (plan : List Planned) × (history :
 
 -- the text is that of the ring of a bundle without a history, with the owners after the last step of its plan, and with the members that were or joined, and did not retire
 abbrev pub IsLeftBy : List ℕ → List ℕ → Type 0
-IsLeftBy bytes text = (ring : RingValue) × (plan : List Planned) × IsPlanOf bytes ring plan × IsApproved ring plan
-    × IsRingOf ring text (last_owners ring plan) (members_after ring plan (length ring.nodes))
+IsLeftBy bytes text = (ring : RingValue) × (plan : List Planned) × IsPlanOf bytes ring plan × IsApproved ring plan × (text ≡ ring_text (ring_left ring plan))

@@ -9,14 +9,14 @@ use crate::study::{Study, accepted, studied, study_change, study_plan};
 use crate::why::push_words_of;
 use helpers::Words;
 use history_text::read_replay;
-use plan_bundles::{Kind, front, kind_of, rewritten, ring_after};
+use plan_bundles::{Kind, kind_of, ring_after};
 use plan_check::Approved;
 use plan_moves::Progress;
 use plan_runs::Entry;
 use plan_text::{Plan, Step};
 use ring_core::{World, replay};
 use ring_names::{NodeId, Refusal, Slot};
-use ring_table::Ring;
+use ring_table::{Ring, write_ring};
 use std::alloc::Global;
 
 // By slot, the step that set a mirror which no step has switched.
@@ -110,12 +110,7 @@ fn members_now(alloc: Global, ring: &Ring, store: &World) -> Result<Vec<bool>, R
 }
 
 // The text of the ring to which a history has led. Where a slot has a mirror, that is `WrongStage` at the step that set it.
-fn ring_now(
-    alloc: Global,
-    approved: &Approved,
-    history: &[Entry],
-    text: &[u8],
-) -> Result<Vec<u8>, Refusal>
+fn ring_now(alloc: Global, approved: &Approved, history: &[Entry]) -> Result<Vec<u8>, Refusal>
     requires { length history.now ≤ 1000000 }
     ensures { IfOk result (λ text. IsLeftAt approved.now.ring approved.now.plan history.now text.items) }
 {
@@ -125,7 +120,8 @@ fn ring_now(
     let rows = store.table()?;
     let ring = approved.ring();
     let members = members_now(alloc, ring, &store)?;
-    rewritten(alloc, ring, text, rows.as_slice(), members.as_slice())
+    let left = ring.with(alloc, rows.as_slice(), members.as_slice())?;
+    write_ring(alloc, &left)
 }
 
 // The text of the ring to which the history of a bundle has led.
@@ -134,8 +130,7 @@ fn after_history(alloc: Global, bytes: &[u8]) -> Result<Vec<u8>, Refusal>
 {
     let bundle = read_replay(alloc, bytes)?;
     let found = accepted(alloc, bundle.ring, bundle.plan, bundle.cert)?;
-    let text = &bytes[..front(bytes, 1)];
-    ring_now(alloc, &found.approved, bundle.history.as_slice(), text)
+    ring_now(alloc, &found.approved, bundle.history.as_slice())
 }
 
 // The text of the ring that the plan of a bundle leaves. If it leaves a slot with a mirror, that is `WrongStage` at the step that sets it.
@@ -147,7 +142,7 @@ fn ring_left(alloc: Global, found: &Study, bytes: &[u8]) -> Result<Vec<u8>, Refu
     // The plan is approved, which the prover knows once it is read.
     let _ = approved.plan();
     ask_switched(alloc, approved, None)?;
-    ring_after(alloc, approved, &bytes[..front(bytes, 1)])
+    write_ring(alloc, &ring_after(alloc, approved)?)
 }
 
 /// The text of the ring that the plan of a bundle leaves, or what a history has done of it: the same nodes, with the owners and the members behind

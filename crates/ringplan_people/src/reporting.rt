@@ -52,7 +52,7 @@ fn make_goal(
     push_dead_leavers(alloc, &mut notes.words, bytes, options)?;
     notes.has_steps = found.approved.plan().len() > 0;
     if !notes.has_steps {
-        notes.words.text(b"ringplan: the plan has no steps, as the ring is what it shall be\n");
+        notes.words.text(b"ringplan: the plan has no steps: the ring is as wanted already\n");
     }
     found.bundle(alloc)
 }

@@ -17,7 +17,7 @@ returns-in-Ok c =
     let same = c.in_ok-approved.ensures.same in (
       subst (λ (h : List Entry). GoesAround back read.ring dead read.writers read.plan h text) c.as_slice-entries.ensures.value
           (subst (λ (p : List Planned). GoesAround back read.ring dead read.writers p entries text) same.1
-          (subst (λ (r : RingValue). GoesAround back r dead read.writers old entries text) c.in_ok-other.ensures c.in-Ok.ensures)),
+          (subst (λ (r : RingValue). GoesAround back r dead read.writers old entries text) c.in_ok-other.ensures.ok c.in-Ok.ensures)),
       subst (λ (h : List Entry). IsHistory read.ring read.plan h) c.as_slice-entries.ensures.value
           (subst (λ (p : List Planned). IsHistory read.ring p entries) same.1 (subst (λ (r : RingValue). IsHistory r old entries) same.0 c.in_ok-follow.ensures)),
     )

@@ -24,6 +24,6 @@ returns c =
       certified = c.in_ok-approved.ensures.certified;
       keeps = c.in_ok-approved.ensures.keeps;
       run = run;
-      text = four (ring_text ring) (plan_text ring plan) (cert_text ring it.cert.now) (history_text ring it.writers.now it.history.now) v.items c.in_ok-text.text.items c.as_slice.result.now c.in_ok-text.ensures more is;
+      text = four (ring_text ring) (plan_text ring plan) (cert_text ring it.cert.now) (history_text ring it.writers.now it.history.now) v.items c.in_ok-text.text.items c.as_slice.result.now c.in_ok-text.ensures.text more is;
     })
     c.followed.ensures

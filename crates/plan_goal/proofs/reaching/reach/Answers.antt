@@ -1,6 +1,4 @@
-use Rattle.std.proofs.Common.{List, sym, subst}
 use Rattle.std.proofs.lemmas.Result.{IfErr-weaker}
-use Rattle.plan_text.specs.declared.step.Planned.{Planned}
 use Rattle.plan_goal.proofs.Turned.{unreached}
 use Rattle.plan_goal.proofs.reaching.reach.Goals as goal
 

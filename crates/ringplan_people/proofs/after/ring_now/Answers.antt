@@ -3,8 +3,9 @@ use Rattle.std.proofs.Math.Logic.{∥∥₁_map}
 use Rattle.std.proofs.lemmas.Result.{IfOk-weaker}
 use Rattle.ring_names.specs.declared.ids.NodeId.{NodeId}
 use Rattle.ring_table.specs.Value.{RingValue}
+use Rattle.ring_table.specs.Changed.{changed}
+use Rattle.ring_table.specs.Spelling.{ring_text}
 use Rattle.plan_text.specs.declared.step.Planned.{Planned}
-use Rattle.plan_bundles.specs.Rings.{IsRingOf}
 use Rattle.ring_core.specs.Tables.{owners_now}
 use Rattle.ring_core.specs.World.{plan_of, ring_of}
 use Rattle.ringplan_people.specs.Studies.{members_now}
@@ -19,13 +20,10 @@ returns c =
     let is : like ≡ ring = c.ring-ring.ensures.value in
     let of : ring_of store ≡ ring = c.in_ok-store.ensures.ring in
     let by : plan_of store ≡ plan = c.in_ok-store.ensures.plan in
-    IfOk-weaker c.rewritten.result _ _ (λ text left. ∥∥₁_map c.in_ok-store.ensures.ok (λ x.
+    IfOk-weaker c.write_ring.result _ _ (λ text left. ∥∥₁_map c.in_ok-store.ensures.ok (λ x.
     let rows = c.as_slice.ensures.value ∙ c.in_ok-rows.ensures.now x.0 x.1 ∙ ap (λ (r : RingValue). owners_now r (plan_of store) x.0) of ∙ ap (λ (p : List Planned). owners_now ring p x.0) by in
     let members = c.as_slice-2.ensures.value ∙ c.in_ok-members.ensures x.0 x.1 ∙ ap (λ (r : RingValue). members_now r (plan_of store) x.0 (length like.nodes)) of
-    ∙ ap (λ (p : List Planned). members_now ring p x.0 (length like.nodes)) by ∙ ap (λ (r : RingValue). members_now ring plan x.0 (length r.nodes)) is in (
-      x.0,
-      x.2,
-      subst (λ (r : RingValue). IsRingOf r text.items (owners_now ring plan x.0) (members_now ring plan x.0 (length ring.nodes))) is
-          (subst (λ (rs : List (List NodeId)). IsRingOf like text.items rs (members_now ring plan x.0 (length ring.nodes))) rows
-          (subst (λ (ms : List Bool). IsRingOf like text.items c.as_slice.result.now ms) members left)),
-    ))) c.rewritten.ensures
+    ∙ ap (λ (p : List Planned). members_now ring p x.0 (length like.nodes)) by ∙ ap (λ (r : RingValue). members_now ring plan x.0 (length r.nodes)) is in
+    let same = c.in_ok-left.ensures.ok ∙ ap (λ (r : RingValue). changed r c.as_slice.result.now c.as_slice-2.result.now) is ∙ ap (λ (rs : List (List NodeId)). changed ring rs c.as_slice-2.result.now) rows
+    ∙ ap (changed ring (owners_now ring plan x.0)) members in
+    (x.0, x.2, left ∙ ap ring_text same))) c.write_ring.ensures.text
