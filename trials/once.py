@@ -52,7 +52,6 @@ ROWS = (
     Row("why", "move_one_slot", (1, 1, 1, 0)),
     # A mend is a text of its own.
     Row("why", "copy_out_of_order", (2, 2, 2, 0)),
-    # The ring that is left, or wished for, is made as a text and read.
     Row("after", "move_one_slot", (1, 1, 1, 0)),
     Row("after", "plan_replace", (1, 0, 1, 0)),
     Row("after", "replay_a_move", (1, 1, 1, 1)),

@@ -2,7 +2,7 @@
 
 ghost use Rattle.std.specs.Prelude.{◌≡◌, ◌↔◌, IsTrue};
 
-use plan_runs::{Event, Reply};
+use crate::event::{Event, Reply};
 use ring_names::Slot;
 
 fn is_same_slot(a: Slot, b: Slot) -> bool

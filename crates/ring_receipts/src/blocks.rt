@@ -11,9 +11,8 @@ ghost use Rattle.ring_receipts.specs.Blocks.{Leaves, HasNoBlock, turns_a_node};
 use crate::asked::Asked;
 use crate::kinds::{is_acknowledged, is_end, is_read, is_sent};
 use crate::receipt::Receipt;
-use crate::same::same_event;
 use crate::starts::{PutLine, all_ended, get_started, put_started};
-use plan_runs::{Event, Key};
+use plan_runs::{Event, Key, is_same_event};
 use ring_names::Refusal;
 
 // What is left behind the writes and hints of the put, and at most one acknowledgement of it.
@@ -117,7 +116,7 @@ fn behind_node_line<'a>(line: &Event, list: &'a [Receipt]) -> &'a [Receipt]
     let Some((first, later)) = list.split_first() else {
         return list;
     };
-    if same_event(&first.event, line) {
+    if is_same_event(&first.event, line) {
         later
     } else {
         list

@@ -3,6 +3,7 @@
 ghost use Rattle.std.specs.Prelude.{◌≡◌, ◌≢◌};
 
 use change_text::Options;
+use plan_runs::Back;
 
 /// Where a text for people goes.
 #[derive(Clone, Copy, Debug, PartialEq, Eq)]

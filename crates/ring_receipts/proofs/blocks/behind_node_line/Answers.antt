@@ -11,10 +11,10 @@ returns-in_default c asked = node_not_there asked c.args.line.now c.args.list.no
     let some = ap length is in
     omega arith))
 
-pub returns-then-same_event : goal.returns-then-same_event
-returns-then-same_event c asked = node_there asked c.args.line.now c.args.list.now c.in-Some.later.now c.in-Some.first.now c.requires (search rules) (search rules)
+pub returns-then-is_same_event : goal.returns-then-is_same_event
+returns-then-is_same_event c asked = node_there asked c.args.line.now c.args.list.now c.in-Some.later.now c.in-Some.first.now c.requires (search rules) (search rules)
 
-pub returns-else-same_event : goal.returns-else-same_event
-returns-else-same_event c asked = node_not_there asked c.args.line.now c.args.list.now c.requires (λ r rs is event. (
+pub returns-else-is_same_event : goal.returns-else-is_same_event
+returns-else-is_same_event c asked = node_not_there asked c.args.line.now c.args.list.now c.requires (λ r rs is event. (
     let there : c.args.list.now ≡ c.in-Some.first.now ∷ c.in-Some.later.now = search rules in
-    true≢false (sym (c.if-same_event.ensures.1 (ap (λ (x : Receipt). x.event) (heads (sym there ∙ is)) ∙ event)))))
+    true≢false (sym (c.if-is_same_event.ensures.1 (ap (λ (x : Receipt). x.event) (heads (sym there ∙ is)) ∙ event)))))
