@@ -163,7 +163,7 @@ struct Shares<'a> {
 impl<'a> Shares<'a> {
     // Whether the node joins, and stores no more than its share.
     fn take(self, node: u32) -> Result<bool, Refusal>
-        ensures { IfOk result (λ is. is ≡ takes self.joins.now self.loads.now self.stored self.weights.now self.all node) }
+        ensures { IfOk result (λ is. is ≡ takes self.entry.joins.now self.entry.loads.now self.entry.stored self.entry.weights.now self.entry.all node) }
     {
         let load = load_at(self.loads, node as usize);
         let weight = number_at(self.weights, node as usize);
@@ -176,7 +176,7 @@ impl<'a> Shares<'a> {
     // Whether each of so many nodes does.
     fn flags(self, alloc: Global, nodes: u32) -> Result<Vec<bool>, Refusal>
         ensures { IfOk result (λ v. v.items
-            ≡ flags (takes self.joins.now self.loads.now self.stored self.weights.now self.all) nodes) }
+            ≡ flags (takes self.entry.joins.now self.entry.loads.now self.entry.stored self.entry.weights.now self.entry.all) nodes) }
     {
         let mut takers = Vec::new(alloc);
         'nodes: for node in 0..nodes {

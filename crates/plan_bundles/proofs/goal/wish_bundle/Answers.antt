@@ -4,6 +4,7 @@ use Rattle.ring_names.specs.declared.ids.NodeId.{NodeId}
 use Rattle.ring_table.specs.Value.{names_of}
 use Rattle.change_text.specs.declared.change.Change.{Change}
 use Rattle.plan_bundles.specs.Goals.{HasChangedMembers, IsSizedAsAsked, with_dead}
+use Rattle.plan_bundles.proofs.Fronts.{of_both}
 use Rattle.plan_bundles.proofs.goal.wish_bundle.Goals as goal
 
 pub returns : goal.returns
@@ -15,7 +16,7 @@ returns c =
     let same : c.as_slice-2.result.now ≡ c.as_slice-3.result.now = c.as_slice-2.ensures.value ∙ sym c.as_slice-3.ensures.value in
     let changed = subst (λ (change : Change). HasChangedMembers w.ring change wanted) c.in_ok-change.ensures c.in_ok-wanted.ensures in
     let around = subst (λ (dead : List NodeId). HasChangedMembers w.ring (with_dead w.ring dead w.change) wanted) same changed in
-    let by-change = subst (λ (change : Change). IsSizedAsAsked c.args.options.now w.ring change wanted) c.in_ok-change.ensures c.in_ok-ask_by_options.ensures in
+    let by-change = subst (λ (change : Change). IsSizedAsAsked c.args.options.now w.ring change wanted) c.in_ok-change.ensures c.in_ok-ask_sized.ensures in
     let sized = subst (λ (dead : List NodeId). IsSizedAsAsked c.args.options.now w.ring (with_dead w.ring dead w.change) wanted) same by-change in
-    let p = c.in_ok-reach.ensures in
-    record { reached = (w, c.in_ok-ring.ensures.read, wanted, c.as_slice-3.result.now, named, around, sized, (p.ring, p.reached)) }
+    record { reached = of_both c.reach.result c.reach.ensures.ring c.reach.ensures.reached
+        (λ p ring reached. (w, c.in_ok-ring.ensures.read, wanted, c.as_slice-3.result.now, named, around, sized, (ring, reached))) }

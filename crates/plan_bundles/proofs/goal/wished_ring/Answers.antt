@@ -1,4 +1,4 @@
-use Rattle.std.proofs.Common.{List, Bool, ◌∙◌, ap}
+use Rattle.std.proofs.Common.{◌∙◌, ap}
 use Rattle.std.proofs.lemmas.Result.{IfOk-weaker}
 use Rattle.ring_table.specs.Changed.{changed}
 use Rattle.plan_bundles.proofs.goal.wished_ring.Goals as goal
