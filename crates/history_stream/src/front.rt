@@ -7,7 +7,7 @@ ghost use Rattle.bundle_text.specs.declared.front.Front.{Front as Value};
 ghost use Rattle.bundle_text.specs.Front.{front_at};
 ghost use Rattle.history_stream.specs.Front.{IsFront};
 
-use bundle_text::{Front, read_front_section};
+use bundle_text::read_front_section;
 use plan_cert::write_cert;
 use plan_text::write_plan;
 use ring_names::Refusal;

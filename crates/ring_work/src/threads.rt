@@ -94,10 +94,7 @@ fn start_handoffs<'s, 'x, 'e, 'a, L: RunLedger + Send + Sync, R: Wait + Sync, G:
             ensures { IsSpent result.stopped → ⊥ }
         { hand_off(site, done) },
     );
-    match spawned {
-        Ok(handle) => Some(handle),
-        Err(_refusal) => None,
-    }
+    spawned.ok()
 }
 
 // Starts a worker and keeps its handle. Whether that was refused.
@@ -160,14 +157,13 @@ fn start_workers<'s, 'x, 'e, 'a, L: RunLedger + Send + Sync, R: Wait + Sync, G: 
     refused
 }
 
-// Starts the client of that number and keeps its handle. Whether that was refused, or a start was before.
+// Starts the client of that number and keeps its handle. Whether that was refused.
 fn start_client<'s, 'x, 'e, 'a, L: RunLedger + Send + Sync, R: Wait + Sync, G: Gate + Sync>(
     scope: &Scope<'s, &'x ()>,
     site: &'s Site<'e, 'a, L, R, G>,
     handles: &mut Vec<PromisedHandle<Done<L>, ByGate<G>>>,
     number: usize,
     done: Done<L>,
-    refused: bool,
 ) -> bool
     requires scripts { (number < length site.now.job.now.scripts.now) × (length site.now.job.now.scripts.now ≤ 8) }
     requires old { All (λ h. (h.promise.0.value ≡ site.now.job.now.gate.now) × (64 ≤ h.promise.1)
@@ -176,7 +172,6 @@ fn start_client<'s, 'x, 'e, 'a, L: RunLedger + Send + Sync, R: Wait + Sync, G: G
         × (h.promise.1 < 64 + length site.now.job.now.scripts.now)) handles.new.items }
     ensures kept { (client line : ℕ) → Any (λ h. (h.promise.1 ≡ client) × (line < h.promise.2)) handles.old.items
         → Any (λ h. (h.promise.1 ≡ client) × (line < h.promise.2)) handles.new.items }
-    ensures before { result ≡ false → refused ≡ false }
     ensures served { result ≡ false
         → (line : ℕ) → line < length (slice_index_or site.now.job.now.scripts.now number [])
         → Any (λ h. (h.promise.1 ≡ 64 + number) × (line < h.promise.2)) handles.new.items }
@@ -195,7 +190,7 @@ fn start_client<'s, 'x, 'e, 'a, L: RunLedger + Send + Sync, R: Wait + Sync, G: G
     );
     match spawned {
         Ok(handle) => match handles.push(handle) {
-            Ok(()) => refused,
+            Ok(()) => false,
             Err(_refusal) => true,
         },
         Err(_refusal) => true,
@@ -224,7 +219,7 @@ fn start_clients<'s, 'x, 'e, 'a, L: RunLedger + Send + Sync, R: Wait + Sync, G: 
     for started in 0..clients {
         let done = Done::new(site.job.alloc, root.split());
         let number = clients - 1 - started;
-        refused = start_client(scope, site, handles, number, done, refused);
+        refused = start_client(scope, site, handles, number, done) || refused;
     }
     refused
 }
@@ -317,21 +312,17 @@ fn run_in<'s, 'x, 'e, 'a, L: RunLedger + Send + Sync, R: Threads + Wait + Sync, 
 {
     let mut first = first;
     let mut root = share;
-    let Room {
-        mut sitting,
-        mut serving,
-        mut left,
-    } = room;
+    let mut room = room;
     let handing = start_handoffs(scope, site, Done::new(site.job.alloc, root.split()));
-    let unseated = start_workers(scope, site, &mut sitting, &mut first, &mut root);
+    let unseated = start_workers(scope, site, &mut room.sitting, &mut first, &mut root);
     let before = handing.is_none() || unseated;
-    let refused = start_clients(scope, site, &mut serving, &mut root, before);
+    let refused = start_clients(scope, site, &mut room.serving, &mut root, before);
     if refused {
         set(&site.flags.stop);
     }
-    left.note_start(refused);
-    let left = join_workers(site, sitting, left);
-    let left = join_clients(site, serving, left);
+    room.left.note_start(refused);
+    let left = join_workers(site, room.sitting, room.left);
+    let left = join_clients(site, room.serving, left);
     set(&site.flags.joined);
     wake(&site.flags.bell);
     let mut left = join_handoffs(site.job.rt, handing, left);

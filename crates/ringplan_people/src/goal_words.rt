@@ -6,7 +6,7 @@ use change_text::{Options, Wanted, read_wanted};
 use helpers::Words;
 use plan_bundles::{Kind, front, kind_of, nodes_of, wished_goal};
 use plan_goal::{Aim, Goal, Unfit, is_among, read_goal, why_unfit};
-use ring_names::{NodeId, Refusal};
+use ring_names::Refusal;
 use ring_table::{Ring, read_ring};
 use ringplan_job::{Color, Shape, Wish};
 use show_why::{Page, Said, push_printed, tell_text};

@@ -1,8 +1,6 @@
 //! What is printed of a bundle for people: on standard output what is made of it, or on standard error why nothing is.
 
-ghost use Rattle.std.specs.Prelude.{◌≡◌, ◌≢◌, ◌≤◌, ◌⊎◌, ◌++◌, ℕ, List, [], IfOk};
-ghost use Rattle.ring_names.specs.Refusals.{line_of, number_of};
-ghost use Rattle.ringplan_jobs.specs.Answers.{refused_status};
+ghost use Rattle.std.specs.Prelude.{◌≡◌, ◌≤◌, ◌⊎◌, IfOk};
 ghost use Rattle.plan_bundles.specs.Goals.{IsLedText};
 ghost use Rattle.ringplan_people.specs.Made.{IsMade, IsMadeWith, IsRefusal, IsReport, IsStated, IsTold};
 ghost use Rattle.ringplan_people.specs.Why.{IsWhy};

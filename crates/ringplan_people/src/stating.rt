@@ -4,7 +4,6 @@ ghost use Rattle.std.specs.Prelude.{◌≡◌, ◌≢◌, ◌≤◌, ◌⊎◌, 
 ghost use Rattle.plan_bundles.specs.Goals.{IsLed};
 ghost use Rattle.ringplan_people.specs.Made.{IsStated};
 ghost use Rattle.ringplan_people.specs.Studies.{HasApproved, IsShown};
-ghost use Rattle.ringplan_people.specs.Why.{HasKept};
 
 use crate::goal_words::{push_goal_words, push_unlisted};
 use crate::history_words::unless_memory;

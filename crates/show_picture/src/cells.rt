@@ -2,7 +2,7 @@
 
 use crate::columns::Columns;
 use crate::sheet::Sheet;
-use helpers::{at, raise, small};
+use helpers::{at, raise};
 use ring_names::{NodeId, Refusal};
 
 // How many rows a map has at most.

@@ -12,7 +12,7 @@ use crate::svg::{
     Area, MARGIN, Point, WIDE, push_area, push_picture, push_rule, push_said, push_words,
 };
 use crate::widths::width;
-use helpers::{Words, small};
+use helpers::Words;
 use ring_names::Refusal;
 use show_plan::Shown;
 

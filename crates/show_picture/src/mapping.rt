@@ -5,7 +5,7 @@ use crate::columns::{Column, Columns, Sharing};
 use crate::fitting::{Look, push_fitting};
 use crate::frame::{caption_of, name_class, push_frame, push_key};
 use crate::sheet::Sheet;
-use crate::svg::{Area, Caption, MARGIN, Point, WIDE, push_area, push_picture, push_said};
+use crate::svg::{Area, MARGIN, Point, WIDE, push_area, push_picture, push_said};
 use crate::widths::width;
 use helpers::{Words, at, parts_of, rack, small};
 use ring_names::Refusal;
@@ -43,6 +43,8 @@ struct Grid {
     row: u32,
     column: u32,
     bottom: u32,
+    // how many slots fill a cell
+    most: u32,
 }
 
 impl Grid {
@@ -69,6 +71,7 @@ impl Grid {
             row,
             column,
             bottom: top.saturating_add(rows.saturating_mul(row)),
+            most: cells.most(),
         })
     }
 
@@ -118,16 +121,7 @@ impl Grid {
         push_fitting(out, Point::at(x, y), look, words, NAMES / 9 * 8)
     }
 
-    // The name of the rack over its first column.
-    fn push_rack(&self, sheet: &Sheet, out: &mut Words, place: usize, behind: u8, node: u32) {
-        let mut words = Words::new(sheet.alloc);
-        words.text(rack(sheet.ring.name(node), behind));
-        let look = Look::new(b"h", 11, b"");
-        let room = self.column.saturating_mul(2).max(30);
-        push_fitting(out, Point::at(self.x(place), HEAD), look, &words, room)
-    }
-
-    // The columns, with the racks over them.
+    // The columns, with the name of each rack over its first one.
     fn push_columns(&self, sheet: &Sheet, out: &mut Words, columns: &Columns) {
         let mut place = 0usize;
         let mut last = None;
@@ -136,7 +130,11 @@ impl Grid {
             self.push_label(sheet, out, place, (column, &label(sheet, columns, column)));
             if let (Some(behind), Sharing::Nobody) = (columns.racks_behind, columns.sharing) {
                 if last != Some(column.rack) {
-                    self.push_rack(sheet, out, place, behind, column.node);
+                    let mut words = Words::new(sheet.alloc);
+                    words.text(rack(sheet.ring.name(column.node), behind));
+                    let room = self.column.saturating_mul(2).max(30);
+                    let start = Point::at(self.x(place), HEAD);
+                    push_fitting(out, start, Look::new(b"h", 11, b""), &words, room);
                 }
             }
             last = Some(column.rack);
@@ -158,7 +156,7 @@ impl Grid {
     }
 
     // The cells of a column, of one mark, as one shape.
-    fn push_cells(&self, out: &mut Words, cells: &Cells, column: usize, mark: usize, most: u32) {
+    fn push_cells(&self, out: &mut Words, cells: &Cells, column: usize, mark: usize) {
         let mut is_open = false;
         for row in 0..cells.rows {
             let count = cells.at(mark, row, column);
@@ -175,12 +173,7 @@ impl Grid {
             for other in 0..mark {
                 before = before.saturating_add(cells.at(other, row, column));
             }
-            self.push_cell(
-                out,
-                (row, column),
-                (before, before.saturating_add(count)),
-                most,
-            );
+            self.push_cell(out, (row, column), (before, before.saturating_add(count)));
         }
         if is_open {
             out.text(b"\"/>\n");
@@ -188,12 +181,12 @@ impl Grid {
     }
 
     // A cell's part from one number of slots to another, of the most that a cell has.
-    fn push_cell(&self, out: &mut Words, place: (usize, usize), slots: (u32, u32), most: u32) {
+    fn push_cell(&self, out: &mut Words, place: (usize, usize), slots: (u32, u32)) {
         let (row, column) = place;
         let (from, to) = slots;
         let room = self.column.saturating_sub(1);
-        let start = parts_of(from, most, room);
-        let end = parts_of(to, most, room)
+        let start = parts_of(from, self.most, room);
+        let end = parts_of(to, self.most, room)
             .max(start.saturating_add(1))
             .min(room);
         let start = start.min(end.saturating_sub(1));
@@ -335,14 +328,13 @@ pub fn map_picture(sheet: &Sheet, racks_behind: Option<u8>) -> Result<Vec<u8>, R
     let cells = Cells::of(sheet, &columns)?;
     let grid = Grid::of(sheet, &columns, &cells)?;
     let caption = caption_of(sheet);
-    let most = cells.most();
     let mut shapes = Words::new(sheet.alloc);
     push_frame(sheet, &mut shapes, &caption);
     grid.push_columns(sheet, &mut shapes, &columns);
     grid.push_numbers(sheet, &mut shapes, &cells);
     for column in 0..columns.columns.len() {
         for mark in 0..MARKS {
-            grid.push_cells(&mut shapes, &cells, column, mark, most);
+            grid.push_cells(&mut shapes, &cells, column, mark);
         }
     }
     let height = grid.push_notes(sheet, &mut shapes, &columns, &cells);
