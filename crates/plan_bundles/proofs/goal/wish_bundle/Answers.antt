@@ -18,5 +18,7 @@ returns c =
     let around = subst (λ (dead : List NodeId). HasChangedMembers w.ring (with_dead w.ring dead w.change) wanted) same changed in
     let by-change = subst (λ (change : Change). IsSizedAsAsked c.args.options.now w.ring change wanted) c.in_ok-change.ensures c.in_ok-ask_sized.ensures in
     let sized = subst (λ (dead : List NodeId). IsSizedAsAsked c.args.options.now w.ring (with_dead w.ring dead w.change) wanted) same by-change in
-    record { reached = of_both c.reach.result c.reach.ensures.ring c.reach.ensures.reached
-        (λ p ring reached. (w, c.in_ok-ring.ensures.read, wanted, c.as_slice-3.result.now, named, around, sized, (ring, reached))) }
+    record {
+      reached = of_both c.reach.result c.reach.ensures.ring c.reach.ensures.reached
+          (λ p ring reached. (w, c.in_ok-ring.ensures.read, wanted, c.as_slice-3.result.now, named, around, sized, (ring, reached)));
+    }
