@@ -157,13 +157,14 @@ fn start_workers<'s, 'x, 'e, 'a, L: RunLedger + Send + Sync, R: Wait + Sync, G: 
     refused
 }
 
-// Starts the client of that number and keeps its handle. Whether that was refused.
+// Starts the client of that number and keeps its handle. Whether that was refused, or a start was before.
 fn start_client<'s, 'x, 'e, 'a, L: RunLedger + Send + Sync, R: Wait + Sync, G: Gate + Sync>(
     scope: &Scope<'s, &'x ()>,
     site: &'s Site<'e, 'a, L, R, G>,
     handles: &mut Vec<PromisedHandle<Done<L>, ByGate<G>>>,
     number: usize,
     done: Done<L>,
+    refused: bool,
 ) -> bool
     requires scripts { (number < length site.now.job.now.scripts.now) × (length site.now.job.now.scripts.now ≤ 8) }
     requires old { All (λ h. (h.promise.0.value ≡ site.now.job.now.gate.now) × (64 ≤ h.promise.1)
@@ -172,6 +173,7 @@ fn start_client<'s, 'x, 'e, 'a, L: RunLedger + Send + Sync, R: Wait + Sync, G: G
         × (h.promise.1 < 64 + length site.now.job.now.scripts.now)) handles.new.items }
     ensures kept { (client line : ℕ) → Any (λ h. (h.promise.1 ≡ client) × (line < h.promise.2)) handles.old.items
         → Any (λ h. (h.promise.1 ≡ client) × (line < h.promise.2)) handles.new.items }
+    ensures before { result ≡ false → refused ≡ false }
     ensures served { result ≡ false
         → (line : ℕ) → line < length (slice_index_or site.now.job.now.scripts.now number [])
         → Any (λ h. (h.promise.1 ≡ 64 + number) × (line < h.promise.2)) handles.new.items }
@@ -190,7 +192,7 @@ fn start_client<'s, 'x, 'e, 'a, L: RunLedger + Send + Sync, R: Wait + Sync, G: G
     );
     match spawned {
         Ok(handle) => match handles.push(handle) {
-            Ok(()) => false,
+            Ok(()) => refused,
             Err(_refusal) => true,
         },
         Err(_refusal) => true,
@@ -219,7 +221,7 @@ fn start_clients<'s, 'x, 'e, 'a, L: RunLedger + Send + Sync, R: Wait + Sync, G: 
     for started in 0..clients {
         let done = Done::new(site.job.alloc, root.split());
         let number = clients - 1 - started;
-        refused = start_client(scope, site, handles, number, done) || refused;
+        refused = start_client(scope, site, handles, number, done, refused);
     }
     refused
 }
