@@ -4,7 +4,7 @@ ghost use Rattle.std.specs.Prelude.{◌<◌, Some};
 ghost use Rattle.history_parts.specs.Choices.{IsChoice};
 
 use crate::answering::{CHAINS, MOVE_STEPS, RING};
-use history_parts::part;
+use history_parts::{mark_chosen, part};
 use history_stream::{NoPart, Part, cut_stream};
 use history_text::{push_entry, read_replay};
 use ring_names::{Choice, Refusal};
@@ -172,7 +172,7 @@ fn wanted<RT: AllocGlobal + Abort>(rt: &RT, choice: Choice, bytes: &[u8]) -> Res
 {
     let whole = read_replay(rt.alloc(), bytes)?;
     assert!(rt; whole.history.len() <= 1000);
-    let marks = choice.marks(rt.alloc(), whole.ring.q())?;
+    let marks = mark_chosen(rt.alloc(), choice, whole.ring.q())?;
     let entries = part(
         rt.alloc(),
         &whole.ring,
