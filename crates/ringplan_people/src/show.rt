@@ -8,6 +8,7 @@ use crate::study::{Study, studied};
 use change_text::Options;
 use plan_bundles::{front, sizes_of};
 use plan_moves::Progress;
+use plan_text::Plan;
 use ring_names::Refusal;
 use ring_table::{Ring, read_ring};
 use ringplan_job::{DrawWish, Picture, Shape as Asked, Wish};
@@ -110,6 +111,28 @@ fn sized(volumes: Option<&Volumes>, rate: Option<u32>) -> Option<Sized<'_>> {
     }
 }
 
+// What a summary of the plan is made of.
+fn view_of<'a>(
+    alloc: Global,
+    ring: &'a Ring,
+    plan: &'a Plan,
+    shown: &'a Shown,
+    sized: Option<Sized<'a>>,
+    wish: &Wish,
+) -> View<'a> {
+    View {
+        alloc,
+        ring,
+        plan,
+        scene: &shown.scene,
+        present: &shown.present,
+        progress: shown.progress.as_ref(),
+        shape: shape_of(wish.shape),
+        sized,
+        racks_behind: wish.options.racks_behind,
+    }
+}
+
 // The summary of a bundle's plan.
 fn show_plan(alloc: Global, bytes: &[u8], wish: &Wish) -> Result<Vec<u8>, Refusal>
     ensures shown { OnOk result (IsShown bytes.now) }
@@ -117,17 +140,9 @@ fn show_plan(alloc: Global, bytes: &[u8], wish: &Wish) -> Result<Vec<u8>, Refusa
     let found = studied(alloc, bytes)?;
     let shown = shown_by(alloc, &found)?;
     let volumes = volumes_of(alloc, &found, &shown.scene, &wish.options)?;
-    let view = View {
-        alloc,
-        ring: found.approved.ring(),
-        plan: found.approved.plan(),
-        scene: &shown.scene,
-        present: &shown.present,
-        progress: shown.progress.as_ref(),
-        shape: shape_of(wish.shape),
-        sized: sized(volumes.as_ref(), wish.rate),
-        racks_behind: wish.options.racks_behind,
-    };
+    let sized = sized(volumes.as_ref(), wish.rate);
+    let (ring, plan) = (found.approved.ring(), found.approved.plan());
+    let view = view_of(alloc, ring, plan, &shown, sized, wish);
     summary(&view)
 }
 
@@ -138,14 +153,19 @@ pub fn draw_bundle(alloc: Global, bytes: &[u8], wish: DrawWish) -> Result<Vec<u8
     ensures approved { OnOk result (HasApproved bytes.now) }
 {
     let found = studied(alloc, bytes)?;
-    let shown = shown_by(alloc, &found)?;
+    let Shown {
+        scene,
+        progress,
+        present,
+    } = shown_by(alloc, &found)?;
+    let run = progress.as_ref();
     let sheet = Sheet {
         alloc,
         ring: found.approved.ring(),
         plan: found.approved.plan(),
-        scene: &shown.scene,
-        present: &shown.present,
-        progress: shown.progress.as_ref(),
+        scene: &scene,
+        present: &present,
+        progress: run,
     };
     drawn(&sheet, wish)
 }
