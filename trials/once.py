@@ -4,7 +4,7 @@ trials/once.py. It wants the program as it is built, and gdb.
 
 gdb counts how often the program comes to the readers of the two sections, to the checker and to the
 replay. ROWS says how often that is owed, by command and example. What is more than once has its
-reason: two rings or plans are judged, or a ring is still made by way of its text."""
+reason: two rings or plans are judged."""
 import pathlib
 import re
 import subprocess
@@ -59,6 +59,11 @@ ROWS = (
     Row("goal --format json", "plan_replace", (1, 0, 1, 0)),
     # Two rings.
     Row("goal --dead c", "goal_around_a_dead_node", (2, 0, 1, 0)),
+    # The plan, and each window of it.
+    Row("windows --rounds 1", "move_one_slot", (1, 1, 2, 0)),
+    Row("windows --rounds 1", "plan_replace", (1, 0, 5, 0)),
+    # Two plans, and the history by each.
+    Row("around --dead c", "replay_a_move", (1, 1, 2, 2)),
 )
 
 
