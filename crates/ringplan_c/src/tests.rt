@@ -141,7 +141,7 @@ fn speaks_of_texts(rt: HostRuntime) {
         "plan 1\nend\ncert 1\nend\nringplan: the plan has no steps: the ring is as wanted already\n"
     );
     let (exit, dead, rounds) = ("--exit-code", "--dead\0a\0", "--rounds\0001\0");
-    says(&rt, "goal", exit, CHANGE, &mut [0; 141], (0, 65, planned));
+    says(&rt, "goal", exit, CHANGE, &mut [0; 139], (0, 63, planned));
     says(&rt, "around", dead, HISTORY, &mut [0; 111], (0, 0, HISTORY));
     says(&rt, "windows", rounds, BUNDLE, &mut [0; 76], (0, 0, BUNDLE));
     says(&rt, "after", "", BUNDLE, &mut [0; 54], (0, 0, ring));
@@ -218,7 +218,7 @@ fn names_the_calls_of_what_is_not_for_people(rt: HostRuntime) {
 #[test]
 fn leaves_a_room_that_is_too_small_for_both(rt: HostRuntime) {
     let (mut length, mut errors) = (0, 0);
-    let mut room = [b' '; 140];
+    let mut room = [b' '; 138];
     let status = ringplan_call(
         rt.alloc(),
         b"goal",
@@ -228,6 +228,6 @@ fn leaves_a_room_that_is_too_small_for_both(rt: HostRuntime) {
         &mut length,
         &mut errors,
     );
-    assert_eq!(rt; (status, length, errors), (4, 141, 65));
+    assert_eq!(rt; (status, length, errors), (4, 139, 63));
     assert!(rt; room.iter().all(|byte| *byte == b' '));
 }
