@@ -142,8 +142,8 @@ fn all_windows(
 }
 
 /// An approved plan in windows of so many rounds of copies, each the texts of a ring, a plan and its certificate, over the ring that the window before leaves; or the window of
-/// that number alone, counted from 1. What takes a slot from one owner to the next stays in one window. Refused is what the checker refuses of a window; as `NoPlan` a ring that no text can say
-/// and a number without a window; as `TooLarge(0)` windows that have more than `MAX_WINDOWS` bytes together, before any is made where
+/// that number alone, counted from 1. What takes a slot from one owner to the next stays in one window. Refused is what the checker refuses of a window; as `NoPlan` a number without
+/// a window; as `TooLarge(0)` windows that have more than `MAX_WINDOWS` bytes together, before any is made where
 /// their number and the ring's length show it.
 pub fn cut_plan(
     alloc: Global,

@@ -28,7 +28,7 @@ pub(crate) fn is_member(nodes: &[Node], node: NodeId) -> bool
     }
 }
 
-// The name of the node of that number, or no bytes if there is no such node.
+// The name of the node of that number, or no bytes if the ring lacks it.
 pub(crate) fn name_at(nodes: &[Node], node: NodeId) -> &[u8]
     ensures { result.now ≡ name_at (map (λ x. x.name) nodes.now) node }
 {

@@ -162,7 +162,7 @@ impl Ring {
         self.nodes.as_slice()
     }
 
-    /// The name of the node of that number, or no bytes if the ring has no such node. Takes no memory.
+    /// The name of the node of that number, or no bytes if the ring lacks it. Takes no memory.
     pub fn name(&self, node: u32) -> &[u8]
         ensures { result.now ≡ name_at (names_of self.now) (record { 0 = node }) }
     {

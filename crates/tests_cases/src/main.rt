@@ -1,9 +1,9 @@
 //! Runs the program on the bundles that its arguments name, and prints the name, the answer and the exit status of each. The words
 //! `check`, `migrate`, `play`, `plan`, `drive` and `replay` among them say which subcommand is meant from there on, at first `check`; `report` means a drive
 //! whose report is printed, and `race` one by three workers, of which the first line is printed, since the others are left to chance. Of a bundle that is
-//! accepted, no first part may be: how many are is printed where it is not none. A check is also made by 1, 3 and 64 workers: how many of them
-//! say otherwise is printed where it is not none. Of each play the history of its answered events is replayed, and that history with a fault at
-//! each place: of how many a replay says otherwise than the play does is printed where it is not none. Of each drive the history that it prints is
+//! accepted, no first part may be: how many are is printed if it is not none. A check is also made by 1, 3 and 64 workers: how many of them
+//! say otherwise is printed if it is not none. Of each play the history of its answered events is replayed, and that history with a fault at
+//! each place: of how many a replay says otherwise than the play does is printed if it is not none. Of each drive the history that it prints is
 //! replayed, and it is said where a replay does not say yes to it. The words of `people.rt` ask for what is printed for people.
 #![tactic(auto)]
 
