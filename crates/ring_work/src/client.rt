@@ -1,9 +1,8 @@
 //! Clients, each of which does the lines of a script.
 
-ghost use Rattle.std.specs.Prelude.{◌≡◌, ◌<◌, ℕ, true, length, vec_len, vec_capacity, IfOk, IfErr, IsTrue};
+ghost use Rattle.std.specs.Prelude.{◌≡◌, ◌<◌, ℕ, true, length, IfOk, IfErr, IsTrue};
 ghost use Rattle.ring_names.specs.declared.refusal.Refusal.TheVariants.{TurnsSpent};
-ghost use Rattle.std.specs.List.{list_all};
-ghost use Rattle.plan_runs.specs.Leaves.{starts_put, starts_get};
+ghost use Rattle.plan_runs.specs.Leaves.{starts_put};
 ghost use Rattle.ring_work.specs.Driven.{IsSpent, MayPass};
 
 use crate::done::Done;

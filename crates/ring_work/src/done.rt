@@ -1,6 +1,6 @@
 //! What a thread hands back.
 
-use crate::noting::note;
+use crate::noting::{go_on, note};
 use crate::site::LockedStore;
 use plan_runs::Event;
 use ring_board::Seat;
@@ -45,6 +45,21 @@ impl<L: RunLedger> Done<L> {
         event: Event,
     ) -> Result<(), Refusal> {
         note(store, &mut self.share, &mut self.receipts, event)
+    }
+
+    /// Submits the event and keeps its receipt. Whether it was answered; a refusal that ends all is returned.
+    pub fn try_note<R: Wait>(
+        &mut self,
+        store: &LockedStore<L, R>,
+        event: Event,
+    ) -> Result<bool, Refusal> {
+        match self.note(store, event) {
+            Ok(()) => Ok(true),
+            Err(refusal) => {
+                go_on(refusal)?;
+                Ok(false)
+            }
+        }
     }
 
     /// Submits the events in order under one hold of the lock, up to the first that is refused, and keeps the receipts of those before it.

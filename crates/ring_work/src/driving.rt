@@ -1,7 +1,7 @@
 //! A drive.
 
 ghost use Rattle.std.specs.Prelude.{◌≡◌, ◌+◌, ◌<◌, ◌≤◌, ◌++◌, ◌∷◌, All, [], Some, true, length, vec_len, map, IsTrue};
-ghost use Rattle.std.specs.Prelude.{IsNone, IfOk, IfErr, IfNone, IfSome, OnOk};
+ghost use Rattle.std.specs.Prelude.{IfOk, IfErr, IfNone, IfSome, OnOk};
 ghost use Rattle.std.specs.List.{AllByRecursion, list_all};
 ghost use Rattle.ring_names.specs.declared.refusal.Refusal.TheVariants.{OutOfMemory, TurnsSpent};
 ghost use Rattle.ring_board.specs.Words.{finished_word};
@@ -12,7 +12,7 @@ ghost use Rattle.ring_work.specs.Driven.{Driven, IsHistory, IsWhole, IsSafe, IsF
 
 use crate::earlier::finish_all;
 use crate::fault::Fault;
-use crate::left::{Left, worse};
+use crate::left::worse;
 use crate::noting::no_limit;
 use crate::site::Job;
 use crate::threads::run_all;
@@ -22,7 +22,6 @@ use ring_board::{Board, ClosedBoard, Seat};
 use ring_exec::{Executor, Ledgered, RunLedger, Share};
 use ring_names::{Listed, Refusal};
 use ring_receipts::{Outcome, Receipt, agrees};
-use script_text::Script;
 use std::alloc::Global;
 use std::marker::Brand;
 use std::sync::Wait;
@@ -149,12 +148,10 @@ fn judge<'a, R: Wait, G: Gate>(
     job: &Job<'a, R, G>,
     lists: usize,
     outcome: &Outcome,
-    finished: bool,
-    complete: bool,
+    all_done: bool,
     stopped: Option<Refusal>,
 ) -> Option<Refusal>
-    ensures finished { IfNone result (IsTrue finished) }
-    ensures complete { IfNone result (IsTrue complete) }
+    ensures done { IfNone result (IsTrue all_done) }
     ensures agrees { IfNone result (Agrees (length job.now.approved.now.plan) job.now.scripts.now job.now.workers outcome.now.history.items outcome.now.receipts.items outcome.now.finishers.items) }
     ensures lists { IfNone result (length outcome.now.receipts.items ≡ lists) }
     ensures fault { IfSome result IsFault }
@@ -163,7 +160,7 @@ fn judge<'a, R: Wait, G: Gate>(
     if let Some(refusal) = stopped {
         return Some(fault_kind(refusal));
     }
-    if !finished || !complete || outcome.receipts.len() != lists {
+    if !all_done || outcome.receipts.len() != lists {
         return Some(Refusal::Disagree);
     }
     match agrees(job.alloc, job.approved, job.scripts, job.workers, outcome) {
@@ -197,13 +194,10 @@ fn finish_after(finish: Result<Finish, Refusal>, met: Option<Refusal>) -> Result
 fn fault_of(outcome: Outcome, refusal: Refusal) -> Fault
     ensures { (result.refusal ≡ refusal) × (result.history ≡ outcome.history) }
 {
-    let Outcome {
-        history,
-        receipts: _,
-        finishers: _,
-        board: _,
-    } = outcome;
-    Fault { refusal, history }
+    Fault {
+        refusal,
+        history: outcome.history,
+    }
 }
 
 // The lists behind those in front, and what was met, if it was, where their memory is refused.
@@ -293,22 +287,15 @@ fn run<'a, L: RunLedger + Send + Sync, R: Threads + Wait + Sync, G: Gate + Sync>
 {
     let (board, first, last, front) = prepare(job, entries, front)?;
     let (first, left) = run_all(&*job, &*executor, &board, first, share)?;
-    let Left {
-        seats,
-        shares,
-        receipts,
-        refusal,
-        complete,
-    } = left;
-    let finish = finish_of(job.alloc, end_of(board, first, last, seats));
-    let (receipts, refusal) = append_lists(front, receipts, refusal);
+    let finish = finish_of(job.alloc, end_of(board, first, last, left.seats));
+    let (receipts, refusal) = append_lists(front, left.receipts, left.refusal);
     let finish = finish_after(finish, refusal);
     Ok(Ran {
-        shares,
+        shares: left.shares,
         receipts,
         finish,
         refusal,
-        complete,
+        complete: left.complete,
     })
 }
 
@@ -317,24 +304,23 @@ fn check_outcome<'a, R: Wait, G: Gate>(
     job: &Job<'a, R, G>,
     outcome: Outcome,
     lists: usize,
-    finished: bool,
-    complete: bool,
+    all_done: bool,
     stopped: Option<Refusal>,
 ) -> Result<Outcome, Fault>
     requires run { IsHistory job.now.approved.now.ring job.now.approved.now.plan outcome.history.items }
-    requires whole { IsTrue finished → IsWhole job.now.approved.now.ring job.now.approved.now.plan outcome.history.items }
+    requires whole { IsTrue all_done → IsWhole job.now.approved.now.ring job.now.approved.now.plan outcome.history.items }
     requires safe { IsSafe job.now.approved.now.ring job.now.approved.now.plan outcome.history.items }
     requires board { map finished_word outcome.finishers.items ≡ outcome.board }
     ensures ok { IfOk result (λ o. Driven job.now.approved.now.ring job.now.approved.now.plan job.now.scripts.now job.now.workers o.history.items o.receipts.items o.finishers.items) }
     ensures lists { IfOk result (λ o. (vec_len o.receipts ≡ lists) × (o.receipts ≡ outcome.receipts)) }
     ensures board { IfOk result (λ o. map finished_word o.finishers.items ≡ o.board) }
-    ensures turned { (IsTrue complete → ⊥) → OnOk result ⊥ }
+    ensures turned { (IsTrue all_done → ⊥) → OnOk result ⊥ }
     ensures refusal { IfErr result (λ f. IsFault f.refusal) }
     ensures spent { IfErr result (λ f. f.refusal ≡ TurnsSpent → IsSpent stopped) }
     ensures history { IfErr result
         (λ f. IsHistory job.now.approved.now.ring job.now.approved.now.plan f.history.items) }
 {
-    match judge(job, lists, &outcome, finished, complete, stopped) {
+    match judge(job, lists, &outcome, all_done, stopped) {
         None => Ok(outcome),
         Some(refusal) => Err(fault_of(outcome, refusal)),
     }
@@ -368,11 +354,10 @@ fn finish_drive<'a, L: RunLedger, R: Wait, G: Gate>(
     } = ran;
     let ledgered = match executor.finish(shares) {
         Ok(ledgered) => ledgered,
-        Err(other) => return Err(empty_fault(
-            job.alloc,
-            job.approved,
-            fault_kind(worst(refusal, other)),
-        )),
+        Err(other) => {
+            let refusal = fault_kind(worst(refusal, other));
+            return Err(empty_fault(job.alloc, job.approved, refusal));
+        }
     };
     let (history, finished) = history_of(job.approved, ledgered);
     match finish {
@@ -383,7 +368,7 @@ fn finish_drive<'a, L: RunLedger, R: Wait, G: Gate>(
                 finishers,
                 board,
             };
-            check_outcome(job, outcome, lists, finished, complete, refusal)
+            check_outcome(job, outcome, lists, finished && complete, refusal)
         }
         Err(other) => Err(Fault {
             refusal: fault_kind(other),
@@ -460,37 +445,25 @@ fn drive_as<'a, L: RunLedger + Send + Sync, R: Threads + Wait + Sync, G: Gate + 
 /// scripts in order, and pass it before each, as worker 64 and the script's number at the line's. It breaks off with 71 where a worker took
 /// 1,000,000 turns without finishing a step while steps were left, or the gate answered false; else with 70 where the history is full or records
 /// disagree; and else with 60 where a growth, or the start of a thread, was refused.
-pub fn drive<R: Threads + Wait + Sync, G: Gate + Sync>(
-    rt: &R,
-    alloc: Global,
-    approved: &Approved,
-    scripts: &[Script],
-    workers: u32,
-    gate: &G,
+pub fn drive<'a, R: Threads + Wait + Sync, G: Gate + Sync>(
+    job: &Job<'a, R, G>,
 ) -> Result<Outcome, Fault>
-    requires workers { (0 < workers) × (workers ≤ 64) }
-    requires scripts { (0 < length scripts.now) × (length scripts.now ≤ 8) }
-    requires clients { AllByRecursion (λ s. list_all is_client_event s ≡ true) scripts.now }
+    requires workers { (0 < job.now.workers) × (job.now.workers ≤ 64) }
+    requires scripts { (0 < length job.now.scripts.now) × (length job.now.scripts.now ≤ 8) }
+    requires clients { AllByRecursion (λ s. list_all is_client_event s ≡ true) job.now.scripts.now }
     // A run of the plan that finishes every step, safe at every moment, and an interleaving of what its threads were answered.
-    ensures ok { IfOk result (λ o. Driven approved.now.ring approved.now.plan scripts.now workers o.history.items o.receipts.items o.finishers.items) }
+    ensures ok { IfOk result (λ o. Driven job.now.approved.now.ring job.now.approved.now.plan job.now.scripts.now job.now.workers o.history.items o.receipts.items o.finishers.items) }
     // A list for each worker, for each client and for the handoffs, and no other.
-    ensures threads { IfOk result (λ o. vec_len o.receipts ≡ workers + (length scripts.now + 1)) }
+    ensures threads { IfOk result (λ o. vec_len o.receipts ≡ job.now.workers + (length job.now.scripts.now + 1)) }
     // Each finisher is the word of its step with which the board was closed; only the end of a board makes such words.
     ensures board { IfOk result (λ o. map finished_word o.finishers.items ≡ o.board) }
     // Where the gate must refuse the pass before a line of a script, there is no outcome.
-    ensures turned { MustTurn (G.must_refuse gate.now) scripts.now → OnOk result ⊥ }
+    ensures turned { MustTurn (G.must_refuse job.now.gate.now) job.now.scripts.now → OnOk result ⊥ }
     ensures refusal { IfErr result (λ f. IsFault f.refusal) }
-    ensures spent { IfErr result
-        (λ f. f.refusal ≡ TurnsSpent → MayStop (G.may_refuse gate.now) approved.now.plan (length scripts.now)) }
-    ensures history { IfErr result (λ f. IsHistory approved.now.ring approved.now.plan f.history.items) }
+    ensures spent { IfErr result (λ f. f.refusal ≡ TurnsSpent
+        → MayStop (G.may_refuse job.now.gate.now) job.now.approved.now.plan (length job.now.scripts.now)) }
+    ensures history { IfErr result
+        (λ f. IsHistory job.now.approved.now.ring job.now.approved.now.plan f.history.items) }
 {
-    let job = Job {
-        rt,
-        alloc,
-        approved,
-        scripts,
-        workers,
-        gate,
-    };
-    drive_as::<Brand, R, G>(&job, Blank::new(128))
+    drive_as::<Brand, R, G>(job, Blank::new(128))
 }

@@ -1,6 +1,6 @@
 //! A get through the lock.
 
-ghost use Rattle.std.specs.Prelude.{◌≡◌, ◌+◌, ◌<◌, ◌∷◌, ◌++◌, [], true, vec_len, IfOk, IfErr, OnErr, is_some};
+ghost use Rattle.std.specs.Prelude.{◌≡◌, ◌+◌, ◌<◌, ◌∷◌, ◌++◌, [], true, vec_len, IfOk, OnErr, is_some};
 ghost use Rattle.plan_runs.specs.declared.event.Event.TheVariants.{StartGet};
 ghost use Rattle.plan_runs.specs.declared.event.Reply.TheVariants.{Get};
 ghost use Rattle.ring_receipts.specs.declared.receipt.Receipt.{Receipt as TheReceipt};
@@ -103,30 +103,7 @@ fn read_round<L: RunLedger, R: Wait>(
     Ok(())
 }
 
-// Another round, where it can meet another answer than the last one.
-fn another_read_round<L: RunLedger, R: Wait>(
-    store: &LockedStore<L, R>,
-    share: &mut Share<L>,
-    receipts: &mut Vec<Receipt>,
-    get: u32,
-    slots: &mut Slots,
-    idle: &mut Idle,
-) -> Result<(), Refusal>
-    ensures grows { Grows (λ r. reads get r.event) receipts.old.items receipts.new.items }
-    ensures count { IsCounted share.old.count share.new.count receipts.old.items receipts.new.items }
-    ensures parts { share.new.token.parts ≡ share.old.token.parts }
-{
-    let length = store.executor.entry_count(store.rt);
-    if idle.is_at(length) {
-        return Ok(());
-    }
-    let before = receipts.len();
-    let came = read_round(store, share, receipts, get, slots);
-    idle.note(length, receipts.len() != before);
-    came
-}
-
-// Rounds, up to one behind which R slots are read.
+// Rounds, each if it can meet another answer than the last one, up to one after which R slots are read.
 fn read_rounds<L: RunLedger, R: Wait>(
     store: &LockedStore<L, R>,
     share: &mut Share<L>,
@@ -141,7 +118,12 @@ fn read_rounds<L: RunLedger, R: Wait>(
     let mut slots = Slots { mask: 0, count: 0 };
     let mut idle = Idle::new();
     'rounds: for _ in 0..MAX_ROUNDS {
-        another_read_round(store, share, receipts, get, &mut slots, &mut idle)?;
+        let length = store.executor.entry_count(store.rt);
+        if !idle.is_at(length) {
+            let before = receipts.len();
+            read_round(store, share, receipts, get, &mut slots)?;
+            idle.note(length, receipts.len() != before);
+        }
         if slots.count >= enough {
             break;
         }

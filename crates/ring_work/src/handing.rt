@@ -3,30 +3,14 @@
 ghost use Rattle.ring_work.specs.Driven.{IsSpent};
 
 use crate::done::Done;
-use crate::noting::{go_on, no_limit};
+use crate::noting::no_limit;
 use crate::site::{Site, is_set, ring_count, set};
 use plan_check::Gate;
 use plan_runs::Event;
 use ring_exec::RunLedger;
-use ring_names::{NodeId, Refusal, Slot};
+use ring_names::Refusal;
 use std::sync::Wait;
 use std::thread;
-
-// Hands the node's hints for the slot off. Whether they went.
-fn hand<L: RunLedger, R: Wait, G: Gate>(
-    site: &Site<L, R, G>,
-    done: &mut Done<L>,
-    node: NodeId,
-    slot: Slot,
-) -> Result<bool, Refusal> {
-    match done.note(site.store, Event::Handoff(node, slot)) {
-        Ok(()) => Ok(true),
-        Err(refusal) => {
-            go_on(refusal)?;
-            Ok(false)
-        }
-    }
-}
 
 // Walks over the hints, to the end of the first that began when all other threads had ended. A walk looks for the n-th hint; behind an
 // answered handoff n stays, and behind a refused one it is one more. Where a walk leaves no hint, the next one begins when the bell is rung.
@@ -41,7 +25,7 @@ fn walks<L: RunLedger, R: Wait, G: Gate>(
     for _ in rt.forever() {
         match site.store.executor.hint_at(rt, n) {
             Some((node, slot)) => {
-                if !hand(site, done, node, slot)? {
+                if !done.try_note(site.store, Event::Handoff(node, slot))? {
                     n = n.saturating_add(1);
                 }
             }

@@ -104,18 +104,12 @@ impl<L: RunLedger> Left<L> {
         ensures spent { IsSpent self.new.refusal → IsSpent self.old.refusal ⊎ IsSpent done.stopped }
         ensures complete { IsTrue self.new.complete → IsTrue self.old.complete × IsTrue done.complete }
     {
-        let Done {
-            receipts,
-            share,
-            stopped,
-            complete,
-        } = done;
-        self.complete = self.complete && complete;
-        if self.receipts.push(Listed::from_vec(receipts)).is_err() {
+        self.complete = self.complete && done.complete;
+        if self.receipts.push(Listed::from_vec(done.receipts)).is_err() {
             self.note(Some(Refusal::OutOfMemory));
         }
-        self.share(share);
-        self.note(stopped);
+        self.share(done.share);
+        self.note(done.stopped);
     }
 
     /// Takes what a worker hands back.
@@ -126,14 +120,9 @@ impl<L: RunLedger> Left<L> {
         ensures spent { IsSpent self.new.refusal → IsSpent self.old.refusal ⊎ IsSpent sat.done.stopped }
         ensures complete { IsTrue self.new.complete → IsTrue self.old.complete }
     {
-        let Sat {
-            done,
-            worker: _,
-            seat,
-        } = sat;
-        if self.seats.push(seat).is_err() {
+        if self.seats.push(sat.seat).is_err() {
             self.note(Some(Refusal::OutOfMemory));
         }
-        self.take(done);
+        self.take(sat.done);
     }
 }

@@ -24,3 +24,4 @@ pub use getting::get_all;
 pub use putting::put_all;
 pub use resuming::resume;
 pub use ring_exec::MAX_ENTRIES;
+pub use site::Job;

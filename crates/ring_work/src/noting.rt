@@ -1,6 +1,6 @@
 //! Events that are submitted, with their receipts kept.
 
-ghost use Rattle.std.specs.Prelude.{◌≡◌, ◌≢◌, ◌+◌, ◌∷◌, ◌++◌, ◌⊎◌, ◌↔◌, [], true, vec_len, if◌then◌else◌, IfOk, IfErr, OnOk, OnErr, IsTrue};
+ghost use Rattle.std.specs.Prelude.{◌≡◌, ◌≢◌, ◌⊎◌, ◌↔◌, true, if◌then◌else◌, IfErr, OnOk, OnErr, IsTrue};
 ghost use Rattle.ring_names.specs.declared.refusal.Refusal.TheVariants.{HistoryFull, OutOfMemory, TurnsSpent};
 ghost use Rattle.ring_exec.specs.Replies.{is_put, is_get};
 ghost use Rattle.plan_runs.specs.declared.event.Reply.TheVariants.{Put, Get};

@@ -1,7 +1,6 @@
 //! A put through the lock.
 
-ghost use Rattle.std.specs.Prelude.{◌≡◌, ◌+◌, ◌∷◌, ◌++◌, [], true, false, vec_len, IfOk, IfErr, OnOk, OnErr, is_some};
-ghost use Rattle.plan_runs.specs.declared.event.Event.TheVariants.{StartPut};
+ghost use Rattle.std.specs.Prelude.{◌≡◌, ◌+◌, ◌∷◌, ◌++◌, [], true, false, vec_len, IfOk, OnOk, OnErr, is_some};
 ghost use Rattle.plan_runs.specs.declared.event.Reply.TheVariants.{Put};
 ghost use Rattle.ring_receipts.specs.declared.receipt.Receipt.{Receipt as TheReceipt};
 ghost use Rattle.ring_receipts.specs.Kinds.{sends, acknowledges};
@@ -12,9 +11,9 @@ ghost use Rattle.ring_work.specs.Attempts.{AddsPut, IsPutAttempt};
 use crate::attempt::Attempt;
 use crate::noting::{Idle, MAX_ROUNDS, go_on, note, put_number};
 use crate::site::LockedStore;
-use plan_runs::{Event, Key, Seen};
+use plan_runs::Event;
 use ring_exec::{Executor, RunLedger, Share};
-use ring_names::{Refusal, Value, WriterId};
+use ring_names::Refusal;
 use ring_receipts::Receipt;
 use std::alloc::Global;
 use std::sync::Wait;
@@ -122,38 +121,7 @@ fn round<L: RunLedger, R: Wait>(
     Ok(())
 }
 
-// How many tickets of a put were current behind its last round, and whether that round is to be done again.
-#[derive(Drop)]
-struct Last {
-    current: u32,
-    idle: Idle,
-}
-
-// Another round, where it can meet another answer than the last one. Refused as that one where it can not.
-fn another_round<L: RunLedger, R: Wait>(
-    store: &LockedStore<L, R>,
-    share: &mut Share<L>,
-    receipts: &mut Vec<Receipt>,
-    put: u32,
-    last: &mut Last,
-) -> Result<(), Refusal>
-    ensures grows { OnErr result (Grows (λ r. sends put r.event) receipts.old.items receipts.new.items) }
-    ensures completes { OnOk result (Completes (λ r. sends put r.event)
-        (λ r. acknowledges put r.event) receipts.old.items receipts.new.items false) }
-    ensures count { IsCounted share.old.count share.new.count receipts.old.items receipts.new.items }
-    ensures parts { share.new.token.parts ≡ share.old.token.parts }
-{
-    let length = store.executor.entry_count(store.rt);
-    if last.idle.is_at(length) {
-        return Err(Refusal::StaleTickets(last.current));
-    }
-    let before = receipts.len();
-    let came = round(store, share, receipts, put);
-    last.idle.note(length, receipts.len() != before);
-    came
-}
-
-// Rounds, up to one behind which the put is acknowledged. The last refusal, where none is.
+// Rounds, each if it can meet another answer than the last one, up to one after which the put is acknowledged. The last refusal if none is.
 fn send_rounds<L: RunLedger, R: Wait>(
     store: &LockedStore<L, R>,
     share: &mut Share<L>,
@@ -165,19 +133,22 @@ fn send_rounds<L: RunLedger, R: Wait>(
     ensures count { IsCounted share.old.count share.new.count receipts.old.items receipts.new.items }
     ensures parts { share.new.token.parts ≡ share.old.token.parts }
 {
-    let mut last = Last {
-        current: 0,
-        idle: Idle::new(),
-    };
+    let mut current = 0u32;
+    let mut idle = Idle::new();
     'rounds: for _ in 0..MAX_ROUNDS {
-        match another_round(store, share, receipts, put, &mut last) {
-            Ok(()) => return None,
-            Err(Refusal::StaleTickets(now)) => last.current = now,
-            Err(refusal) => return Some(refusal),
+        let length = store.executor.entry_count(store.rt);
+        if !idle.is_at(length) {
+            let before = receipts.len();
+            match round(store, share, receipts, put) {
+                Ok(()) => return None,
+                Err(Refusal::StaleTickets(now)) => current = now,
+                Err(refusal) => return Some(refusal),
+            }
+            idle.note(length, receipts.len() != before);
         }
         thread::yield_now();
     }
-    Some(Refusal::StaleTickets(last.current))
+    Some(Refusal::StaleTickets(current))
 }
 
 /// A put, started by that event: rounds of at most 64 in which it is sent to each slot, or to a stand-in, and then asks to be acknowledged. Its
@@ -199,29 +170,26 @@ pub(crate) fn put_on<L: RunLedger, R: Wait>(
     }
 }
 
-/// A put of that writer, which knows the replies of the gets `seen`. It is started; then come rounds, at most 64: for each slot in order a write,
-/// and where a node of the slot is down a hint at each node, by number, until one takes it; then it asks to be acknowledged, and where too few
-/// tickets are current there is another round. A round in which nothing was answered is not done again while nothing is answered to other threads
-/// either. A refused start, a full history and want of memory end it at once.
+/// A put, of a writer that knows the replies of some gets, as the event says that starts it. It is started; then come rounds, at most 64: for each
+/// slot in order a write, and if a node of the slot is down a hint at each node, by number, until one takes it; then it asks to be acknowledged, and
+/// if too few tickets are current there is another round. A round in which nothing was answered is not done again while nothing is answered to other
+/// threads either. A refused start, a full history and want of memory end it at once.
 pub fn put_all<'a, L: RunLedger, R: Wait>(
     rt: &R,
     alloc: Global,
     executor: &Executor<'a, L>,
     share: &mut Share<L>,
-    writer: WriterId,
-    key: Key,
-    value: Value,
-    seen: Seen,
+    start: &Event,
 ) -> Attempt
+    requires { starts_put start.now ≡ true }
     // Its block, with an acknowledgement just where nothing is refused in the end; nothing where the start is refused.
-    ensures block { IsPutAttempt (StartPut writer key value seen) result.receipts.items result.refusal }
+    ensures block { IsPutAttempt start.now result.receipts.items result.refusal }
     // The share counts what was answered.
     ensures count { share.new.count ≡ share.old.count + vec_len result.receipts }
     ensures parts { share.new.token.parts ≡ share.old.token.parts }
 {
-    let start = Event::StartPut(writer, key, value, seen);
     let store = LockedStore { rt, executor };
     let mut receipts = Vec::new(alloc);
-    let refusal = put_on(&store, share, &mut receipts, &start);
+    let refusal = put_on(&store, share, &mut receipts, start);
     Attempt { receipts, refusal }
 }

@@ -22,7 +22,6 @@ use plan_runs::Entry;
 use ring_exec::{Executor, MAX_ENTRIES, RunLedger, Share};
 use ring_names::{Listed, Refusal};
 use ring_receipts::{Outcome, Receipt};
-use script_text::Script;
 use std::alloc::Global;
 use std::marker::Brand;
 use std::sync::Wait;
@@ -185,45 +184,36 @@ fn resume_as<'a, L: RunLedger + Send + Sync, R: Threads + Wait + Sync, G: Gate +
 /// entries are refused before all else; else `Mismatch` tells the first entry at which they are no run of the plan, both with an empty history.
 /// Behind them it breaks off as `drive` does, with 70 also where there is no room in the history for an abort. Out of memory comes last at
 /// each entry.
-pub fn resume<R: Threads + Wait + Sync, G: Gate + Sync>(
-    rt: &R,
-    alloc: Global,
-    approved: &Approved,
+pub fn resume<'a, R: Threads + Wait + Sync, G: Gate + Sync>(
+    job: &Job<'a, R, G>,
     entries: &[Entry],
-    scripts: &[Script],
-    workers: u32,
-    gate: &G,
 ) -> Result<Outcome, Fault>
-    requires workers { (0 < workers) × (workers ≤ 64) }
-    requires scripts { (0 < length scripts.now) × (length scripts.now ≤ 8) }
-    requires clients { AllByRecursion (λ s. list_all is_client_event s ≡ true) scripts.now }
+    requires workers { (0 < job.now.workers) × (job.now.workers ≤ 64) }
+    requires scripts { (0 < length job.now.scripts.now) × (length job.now.scripts.now ≤ 8) }
+    requires clients { AllByRecursion (λ s. list_all is_client_event s ≡ true) job.now.scripts.now }
     // As drive's, and the first list of receipts continues the entries.
-    ensures ok { IfOk result (λ o. Resumed approved.now.ring approved.now.plan scripts.now workers entries.now o.history.items o.receipts.items o.finishers.items) }
+    ensures ok { IfOk result (λ o. Resumed job.now.approved.now.ring job.now.approved.now.plan job.now.scripts.now job.now.workers entries.now o.history.items o.receipts.items o.finishers.items) }
     // A list of what came before, and one for each worker, for each client and for the handoffs, and no other.
-    ensures threads { IfOk result (λ o. vec_len o.receipts ≡ 1 + (workers + (length scripts.now + 1))) }
+    ensures threads { IfOk result
+        (λ o. vec_len o.receipts ≡ 1 + (job.now.workers + (length job.now.scripts.now + 1))) }
     // Each finisher is the word of its step with which the board was closed; only the end of a board makes such words.
     ensures board { IfOk result (λ o. map finished_word o.finishers.items ≡ o.board) }
     // Where the gate must refuse the pass before a line of a script, there is no outcome.
-    ensures turned { MustTurn (G.must_refuse gate.now) scripts.now → OnOk result ⊥ }
-    ensures refusal { IfErr result (λ f. IsStop approved.now.ring approved.now.plan entries.now f.refusal) }
+    ensures turned { MustTurn (G.must_refuse job.now.gate.now) job.now.scripts.now → OnOk result ⊥ }
+    ensures refusal { IfErr result
+        (λ f. IsStop job.now.approved.now.ring job.now.approved.now.plan entries.now f.refusal) }
     // Too many entries, and these alone, come before all else; else the first entry at which they are no run is told, memory aside.
     ensures full { IfErr result (λ f. (f.refusal ≡ HistoryFull) ↔ (1000000 < length entries.now)) }
-    ensures fault { IfErr result (λ f. TellsFault approved.now.ring approved.now.plan entries.now f.refusal) }
-    ensures spent { IfErr result
-        (λ f. f.refusal ≡ TurnsSpent → MayStop (G.may_refuse gate.now) approved.now.plan (length scripts.now)) }
-    ensures history { IfErr result (λ f. IsHistory approved.now.ring approved.now.plan f.history.items) }
+    ensures fault { IfErr result
+        (λ f. TellsFault job.now.approved.now.ring job.now.approved.now.plan entries.now f.refusal) }
+    ensures spent { IfErr result (λ f. f.refusal ≡ TurnsSpent
+        → MayStop (G.may_refuse job.now.gate.now) job.now.approved.now.plan (length job.now.scripts.now)) }
+    ensures history { IfErr result
+        (λ f. IsHistory job.now.approved.now.ring job.now.approved.now.plan f.history.items) }
     ensures empty { IfErr result (λ f. (IsFault f.refusal → ⊥) → f.history.items ≡ []) }
 {
     if entries.len() > MAX_ENTRIES {
-        return Err(empty_fault(alloc, approved, Refusal::HistoryFull));
+        return Err(empty_fault(job.alloc, job.approved, Refusal::HistoryFull));
     }
-    let job = Job {
-        rt,
-        alloc,
-        approved,
-        scripts,
-        workers,
-        gate,
-    };
-    resume_as::<Brand, R, G>(&job, Blank::new(128), entries)
+    resume_as::<Brand, R, G>(job, Blank::new(128), entries)
 }

@@ -11,7 +11,7 @@ use std::sync::atomic::{AtomicBool, AtomicU64, Ordering};
 
 /// What a drive is asked for: an approved plan, its clients' scripts, how many workers, and the gate that threads pass.
 #[derive(Drop)]
-pub(crate) struct Job<'a, R: Wait, G: Gate> {
+pub struct Job<'a, R: Wait, G: Gate> {
     pub rt: &'a R,
     pub alloc: Global,
     pub approved: &'a Approved,

@@ -94,10 +94,7 @@ fn start_handoffs<'s, 'x, 'e, 'a, L: RunLedger + Send + Sync, R: Wait + Sync, G:
             ensures { IsSpent result.stopped → ⊥ }
         { hand_off(site, done) },
     );
-    match spawned {
-        Ok(handle) => Some(handle),
-        Err(_refusal) => None,
-    }
+    spawned.ok()
 }
 
 // Starts a worker and keeps its handle. Whether that was refused.
@@ -317,21 +314,17 @@ fn run_in<'s, 'x, 'e, 'a, L: RunLedger + Send + Sync, R: Threads + Wait + Sync, 
 {
     let mut first = first;
     let mut root = share;
-    let Room {
-        mut sitting,
-        mut serving,
-        mut left,
-    } = room;
+    let mut room = room;
     let handing = start_handoffs(scope, site, Done::new(site.job.alloc, root.split()));
-    let unseated = start_workers(scope, site, &mut sitting, &mut first, &mut root);
+    let unseated = start_workers(scope, site, &mut room.sitting, &mut first, &mut root);
     let before = handing.is_none() || unseated;
-    let refused = start_clients(scope, site, &mut serving, &mut root, before);
+    let refused = start_clients(scope, site, &mut room.serving, &mut root, before);
     if refused {
         set(&site.flags.stop);
     }
-    left.note_start(refused);
-    let left = join_workers(site, sitting, left);
-    let left = join_clients(site, serving, left);
+    room.left.note_start(refused);
+    let left = join_workers(site, room.sitting, room.left);
+    let left = join_clients(site, room.serving, left);
     set(&site.flags.joined);
     wake(&site.flags.bell);
     let mut left = join_handoffs(site.job.rt, handing, left);

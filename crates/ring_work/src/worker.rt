@@ -6,7 +6,6 @@ ghost use Rattle.ring_names.specs.declared.refusal.Refusal.TheVariants.{OutOfMem
 ghost use Rattle.ring_work.specs.Driven.{IsSpent};
 
 use crate::done::{Done, Sat};
-use crate::noting::go_on;
 use crate::site::{Site, is_set, set};
 use plan_check::Gate;
 use plan_runs::Event;
@@ -190,21 +189,6 @@ fn is_next(board: &Board, seat: &mut Seat, walk: &mut Walk, step: u32, others: &
     true
 }
 
-// The events of a step that is no copy. Whether it is done.
-fn do_step<L: RunLedger, R: Wait, G: Gate>(
-    site: &Site<L, R, G>,
-    done: &mut Done<L>,
-    step: u32,
-) -> Result<bool, Refusal> {
-    match done.note(site.store, Event::Do(step)) {
-        Ok(()) => Ok(true),
-        Err(refusal) => {
-            go_on(refusal)?;
-            Ok(false)
-        }
-    }
-}
-
 // The events that are left of a copy that is open: its chunks, and its close.
 fn rest_of(alloc: Global, step: u32) -> Result<Vec<Event>, Refusal> {
     let mut rest = Vec::with_capacity(alloc, CHUNKS as usize + 1)?;
@@ -238,13 +222,16 @@ fn copy_rest<L: RunLedger, R: Wait, G: Gate>(
     Ok(true)
 }
 
-// A copy that is open, up to its end. Whether it is done.
-fn copy_on<L: RunLedger, R: Wait, G: Gate>(
+// A copy. Whether it is done.
+fn copy<L: RunLedger, R: Wait, G: Gate>(
     site: &Site<L, R, G>,
     done: &mut Done<L>,
     worker: u32,
     step: u32,
 ) -> Result<bool, Refusal> {
+    if !done.try_note(site.store, Event::OpenCopy(step))? {
+        return Ok(false);
+    }
     if !site.job.gate.pass(site.job.rt, worker, u64::from(step)) {
         return Err(Refusal::TurnsSpent);
     }
@@ -254,22 +241,6 @@ fn copy_on<L: RunLedger, R: Wait, G: Gate>(
     }
     done.note(site.store, Event::AbortCopy(step))?;
     Ok(false)
-}
-
-// A copy. Whether it is done.
-fn copy<L: RunLedger, R: Wait, G: Gate>(
-    site: &Site<L, R, G>,
-    done: &mut Done<L>,
-    worker: u32,
-    step: u32,
-) -> Result<bool, Refusal> {
-    match done.note(site.store, Event::OpenCopy(step)) {
-        Ok(()) => copy_on(site, done, worker, step),
-        Err(refusal) => {
-            go_on(refusal)?;
-            Ok(false)
-        }
-    }
 }
 
 // The events of a step that the seat holds; then it is finished, or given back. Whether it is finished.
@@ -287,7 +258,7 @@ fn carry_out<L: RunLedger, R: Wait, G: Gate>(
 {
     let came = match site.plan.step(step) {
         Step::Copy(_, _) => copy(site, &mut sat.done, sat.worker, step),
-        _ => do_step(site, &mut sat.done, step),
+        _ => sat.done.try_note(site.store, Event::Do(step)),
     };
     match &came {
         Ok(true) => site.board.mark_done(&mut sat.seat, step),

@@ -11,73 +11,63 @@ ghost use Rattle.ringplan_run.specs.Drives.{outcome_text, DrivesIf, DrivesOfIf, 
 
 use drive_text::{DriveBundle, read_drive, write_report};
 use history_text::{are_known, push_history};
-use plan_check::{Approved, OpenGate, check};
+use plan_check::{OpenGate, check};
 use ring_names::{Names, Refusal};
 use ring_receipts::Outcome;
-use ring_work::{MAX_ENTRIES, drive};
+use ring_work::{Job, MAX_ENTRIES, drive};
 use ringplan_command::Form;
-use script_text::Script;
 use std::alloc::Global;
 use std::mem::forget;
 use std::sync::Wait;
 use std::thread::Threads;
 
-// An approved plan, and the names of those who write while it runs.
-#[derive(Drop)]
-struct Named<'a> {
-    alloc: Global,
-    approved: &'a Approved,
-    writers: &'a Names,
-}
-
 // The history behind `yes`. Each name in it is known, since the scripts' are; this is looked at once more, as the text asks for it.
-fn write_run(named: &Named, outcome: &Outcome) -> Result<Vec<u8>, Refusal>
-    ensures text { IfOk result (λ v. v.items ≡ outcome_text named.now.approved.now.ring named.now.writers.now outcome.now.history.items outcome.now.finishers.items 0 Form.History) }
+fn write_run<'a, RT: Wait>(
+    job: &Job<'a, RT, OpenGate>,
+    writers: &Names,
+    outcome: &Outcome,
+) -> Result<Vec<u8>, Refusal>
+    ensures text { IfOk result (λ v. v.items ≡ outcome_text job.now.approved.now.ring writers.now outcome.now.history.items outcome.now.finishers.items 0 Form.History) }
     ensures err { IfErr result IsFault }
 {
-    let (alloc, approved, writers) = (named.alloc, named.approved, named.writers);
     let history = outcome.history.as_slice();
-    if history.len() > MAX_ENTRIES || !are_known(approved.ring(), writers, history) {
+    if history.len() > MAX_ENTRIES || !are_known(job.approved.ring(), writers, history) {
         return Err(Refusal::Disagree);
     }
-    let mut out = Vec::from_slice(alloc, b"yes\n")?;
-    push_history(&mut out, approved, writers, history)?;
+    let mut out = Vec::from_slice(job.alloc, b"yes\n")?;
+    push_history(&mut out, job.approved, writers, history)?;
     Ok(out)
 }
 
 // The text of an outcome in that form.
-fn write_outcome(
-    named: &Named,
+fn write_outcome<'a, RT: Wait>(
+    job: &Job<'a, RT, OpenGate>,
+    writers: &Names,
     outcome: &Outcome,
-    workers: u32,
     form: Form,
 ) -> Result<Vec<u8>, Refusal>
-    ensures text { IfOk result (λ v. v.items ≡ outcome_text named.now.approved.now.ring named.now.writers.now outcome.now.history.items outcome.now.finishers.items workers form) }
+    ensures text { IfOk result (λ v. v.items ≡ outcome_text job.now.approved.now.ring writers.now outcome.now.history.items outcome.now.finishers.items job.now.workers form) }
     ensures err { IfErr result IsFault }
 {
     match form {
-        Form::History => write_run(named, outcome),
-        Form::Report => {
-            write_report(named.alloc, named.approved, named.writers, outcome, workers)
-        }
+        Form::History => write_run(job, writers, outcome),
+        Form::Report => write_report(job.alloc, job.approved, writers, outcome, job.workers),
     }
 }
 
 // The text of a drive of the plan, with a client for each script, or why it broke off.
-fn drive_approved<RT: Threads + Wait + Sync>(
-    rt: &RT,
-    named: &Named,
-    scripts: &[Script],
-    workers: u32,
+fn drive_approved<'a, RT: Threads + Wait + Sync>(
+    job: &Job<'a, RT, OpenGate>,
+    writers: &Names,
     form: Form,
 ) -> Result<Vec<u8>, Refusal>
-    requires workers { (0 < workers) × (workers ≤ 64) }
-    requires scripts { AreOfClients scripts.now }
-    ensures { IsOutcome named.now.approved.now.ring named.now.approved.now.plan named.now.writers.now scripts.now workers form (texts_of result) }
+    requires workers { (0 < job.now.workers) × (job.now.workers ≤ 64) }
+    requires scripts { AreOfClients job.now.scripts.now }
+    ensures { IsOutcome job.now.approved.now.ring job.now.approved.now.plan writers.now job.now.scripts.now job.now.workers form (texts_of result) }
 {
-    match drive(rt, named.alloc, named.approved, scripts, workers, &OpenGate) {
+    match drive(job) {
         Ok(outcome) => {
-            let text = write_outcome(named, &outcome, workers, form);
+            let text = write_outcome(job, writers, &outcome, form);
             forget(outcome);
             text
         }
@@ -102,12 +92,15 @@ fn drive_checked<RT: Threads + Wait + Sync>(
 {
     match check(alloc, bundle.ring, bundle.plan, &bundle.cert) {
         Ok(approved) => {
-            let named = Named {
+            let job = Job {
+                rt,
                 alloc,
                 approved: &approved,
-                writers: &bundle.writers,
+                scripts: bundle.scripts.as_slice(),
+                workers,
+                gate: &OpenGate,
             };
-            drive_approved(rt, &named, bundle.scripts.as_slice(), workers, form)
+            drive_approved(&job, &bundle.writers, form)
         }
         Err(turned) => {
             let refusal = turned.refusal;

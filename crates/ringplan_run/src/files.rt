@@ -139,27 +139,8 @@ fn write_new<F: OpenFile + Write>(
     file.sync_all()
 }
 
-// Writes the text to the new file, which then takes the name of the other one. Where that fails the new file is removed.
-fn take_place<RT: Files>(
-    rt: &RT,
-    beside: &str,
-    file: RT::File,
-    path: &str,
-    permissions: Option<Permissions>,
-    text: &[u8],
-) -> io::Result<()> {
-    let mut file = file;
-    let mut done = write_new(&mut file, permissions, text);
-    if done.is_ok() {
-        done = fs::rename(rt, beside, path);
-    }
-    if done.is_err() {
-        let _ = fs::remove_file(rt, beside);
-    }
-    done
-}
-
-// Writes the text to a file beside that of the path, which then takes its name. The new one has a name that nothing had: `PATH.1.part`, or that of the next number.
+// Writes the text to a file beside that of the path, which then takes its name, or is removed if that fails. The new one has a name that nothing had:
+// `PATH.1.part`, or that of the next number.
 fn exchange<RT: Files + AllocGlobal>(
     rt: &RT,
     path: &str,
@@ -169,8 +150,15 @@ fn exchange<RT: Files + AllocGlobal>(
     for number in 1..MOST_BESIDE {
         let beside = format!(in rt.alloc(); "{path}.{number}.part")?;
         match create_beside(rt, beside.as_str(), &permissions) {
-            Ok(file) => {
-                return take_place(rt, beside.as_str(), file, path, permissions, text);
+            Ok(mut file) => {
+                let mut done = write_new(&mut file, permissions, text);
+                if done.is_ok() {
+                    done = fs::rename(rt, beside.as_str(), path);
+                }
+                if done.is_err() {
+                    let _ = fs::remove_file(rt, beside.as_str());
+                }
+                return done;
             }
             Err(error) if error.kind() == ErrorKind::AlreadyExists => {}
             Err(error) => return Err(error),

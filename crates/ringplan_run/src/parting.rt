@@ -1,6 +1,6 @@
 //! What is printed of a part of a bundle's history.
 
-ghost use Rattle.std.specs.Prelude.{◌≡◌, ℕ, List};
+ghost use Rattle.std.specs.Prelude.{ℕ, List};
 ghost use Rattle.history_parts.specs.Choices.{IsChoice};
 ghost use Rattle.ringplan_jobs.specs.Io.{Tells};
 ghost use Rattle.ringplan_run.specs.Part.{ShowsCut, ShowsPart};

@@ -50,7 +50,8 @@ fn put_and_get<'a, L: RunLedger, R: AllocGlobal + Wait>(
         return Err(Refusal::Disagree);
     };
     let key = a_key(alloc)?;
-    let put = put_all(rt, alloc, executor, share, WriterId(0), key, value, seen);
+    let start = Event::StartPut(WriterId(0), key, value, seen);
+    let put = put_all(rt, alloc, executor, share, &start);
     let get = get_all(rt, alloc, executor, share, a_key(alloc)?);
     Ok((came(alloc, put, b"ok")?, came(alloc, get, b"reply 0")?))
 }

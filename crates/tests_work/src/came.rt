@@ -10,7 +10,7 @@ use plan_runs::Entry;
 use ring_core::World;
 use ring_names::Refusal;
 use ring_receipts::{Outcome, agrees};
-use ring_work::drive;
+use ring_work::{Job, drive};
 use script_text::Script;
 use std::alloc::Global;
 use std::slice;
@@ -70,16 +70,34 @@ fn replays(alloc: Global, approved: &Approved, history: &[Entry]) -> Result<bool
     are_answered(alloc, &mut world, history)
 }
 
-/// What the outcome of a drive is.
-pub fn told(
-    alloc: Global,
-    approved: &Approved,
-    scripts: &[Script],
+/// What a drive of the plan with a client for each script is asked for.
+pub fn job_of<'a, RT: AllocGlobal + Wait, G: Gate>(
+    rt: &'a RT,
+    approved: &'a Approved,
+    scripts: &'a [Script],
     workers: u32,
+    gate: &'a G,
+) -> Job<'a, RT, G>
+    ensures scripts { result.scripts.now ≡ scripts.now }
+    ensures workers { result.workers ≡ workers }
+{
+    Job {
+        rt,
+        alloc: rt.alloc(),
+        approved,
+        scripts,
+        workers,
+        gate,
+    }
+}
+
+/// What the outcome of a drive is.
+pub fn told<'a, RT: Wait, G: Gate>(
+    job: &Job<'a, RT, G>,
     outcome: &Outcome,
 ) -> Result<Came, Refusal> {
-    let agrees = agrees(alloc, approved, scripts, workers, outcome)?;
-    let replays = replays(alloc, approved, outcome.history.as_slice())?;
+    let agrees = agrees(job.alloc, job.approved, job.scripts, job.workers, outcome)?;
+    let replays = replays(job.alloc, job.approved, outcome.history.as_slice())?;
     Ok(Came {
         entries: outcome.history.len(),
         lists: outcome.receipts.len(),
@@ -99,24 +117,11 @@ pub fn drive_all<RT: AllocGlobal + Threads + Wait + Sync, G: Gate + Sync>(
     requires workers { (0 < workers) × (workers ≤ 64) }
     requires scripts { AreOfClients scripts.now }
 {
-    match drive(rt, rt.alloc(), approved, scripts, workers, gate) {
-        Ok(outcome) => told(rt.alloc(), approved, scripts, workers, &outcome),
+    let job = job_of(rt, approved, scripts, workers, gate);
+    match drive(&job) {
+        Ok(outcome) => told(&job, &outcome),
         Err(fault) => Err(fault.refusal),
     }
-}
-
-/// A drive of the plan with one client; its refusal, where it breaks off.
-pub fn drive_one<RT: AllocGlobal + Threads + Wait + Sync, G: Gate + Sync>(
-    rt: &RT,
-    approved: &Approved,
-    script: &Script,
-    workers: u32,
-    gate: &G,
-) -> Result<Came, Refusal>
-    requires workers { (0 < workers) × (workers ≤ 64) }
-    requires client { list_all is_client_event script.now ≡ true }
-{
-    drive_all(rt, approved, slice::from_ref(script), workers, gate)
 }
 
 /// How long the history is with which a drive breaks off, and why it does; nothing where it does not.
@@ -130,14 +135,7 @@ pub fn broken_one<RT: AllocGlobal + Threads + Wait + Sync, G: Gate + Sync>(
     requires workers { (0 < workers) × (workers ≤ 64) }
     requires client { list_all is_client_event script.now ≡ true }
 {
-    match drive(
-        rt,
-        rt.alloc(),
-        approved,
-        slice::from_ref(script),
-        workers,
-        gate,
-    ) {
+    match drive(&job_of(rt, approved, slice::from_ref(script), workers, gate)) {
         Ok(_) => None,
         Err(fault) => Some((fault.history.len(), fault.refusal)),
     }

@@ -4,7 +4,7 @@ ghost use Rattle.std.specs.Prelude.{◌≡◌, ◌<◌, ◌≤◌, true, IfOk};
 ghost use Rattle.std.specs.List.{list_all};
 ghost use Rattle.script_text.specs.Client.{is_client_event};
 
-use crate::came::{Came, broken_one, drive_one, well};
+use crate::came::{Came, broken_one, drive_all, well};
 use crate::inputs::{
     FIVE, FOUR, JOIN, NO_CHAINS, NOTHING, RING, SILENCE, TWO_CHAINS, TWO_COPIES, approved, ring,
     script,
@@ -15,6 +15,7 @@ use plan_runs::Event;
 use ring_names::{NodeId, Refusal};
 use script_text::Script;
 use std::alloc::Global;
+use std::slice;
 use std::sync::Wait;
 use std::test::Fail;
 use std::thread::Threads;
@@ -40,7 +41,7 @@ fn drive_texts<RT: AllocGlobal + Threads + Wait + Sync, G: Gate + Sync>(
     let ring = ring(rt.alloc(), texts.ring)?;
     let script = script(rt.alloc(), &ring, texts.script)?;
     let approved = approved(rt.alloc(), ring, texts.plan, texts.cert)?;
-    drive_one(rt, &approved, &script, workers, gate)
+    drive_all(rt, &approved, slice::from_ref(&script), workers, gate)
 }
 
 // A drive of these texts that breaks off.

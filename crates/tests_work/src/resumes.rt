@@ -4,7 +4,7 @@ ghost use Rattle.std.specs.Prelude.{◌≡◌, true};
 ghost use Rattle.std.specs.List.{list_all};
 ghost use Rattle.script_text.specs.Client.{is_client_event};
 
-use crate::came::{Came, told, well};
+use crate::came::{Came, job_of, told, well};
 use crate::inputs::{MOVE, MOVE_CHAINS, RING, SILENCE, approved, ring, script};
 use crate::turnstile::Shut;
 use plan_check::{Approved, Gate, OpenGate};
@@ -85,10 +85,10 @@ fn resumed<RT: AllocGlobal + Threads + Wait + Sync, G: Gate + Sync>(
 ) -> Result<Ended, Refusal>
     requires { list_all is_client_event script.now ≡ true }
 {
-    let scripts = slice::from_ref(script);
-    match resume(rt, rt.alloc(), approved, entries, scripts, 1, gate) {
+    let job = job_of(rt, approved, slice::from_ref(script), 1, gate);
+    match resume(&job, entries) {
         Ok(outcome) => {
-            let came = told(rt.alloc(), approved, scripts, 1, &outcome)?;
+            let came = told(&job, &outcome)?;
             Ok(Ok((came, finished_before(outcome.finishers.as_slice()))))
         }
         Err(fault) => Ok(Err((fault.refusal, fault.history.len()))),
@@ -115,7 +115,7 @@ fn stopped<RT: AllocGlobal + Threads + Wait + Sync>(
 ) -> Option<Fault>
     requires { list_all is_client_event script.now ≡ true }
 {
-    match drive(rt, rt.alloc(), approved, slice::from_ref(script), 1, &Shut) {
+    match drive(&job_of(rt, approved, slice::from_ref(script), 1, &Shut)) {
         Ok(_) => None,
         Err(fault) => Some(fault),
     }

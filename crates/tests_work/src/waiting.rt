@@ -4,6 +4,7 @@ ghost use Rattle.std.specs.Prelude.{◌≡◌, true};
 ghost use Rattle.std.specs.List.{list_all};
 ghost use Rattle.script_text.specs.Client.{is_client_event};
 
+use crate::came::job_of;
 use crate::inputs::{FOUR, approved, ring, script};
 use crate::turnstile::Behind;
 use plan_check::Approved;
@@ -48,14 +49,7 @@ fn drive_behind<RT: AllocGlobal + Threads + Wait + Sync>(
 ) -> Result<bool, Refusal>
     requires { list_all is_client_event script.now ≡ true }
 {
-    match drive(
-        rt,
-        rt.alloc(),
-        approved,
-        slice::from_ref(script),
-        1,
-        &Behind::new(2),
-    ) {
+    match drive(&job_of(rt, approved, slice::from_ref(script), 1, &Behind::new(2))) {
         Ok(outcome) => Ok(is_behind_handoff(outcome.history.as_slice(), 2)),
         Err(fault) => Err(fault.refusal),
     }
