@@ -10,7 +10,7 @@ Windows: each of those plans that has no dead node is cut into windows of one ro
 
 Large rings: 4,096 partitions of 7 slots over 1,024 nodes, by a change with racks and weights, around a dead node, and as a goal, and the windows of these: seconds and MB are printed; 10 seconds and 300 MB
 are a fault."""
-import json, os, random, subprocess, sys, time
+import json, os, random, subprocess, sys, tempfile, time
 
 top = os.path.dirname(os.path.dirname(os.path.abspath(__file__)))
 RUN = f"{top}/crates/ringplan/out/ringplan"
@@ -234,7 +234,11 @@ def large():
     first = ring_text(ring, members, rows)
     change = "change 1\n" + "".join(f"join {x}\n" for x in names[924:]) + "".join(f"leave {x}\n" for x in members[:100]) + "end\n"
     faults = 0
-    out, bad = timed("100 of 924 nodes leave and 100 join, racks and weights", ["goal", "--racks-behind", ".", "--weight", names[200] + "=3"], first + change)
+    with tempfile.NamedTemporaryFile("w", suffix=".layout") as file:
+        file.write(f"layout 1\nweight {names[200]} 3\nend\n")
+        file.flush()
+        words = ["goal", "--racks-behind", ".", "--layout", file.name]
+        out, bad = timed("100 of 924 nodes leave and 100 join, racks and weights", words, first + change)
     faults += bad
     for what, words in (("its windows of 4 rounds", ["windows", "--rounds", "4"]), ("its steps", ["steps"]), ("its moves", ["steps", "--moves"])):
         faults += timed(what, words, out)[1]

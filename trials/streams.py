@@ -11,6 +11,9 @@ faults = []
 tried = 0
 
 
+# What standard error says of a goal whose nodes have no racks.
+NO_RACKS = b"ringplan: no racks known: a layout may name them (--layout), or --racks-behind C the character in front of them\n"
+
 def run(*words, given=b"", folder=None):
     ran = subprocess.run([RUN, *words], input=given, stdout=subprocess.PIPE, stderr=subprocess.PIPE, timeout=60, cwd=folder)
     return ran.stdout, ran.stderr, ran.returncode
@@ -61,53 +64,57 @@ def dead():
     said = read("plan_replace")
     unsaid = said.replace(b"leave b\n", b"")
     plan = run("goal", "--dead", "b", given=said)[0]
-    owes("a dead member that leaves", run("goal", "--dead", "b", given=said), contains(b"copy 0 1 slots 0 2"), b"", 0)
-    owes("a dead member that stays", run("goal", "--dead", "b", given=unsaid), plan, b"ringplan: b is dead, so it leaves, though the change does not say so\n", 0)
+    owes("a dead member that leaves", run("goal", "--dead", "b", given=said), contains(b"copy 0 1 slots 0 2"), NO_RACKS, 0)
+    owes("a dead member that stays", run("goal", "--dead", "b", given=unsaid), plan, NO_RACKS + b"ringplan: b is dead, so it leaves, though the change does not say so\n", 0)
     owes("a dead member, twice", run("goal", "--dead", "b", "--dead", "b", given=unsaid), plan, contains(b"b is dead"), 0)
 
 
-def sizes(folder):
-    """What a file of sizes is refused for, and where."""
-    given, plan = read("plan_replace"), f"{folder}/sizes"
-    words = b"refused: line 3 of the sizes names partition 7, and the ring has 4 partitions\n"
+def layouts(folder):
+    """What a layout is refused for, and where."""
+    given, plan = read("plan_replace"), f"{folder}/layout"
+    ring = given.split(b"change 1\n")[0]
+    partition = b"refused: line 4 of the layout names partition 7, and the ring has 4 partitions\n"
+    node = b"refused: line 3 of the layout names bb, and the ring declares no such node\n"
+
+    def faulty(line: int, fault: str) -> bytes:
+        return f"ringplan: line {line} of the layout {plan}: {fault}\n".encode()
+
+    unknown = "not `rack NODE NAME`, `weight NODE K`, `size P N`, `alias NODE TEXT`, `dead NODE` or `end`"
     for text, errors in (
-        (b"0 5\n2 0\n", b""),
-        (b"", b""),
-        (b"0 5\n1 5\n7 5\n", b"no 2 3\n" + words),
-        (b"0 5\n1 5\n7 5\n8 5\n9 5\n", b"no 2 3\n" + words),
-        (b"0 5\n1", f"no 1 2 in {plan}\n".encode()),
-        (b"0 5\n1 x\n", f"no 1 2 in {plan}\n".encode()),
-        (b"0 4294967296\n", f"no 2 1 in {plan}\n".encode()),
-        (b"1 5\n0 5\n", f"no 4 2 in {plan}\n".encode()),
+        (b"layout 1\nsize 0 5\nsize 2 0\nend\n", b""),
+        (b"layout 1\nend\n", b""),
+        (b"layout 1\n\n# a comment\n#another\nend\n", b""),
+        (b"layout 1\nsize 0 5\nsize 1 5\nsize 7 5\nend\n", b"no 2 4\n" + partition),
+        (b"layout 1\nsize 0 5\nweight bb 2\nend\n", b"no 3 0\n" + node),
+        (b"layout 1\nsize 0 5\nsize 1", faulty(3, unknown)),
+        (b"", faulty(1, "a layout begins with `layout 1`")),
+        (b"layout 1\nsize 0 x\nend\n", faulty(2, unknown)),
+        (b"layout 1\nsize 0 281474976710656\nend\n", faulty(2, "a number is too great, or there are too many lines")),
+        (b"layout 1\nsize 0 281474976710655\nend\n", b""),
+        (b"layout 1\nsize 1 5\nsize 0 5\nsize 1 5\nend\n", faulty(4, "an earlier line says the same of that node or partition")),
+        (b"layout 1\nrack a x\nend\n", b"no 3 0\nrefused: the rack of "),
     ):
         with open(plan, "wb") as it:
             it.write(text)
-        owes(f"goal by sizes {text!r}", run("goal", "--sizes", plan, given=given), lambda it: bool(it) == (not errors), errors, 2 if errors else 0)
-        for word in ("show", "show --format json"):
-            found = run(*word.split(), "--sizes", plan, given=given)
-            if "json" in word and errors.endswith(words):
-                stated = said_as_json(f"{word} by sizes {text!r}", found[0], errors.split(b"\n")[0])
-                owes(f"{word} by sizes {text!r}", (stated.get("words", "").encode(), *found[1:]), words, b"", 2)
-            else:
-                owes(f"{word} by sizes {text!r}", found, lambda it: bool(it) == (not errors), errors, 2 if errors else 0)
-    ring = given.split(b"change 1\n")[0]
-    owes("a ring alone by sizes", run("show", "--sizes", plan, given=ring), b"", f"no 4 2 in {plan}\n".encode(), 2)
+        for word in ("goal", "show", "draw", "steps", "windows --rounds 1"):
+            found = run(*word.split(), "--layout", plan, given=given)
+            begins = errors or b"ringplan: no racks known: "
+            owes(f"{word} by layout {text!r}", found, lambda it: bool(it) == (not errors), lambda it: it.startswith(begins), 2 if errors else 0)
     with open(plan, "wb") as it:
-        it.write(b"1 5\n7 5\n")
-    owes("a ring alone by a size too many", run("show", "--sizes", plan, given=ring), b"", b"no 2 2\n" + words.replace(b"3", b"2", 1), 2)
-    owes("a ring alone by a size too many, as JSON", run("show", "--format", "json", "--sizes", plan, given=ring), contains(b"line 2 of the sizes"), b"", 2)
-    owes("a fault before the sizes", run("show", "--sizes", plan, given=read("copy_out_of_order")), b"", contains(b"no 2"), 1)
+        it.write(b"layout 1\nalias a riak@10.0.0.1\nrack a x\nrack b y\nrack c x\nend\n")
+    for part in (b"riak@10.0.0.1", b"  racks     "):
+        owes("a ring alone by a layout", run("show", "--layout", plan, given=ring), contains(part), b"", 0)
+    owes("a fault before the layout's", run("show", "--layout", plan, given=read("copy_out_of_order")), b"", contains(b"no 2"), 1)
     with open(plan, "wb") as it:
-        it.write(b"1 5\n")
-    owes("a ring alone by good sizes", run("show", "--sizes", plan, given=ring), run("show", given=ring)[0], b"", 0)
-    owes("a rate", run("show", "--sizes", plan, "--rate", "2", given=given), lambda it: b"at 2 a second the plan ends in second" in b" ".join(it.split()), b"", 0)
+        it.write(b"layout 1\nsize 1 5\nend\n")
+    owes("a rate", run("show", "--layout", plan, "--rate", "2", given=given), lambda it: b"at 2 a second the plan ends in second" in b" ".join(it.split()), contains(b"no racks known"), 0)
     for form in ("text", "json"):
-        owes("a rate without sizes", run("show", "--rate", "2", "--format", form), b"", contains(b"'--rate <N>' wants '--sizes <FILE>'"), 2)
+        owes("a rate without a layout", run("show", "--rate", "2", "--format", form), b"", contains(b"'--rate <N>' wants '--layout <FILE>'"), 2)
     for rate in ("0", "4294967296", "x", ""):
-        owes(f"a rate of {rate}", run("show", "--sizes", plan, "--rate", rate), b"", contains(b"--rate <N>"), 2)
-    for word in ("draw", "windows --rounds 1", "cert"):
-        owes(f"{word} by sizes", run(*word.split(), "--sizes", plan), b"", contains(b"unexpected argument"), 2)
-    owes("goal by no sizes", run("goal", "--sizes", f"{folder}/none", given=given), b"", contains(b"No such file or directory"), 3)
+        owes(f"a rate of {rate}", run("show", "--layout", plan, "--rate", rate), b"", contains(b"--rate <N>"), 2)
+    for word in ("after", "why", "cert"):
+        owes(f"{word} by a layout", run(*word.split(), "--layout", plan), b"", contains(b"unexpected argument"), 2)
+    owes("goal by no layout", run("goal", "--layout", f"{folder}/none", given=given), b"", contains(b"No such file or directory"), 3)
 
 
 def outputs(folder):
@@ -115,7 +122,7 @@ def outputs(folder):
     target = f"{folder}/out"
     whole = run("goal", plan)[0]
     for option in (["-o", target], [f"--output={target}"], [f"-o{target}"]):
-        owes("an output", run("goal", *option, plan), b"", b"", 0)
+        owes("an output", run("goal", *option, plan), b"", NO_RACKS, 0)
         with open(target, "rb") as it:
             if it.read() != whole:
                 faults.append(f"{option}: another text")
@@ -129,12 +136,12 @@ def outputs(folder):
             faults.append("a refusal changes the output's file")
     owes("an output in no folder", run("goal", "-o", f"{folder}/none/out", plan), b"", contains(b"No such file or directory"), 3)
     owes("an output that is a folder", run("goal", "-o", folder, plan), b"", contains(b"Is a directory"), 3)
-    owes("a device", run("goal", "-o", "/dev/null", plan), b"", b"", 0)
+    owes("a device", run("goal", "-o", "/dev/null", plan), b"", NO_RACKS, 0)
     if not os.path.exists("/dev/null") or os.path.isfile("/dev/null"):
         faults.append("/dev/null is no device any more")
     owes("a full device", run("goal", "-o", "/dev/full", plan), b"", contains(b"No space left on device"), 3)
-    owes("a dash", run("goal", "-o", "-", plan), whole, b"", 0)
-    owes("an output with an exit code", run("goal", "--exit-code", "-o", target, plan), b"", b"", 4)
+    owes("a dash", run("goal", "-o", "-", plan), whole, NO_RACKS, 0)
+    owes("an output with an exit code", run("goal", "--exit-code", "-o", target, plan), b"", NO_RACKS, 4)
     with open(target, "rb") as it:
         if it.read() != whole:
             faults.append("an exit code: another text")
@@ -161,7 +168,7 @@ def beside(folder, plan, whole):
         it.write(b"mine")
     os.symlink(victim, f"{target}.1.part")
     os.mkfifo(f"{target}.2.part")
-    owes("an output beside other parts", run("goal", "-o", target, plan), b"", b"", 0)
+    owes("an output beside other parts", run("goal", "-o", target, plan), b"", NO_RACKS, 0)
     has("that output", target, whole)
     has("a part that was there", f"{target}.part", b"mine")
     has("what a part leads to", victim, b"mine")
@@ -172,13 +179,13 @@ def beside(folder, plan, whole):
         os.chmod(victim, mode)
         os.symlink("victim", f"{folder}/near")
         os.symlink("../" + os.path.basename(folder) + "/near", f"{folder}/far")
-        owes("an output that is a link", run("goal", "-o", f"{folder}/far", plan), b"", b"", 0)
+        owes("an output that is a link", run("goal", "-o", f"{folder}/far", plan), b"", NO_RACKS, 0)
         has("what the link leads to", victim, whole)
         owes("that link, and its permissions", (b"", b"", [os.readlink(f"{folder}/near"), stat.S_IMODE(os.stat(victim).st_mode)]), b"", b"", ["victim", mode])
         os.remove(f"{folder}/near")
         os.remove(f"{folder}/far")
     os.symlink("none", f"{folder}/near")
-    owes("an output that is a link to nothing", run("goal", "-o", f"{folder}/near", plan), b"", b"", 0)
+    owes("an output that is a link to nothing", run("goal", "-o", f"{folder}/near", plan), b"", NO_RACKS, 0)
     has("what it leads to then", f"{folder}/none", whole)
     os.symlink("ring", f"{folder}/ring")
     owes("an output that is a link to itself", run("goal", "-o", f"{folder}/ring", plan), b"", contains(b"symbolic links"), 3)
@@ -187,7 +194,7 @@ def beside(folder, plan, whole):
     together = [subprocess.Popen([RUN, "goal", "-o", target, plan], stdout=subprocess.PIPE, stderr=subprocess.PIPE) for _ in range(20)]
     for ran in together:
         output, errors = ran.communicate(timeout=60)
-        owes("one of 20 runs for one output", (output, errors, ran.returncode), b"", b"", 0)
+        owes("one of 20 runs for one output", (output, errors, ran.returncode), b"", NO_RACKS, 0)
     has("the output of 20 runs", target, whole)
     owes("what is left of 20 runs", (b"", b"", os.listdir(folder)), b"", b"", ["out"])
 
@@ -210,7 +217,7 @@ def escapes():
         lines = [line["text"].encode() for line in stated.get("mend", {"lines": []})["lines"]]
         owes("a mend with bytes that steer a terminal", (b"".join(lines), stated["words"].encode(), 0), is_printed, is_printed, 0)
     word = "\x1b[2;31mx\x9b"
-    for words in (["check", word], ["check", f"--{word}"], ["goal", f"--{word}"], [word], ["goal", "--dead", word], ["goal", "-o", f"{word}/x"], ["goal", "--sizes", word], ["show", "--format", word]):
+    for words in (["check", word], ["check", f"--{word}"], ["goal", f"--{word}"], [word], ["goal", "--dead", word], ["goal", "-o", f"{word}/x"], ["goal", "--layout", word], ["show", "--format", word]):
         found = run(*words, given=read("plan_replace"))
         owes(f"the words {words!r}", (found[0] + found[1], b"", found[2]), lambda it: is_printed(it) and it != b"", b"", lambda it: it in (2, 3))
 
@@ -232,11 +239,13 @@ def streams():
         ("bundle", "there is no `bundle`: use `goal` for a change, and `cert` for a plan"),
         ("goal --even", "there is no `goal --even`: use `show`, which says how even a ring is"),
         ("drive --json", "there is no `drive --json`: use `drive --format json`"),
+        ("goal --sizes x", "there is no `--sizes`: use `--layout`, with `size` lines"),
+        ("goal --weight a=2", "there is no `--weight`: use `--layout`, with `weight` lines"),
     ):
         owes(f"what to type instead of {gone}", run(*gone.split()), b"", lambda it: it.startswith(b"error: ") and it.endswith(f"\nringplan: {instead}\n".encode()), 2)
     owes("a wrong option before the command", run("--ded", "check"), b"", contains(b"unexpected argument"), 2)
     owes("a dead node whose name begins with -", run("goal", "--dead=-x", given=read("plan_replace")), b"", contains(b"names -x,"), 2)
-    owes("a wrong weight", run("goal", "--weight", "b"), b"", contains(b"--weight <NODE=K>"), 2)
+    owes("a wrong character before racks", run("goal", "--racks-behind", "ab"), b"", contains(b"--racks-behind <C>"), 2)
     owes("a wrong number of rounds", run("windows", "--rounds", "0"), b"", contains(b"1..=1000000"), 2)
     ring = read("plan_replace").split(b"change 1\n")[0]
     owes("a goal that is reached", run("goal", given=ring + b"change 1\nend\n"), ring + b"plan 1\nend\ncert 1\nend\n", contains(b"the plan has no steps"), 0)
@@ -456,7 +465,7 @@ def terminal():
 with tempfile.TemporaryDirectory() as scratch:
     files(scratch)
     outputs(scratch)
-    sizes(scratch)
+    layouts(scratch)
     parts(scratch)
 dead()
 streams()

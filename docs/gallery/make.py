@@ -52,7 +52,7 @@ PICTURES = {
 }
 
 # Pictures of another kind than the plan's rounds.
-OPTIONS = {"map64": ["--map", "--racks-behind", "."]}
+OPTIONS = {"map64": ["--map"]}
 
 only_compares = sys.argv[1:] == ["--compare"]
 old = []

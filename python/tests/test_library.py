@@ -16,7 +16,7 @@ TOP = pathlib.Path(__file__).parents[2]
 EXAMPLES = sorted((TOP / "examples").glob("*.bundle"))
 CALLS = {"check": library.check, "plan": library.plan, "play": library.play, "replay": library.replay, "migrate": library.migrate}
 OTHERS: dict[str, tuple[Callable[..., Answer], list[list[str]]]] = {
-    "goal": (library.goal, [[], ["--dead", "b"], ["--weight", "c=2"], ["--exit-code"], ["--none"]]),
+    "goal": (library.goal, [[], ["--dead", "b"], ["--racks-behind", "none"], ["--exit-code"], ["--none"]]),
     "around": (library.around, [["--dead", "b"], ["--dead", "c", "--back"], []]),
     "why": (library.why, [[], ["--color", "always"], ["--format", "json"]]),
     "show": (library.show, [[], ["--all"], ["--racks-behind", "."], ["--format", "json"], ["--help"]]),

@@ -9,7 +9,7 @@ use crate::settling::settle;
 use crate::sources::Listing;
 use crate::told::Saying;
 use crate::writing::{Written, write};
-use helpers::{Words, is_set, put};
+use helpers::{Labels, Words, is_set, put};
 use plan_cert::Cert;
 use plan_moves::Progress;
 use plan_runs::{Back, Entry};
@@ -30,6 +30,10 @@ pub struct Task<'a> {
     /// A run of the plan.
     pub history: &'a [Entry],
     pub dead: &'a [NodeId],
+    /// Slots whose mirrors have puts from listed slots that the slots' owners do not have. A copy of such a slot does not begin again over what its mirror has.
+    pub ahead: &'a [Slot],
+    /// The racks of nodes, if they are known.
+    pub racks: Option<&'a Labels>,
     pub back: Back,
 }
 

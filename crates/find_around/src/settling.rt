@@ -208,12 +208,45 @@ impl Search<'_> {
         copies.sort_unstable();
         for (copy, place) in copies.iter() {
             if let Some(it) = self.moves.at(Some(*place)) {
-                if !self.is_gone(*copy) && !self.relist(&it, *copy)? {
-                    self.leave_unread(&it, *place)?;
+                if !self.is_gone(*copy) {
+                    if !self.relist(&it, *copy)? {
+                        self.leave_unread(&it, *place)?;
+                    } else if self.is_ahead(&it) {
+                        self.begin_again(&it)?;
+                    }
                 }
             }
         }
         Ok(())
+    }
+
+    // Whether the move's mirror has puts that the slot's owner does not have.
+    fn is_ahead(&self, it: &Move) -> bool {
+        self.has_done(it.mirror) && self.task.ahead.contains(&it.slot)
+    }
+
+    // Whether a step of another move waits for the move's mirror, and has begun.
+    fn is_awaited(&self, it: &Move) -> bool {
+        let Some(mirror) = it.mirror else {
+            return false;
+        };
+        let plan = self.task.plan;
+        for step in 0..plan.len() {
+            if it.copy != Some(step) && self.is_fixed(step) && plan.depends(mirror, step) {
+                return true;
+            }
+        }
+        false
+    }
+
+    // The move's copy reads other slots than before, and its mirror has puts that the slot's owner does not have.
+    fn begin_again(&mut self, it: &Move) -> Result<(), Refusal> {
+        if self.task.back == Back::Allowed && !self.is_awaited(it) {
+            self.take_back(it)?;
+            return self.note_outcome(it.slot, Outcome::Again(it.target));
+        }
+        self.stick(it);
+        self.note_outcome(it.slot, Outcome::MirroredAhead(it.target))
     }
 
     // Too few slots can be read for the move's copy.

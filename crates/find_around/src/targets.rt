@@ -2,11 +2,8 @@
 
 use crate::around::Search;
 use crate::moving::{Move, first_owner};
-use helpers::{at, rack, raise, set, small};
+use helpers::{at, raise, set, small};
 use ring_names::{NodeId, Slot};
-
-// The byte that a rack's name follows.
-const RACK: u8 = b'.';
 
 impl Search<'_> {
     // Marks the nodes that serve a slot of the partition at any time, or keep a hint for one. Costs a look at each of its moves, once.
@@ -45,17 +42,14 @@ impl Search<'_> {
             && at(self.busy.as_slice(), node as usize) != partition.saturating_add(1)
     }
 
-    // Whether the two nodes are in one rack.
-    fn are_kin(&self, node: u32, other: u32) -> bool {
-        let ring = self.task.ring;
-        rack(ring.name(node), RACK) == rack(ring.name(other), RACK)
-    }
-
     // How many of the partition's other slots are in the node's rack in the end.
     fn count_kin(&self, node: u32, owners: &[u32]) -> u32 {
+        let Some(racks) = self.task.racks else {
+            return 0;
+        };
         let mut count = 0u32;
         for owner in owners {
-            if self.are_kin(node, *owner) {
+            if *owner != u32::MAX && racks.of(*owner) == racks.of(node) {
                 count = count.saturating_add(1);
             }
         }
@@ -78,21 +72,12 @@ impl Search<'_> {
     /// Another target for the move, with fewest slots: in another rack than the partition's other slots, if there is one.
     pub(crate) fn other_target(&mut self, it: &Move) -> Option<u32> {
         self.mark_busy(it.slot.partition);
-        let has_racks = self.task.ring.name(it.target).contains(&RACK);
-        let owners = if has_racks {
-            self.others(it)
-        } else {
-            [u32::MAX; 7]
-        };
+        let owners = self.others(it);
         let mut best = None;
         let mut least = (u32::MAX, u32::MAX);
         for node in 0..small(self.task.ring.nodes().len()) {
             if self.may_take(it.slot.partition, node) {
-                let kin = if has_racks {
-                    self.count_kin(node, &owners)
-                } else {
-                    0
-                };
+                let kin = self.count_kin(node, &owners);
                 let cost = (kin, at(self.owned.as_slice(), node as usize));
                 if best.is_none() || cost < least {
                     best = Some(node);

@@ -18,6 +18,10 @@ pub(crate) enum Outcome {
     MirroredToDead(u32),
     /// It stays mirrored to the node, since too few slots can be read.
     MirroredUnread(u32),
+    /// It stays mirrored to the node, which has puts that the slot's owner does not have.
+    MirroredAhead(u32),
+    /// Its mirror at the node is set again.
+    Again(u32),
 }
 
 /// What is to be said of a slot: the mirror that is taken back, and the last word on where the slot goes.
@@ -106,6 +110,14 @@ impl Search<'_> {
             }
             Outcome::MirroredUnread(node) => self.say_of_node(
                 b"stays mirrored to @: fewer than R slots of its partition can be read",
+                node,
+            ),
+            Outcome::MirroredAhead(node) => self.say_of_node(
+                b"stays mirrored to @: its mirror has puts that its owner does not have, and only --back takes such a mirror back",
+                node,
+            ),
+            Outcome::Again(node) => self.say_of_node(
+                b"is to be mirrored to @ again: what was written since the mirror began is at its owner and at other slots alone",
                 node,
             ),
         }

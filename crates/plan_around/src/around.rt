@@ -1,26 +1,34 @@
 //! The bundle that goes on around the dead.
 
-ghost use Rattle.std.specs.Prelude.{◌≡◌, ◌≤◌, map, IfOk, OnOk, length};
+ghost use Rattle.std.specs.Prelude.{◌≡◌, ◌≤◌, IfOk, OnOk, length};
 ghost use Rattle.history_text.specs.Replays.{IsReplay};
 ghost use Rattle.ring_core.specs.Replays.{IsHistory};
-ghost use Rattle.plan_past.specs.Past.{IsSamePast};
+ghost use Rattle.plan_bundles.specs.Goals.{dead_names};
 ghost use Rattle.plan_around.specs.Around.{GoesAround, IsAround};
 
+use crate::ahead::find_ahead;
 use crate::going::{Going, accepted, go_on};
+use change_text::Options;
 use find_around::{Around, Task, find_around};
 use find_chains::certificate;
-use helpers::Words;
+use helpers::{Labels, Words};
 use history_text::{ReplayBundle, read_replay};
-use plan_bundles::nodes_of;
+use plan_bundles::{ask_layout, dead_by, members_by, nodes_of, racks_of};
 use plan_cert::Cert;
 use plan_check::Approved;
-use plan_past::{SamePast, same_past};
 use plan_runs::{Back, Entry};
-use plan_text::Plan;
 use ring_core::replay;
 use ring_names::{Names, NodeId, Refusal};
 use ring_table::Ring;
 use std::alloc::Global;
+
+// The nodes that are dead from here on, the racks of nodes if they are known, and whether mirrors may be taken back.
+#[derive(Clone, Copy)]
+struct Asked<'a> {
+    dead: &'a [NodeId],
+    racks: Option<&'a Labels>,
+    back: Back,
+}
 
 // A plan that has begun, as it was read.
 #[derive(Drop)]
@@ -30,8 +38,7 @@ struct Begun<'a> {
     cert: &'a Cert,
     writers: &'a Names,
     history: &'a [Entry],
-    dead: &'a [NodeId],
-    back: Back,
+    asked: Asked<'a>,
 }
 
 /// Asks whether the history is a run of the approved plan.
@@ -53,88 +60,70 @@ fn cause(refusal: Refusal) -> Refusal {
 
 // What the search found.
 fn find(it: &Begun) -> Result<Around, Refusal> {
+    let ahead = find_ahead(it.alloc, it.approved, it.history)?;
     find_around(Task {
         alloc: it.alloc,
         ring: it.approved.ring(),
         plan: it.approved.plan(),
         cert: it.cert,
         history: it.history,
-        dead: it.dead,
-        back: it.back,
+        dead: it.asked.dead,
+        ahead: ahead.as_slice(),
+        racks: it.asked.racks,
+        back: it.asked.back,
     })
 }
 
-// The history by the plan that was found.
-fn past(it: &Begun, found: &Around) -> Result<Vec<Entry>, Refusal>
-    ensures { IfOk result (λ v. IsSamePast it.now.back it.now.approved.now.plan found.now.plan it.now.history.now v.items) }
+// The text that goes on by the plan that was found: its certificate is that of the old plan if it is that plan, and else one that is found for it.
+fn go_by(it: &Begun, ring: Ring, found: Around) -> Result<Vec<u8>, Refusal>
+    ensures { IfOk result (λ v. GoesAround it.now.asked.back ring it.now.asked.dead.now it.now.writers.now it.now.approved.now.plan it.now.history.now v.items) }
 {
-    let names = SamePast {
-        old: it.approved.plan(),
-        new: &found.plan,
-        numbers: found.numbers.as_slice(),
-        olds: found.olds.as_slice(),
-        back: it.back,
-    };
-    same_past(it.alloc, &names, it.history)
-}
-
-// The text that goes on by the plan with that certificate.
-fn text_by(
-    it: &Begun,
-    ring: Ring,
-    plan: Plan,
-    cert: &Cert,
-    history: &[Entry],
-) -> Result<Vec<u8>, Refusal>
-    requires { IsSamePast it.now.back it.now.approved.now.plan plan it.now.history.now history.now }
-    ensures { IfOk result (λ v. GoesAround it.now.back ring it.now.dead.now it.now.writers.now it.now.approved.now.plan it.now.history.now v.items) }
-{
-    go_on(
-        it.alloc,
-        ring,
+    let Around {
         plan,
-        &Going {
-            cert,
-            writers: it.writers,
-            history,
-            dead: it.dead,
-        },
-    )
-}
-
-// The text that goes on by the plan that was found: its certificate is that of the old plan where it is that plan, and else one that is found for it.
-fn text_around(it: &Begun, ring: Ring, found: Around, history: &[Entry]) -> Result<Vec<u8>, Refusal>
-    requires { IsSamePast it.now.back it.now.approved.now.plan found.plan it.now.history.now history.now }
-    ensures { IfOk result (λ v. GoesAround it.now.back ring it.now.dead.now it.now.writers.now it.now.approved.now.plan it.now.history.now v.items) }
-{
-    let Around { plan, is_same, .. } = found;
+        olds,
+        numbers,
+        is_same,
+        ..
+    } = found;
+    let going = Going {
+        old: it.approved,
+        history: it.history,
+        writers: it.writers,
+        dead: it.asked.dead,
+        back: it.asked.back,
+        numbers: numbers.as_slice(),
+        olds: olds.as_slice(),
+        cert: it.cert,
+    };
     if is_same {
-        return text_by(it, ring, plan, it.cert, history);
+        return go_on(it.alloc, ring, plan, &going);
     }
     let outcome = certificate(it.alloc, &ring, &plan)?;
-    text_by(it, ring, plan, &outcome.cert, history)
+    let going = Going {
+        cert: &outcome.cert,
+        ..going
+    };
+    go_on(it.alloc, ring, plan, &going)
 }
 
 // The bundle that goes on from there. Adds what becomes of slots and nodes.
 fn go_around(it: &Begun, ring: Ring, words: &mut Words) -> Result<Vec<u8>, Refusal>
-    ensures { IfOk result (λ v. GoesAround it.now.back ring it.now.dead.now it.now.writers.now it.now.approved.now.plan it.now.history.now v.items) }
+    ensures { IfOk result (λ v. GoesAround it.now.asked.back ring it.now.asked.dead.now it.now.writers.now it.now.approved.now.plan it.now.history.now v.items) }
 {
     let found = find(it)?;
     words.text(found.words.as_slice());
-    let history = past(it, &found)?;
-    text_around(it, ring, found, history.as_slice())
+    go_by(it, ring, found)
 }
 
 // The bundle that goes on from one that was read.
 fn around_read(
     alloc: Global,
     read: ReplayBundle,
-    dead: &[NodeId],
-    back: Back,
+    asked: Asked,
     words: &mut Words,
 ) -> Result<Vec<u8>, Refusal>
     requires { IsReplay read }
-    ensures { IfOk result (λ v. GoesAround back read.ring dead.now read.writers read.plan read.history.items v.items
+    ensures { IfOk result (λ v. GoesAround asked.back read.ring asked.dead.now read.writers read.plan read.history.items v.items
         × IsHistory read.ring read.plan read.history.items) }
 {
     let ReplayBundle {
@@ -154,8 +143,7 @@ fn around_read(
         cert: &cert,
         writers: &writers,
         history: entries,
-        dead,
-        back,
+        asked,
     };
     match go_around(&begun, other, words) {
         Ok(text) => Ok(text),
@@ -163,22 +151,33 @@ fn around_read(
     }
 }
 
-/// The bundle that goes on where one stopped, around the nodes of these names, which are dead from here on: its ring, another plan, a certificate, and the history
-/// by that plan. An executor goes on with it: what it holds of a step it finds by the step's kind, partition, slot and node. Adds line by line to `words` what
-/// becomes of slots and nodes that do not go where they were to go; where there is no such bundle, what is added says nothing.
+/// Makes the bundle that goes on where one stopped, around the nodes that are dead by the options: its ring, another plan, a certificate, and the history by that plan. An
+/// executor goes on with it: what it holds of a step it finds by the step's kind, partition, slot and node. Adds line by line to `words` what becomes of slots and nodes
+/// that do not go where they were to go; if there is no such bundle, what is added says nothing.
 ///
-/// Refused is the first fault of the texts; a name that the ring does not declare, as `UnknownNode(0)`; a plan that the checker refuses; a history that is no run of
-/// it; and as `NoPlan` where no plan is found by which it goes on. Costs about what `check` and `replay` cost of both bundles.
+/// Refused is the first fault of the texts; a name that the ring does not declare, and a member without a rack where racks are known, as `UnknownNode(0)`; a partition that
+/// the ring does not have, as `TooLarge` with its line in the layout; a plan that the checker refuses; a history that is not a run of it; and as `NoPlan` if no plan is
+/// found by which it goes on. Costs about what `check` and `replay` cost of both bundles.
 pub fn around_bundle(
     alloc: Global,
     bytes: &[u8],
-    dead: &[Vec<u8>],
+    options: &Options,
     back: Back,
     words: &mut Words,
 ) -> Result<Vec<u8>, Refusal>
-    ensures around { IfOk result (λ v. IsAround bytes.now (map (λ name. name.items) dead.now) back v.items) }
+    ensures around { IfOk result (λ v. IsAround bytes.now (dead_names options.now) back v.items) }
 {
     let read = read_replay(alloc, bytes)?;
-    let nodes = nodes_of(alloc, &read.ring, dead)?;
-    around_read(alloc, read, nodes.as_slice(), back, words)
+    ask_layout(&read.ring, &options.layout)?;
+    let names = dead_by(alloc, options)?;
+    let nodes = nodes_of(alloc, &read.ring, names.as_slice())?;
+    let members = members_by(alloc, &read.ring, &read.plan)?;
+    let racking = racks_of(alloc, &read.ring, members.as_slice(), options)?;
+    let asked = Asked {
+        dead: nodes.as_slice(),
+        racks: racking.racks.as_ref(),
+        back,
+    };
+    racking.push(words);
+    around_read(alloc, read, asked, words)
 }

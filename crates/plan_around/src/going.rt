@@ -6,14 +6,17 @@ ghost use Rattle.plan_check.specs.Certified.{IsCertified};
 ghost use Rattle.plan_check.specs.Headline.{KeepsPromises};
 ghost use Rattle.history_text.specs.Known.{AreKnownEntries};
 ghost use Rattle.history_text.specs.Spelling.{history_text};
-ghost use Rattle.plan_around.specs.Around.{GoesOn, RunsApart};
+ghost use Rattle.plan_past.specs.Past.{IsSamePast};
+ghost use Rattle.plan_around.specs.Around.{GoesAround, RunsApart};
 
 use crate::apart::are_apart;
+use crate::retelling::{Retold, retell};
 use history_text::{are_known, push_history};
 use plan_cert::Cert;
 use plan_check::{Approved, Turned, check};
 use plan_goal::write_front;
-use plan_runs::Entry;
+use plan_past::{SamePast, Told, is_same_past};
+use plan_runs::{Back, Entry};
 use plan_text::Plan;
 use ring_core::replay;
 use ring_names::{Names, NodeId, Refusal};
@@ -86,25 +89,64 @@ fn followed(text: Vec<u8>, more: &[u8]) -> Result<Vec<u8>, Refusal>
     Ok(text)
 }
 
-/// A plan, its certificate, and a history of it with the names of its writers.
-#[derive(Drop)]
+/// A plan that has begun, and what its steps are called in another one.
+#[derive(Clone, Copy)]
 pub(crate) struct Going<'a> {
-    pub(crate) cert: &'a Cert,
-    pub(crate) writers: &'a Names,
+    pub(crate) old: &'a Approved,
     pub(crate) history: &'a [Entry],
+    pub(crate) writers: &'a Names,
     pub(crate) dead: &'a [NodeId],
+    pub(crate) back: Back,
+    /// By step of the old plan, its number in the new one; none if its entries are left out.
+    pub(crate) numbers: &'a [Option<u32>],
+    /// By step of the new plan, its number in the old one.
+    pub(crate) olds: &'a [u32],
+    /// The new plan's certificate.
+    pub(crate) cert: &'a Cert,
 }
 
-/// The text of all, where the checker accepts the plan and the history goes on by it. `NoPlan` where the plan is none of the ring, the certificate is none, or the
-/// dead are asked for something; else what the checker or the replay refuses.
+// Whether the entries tell what the old history tells, by the new plan.
+fn tells_past(
+    alloc: Global,
+    it: &Going,
+    new: &Approved,
+    entries: &[Entry],
+    counts: &[u32],
+) -> Result<bool, Refusal>
+    ensures { IfOk result (λ b. IsTrue b → IsSamePast it.now.back it.now.old.now.plan new.now.plan it.now.history.now entries.now) }
+{
+    let plans = SamePast {
+        old: it.old.plan(),
+        new: new.plan(),
+        numbers: it.numbers,
+        olds: it.olds,
+        back: it.back,
+    };
+    is_same_past(alloc, &plans, it.history, &Told { entries, counts })
+}
+
+// The history by the new plan. `NoPlan` if it does not tell what the old one tells.
+fn past(alloc: Global, it: &Going, new: &Approved) -> Result<Vec<Entry>, Refusal>
+    ensures { IfOk result (λ v. IsSamePast it.now.back it.now.old.now.plan new.now.plan it.now.history.now v.items) }
+{
+    let Retold { entries, counts } = retell(alloc, it.old, new, it.numbers, it.history)?;
+    if !tells_past(alloc, it, new, entries.as_slice(), counts.as_slice())? {
+        return Err(Refusal::NoPlan);
+    }
+    Ok(entries)
+}
+
+/// The text of all, if the checker accepts the new plan and the history goes on by it. `NoPlan` if the plan or the certificate is not the ring's, if the history does not
+/// tell what the old one tells, or if the dead are asked for something; else what the checker or the replay refuses.
 pub(crate) fn go_on(alloc: Global, ring: Ring, plan: Plan, it: &Going) -> Result<Vec<u8>, Refusal>
-    ensures { IfOk result (λ v. GoesOn ring it.now.dead.now it.now.writers.now plan it.now.cert.now it.now.history.now v.items) }
+    ensures { IfOk result (λ v. GoesAround it.now.back ring it.now.dead.now it.now.writers.now it.now.old.now.plan it.now.history.now v.items) }
 {
     if !plan.suits(&ring) || !it.cert.suits(&ring) {
         return Err(Refusal::NoPlan);
     }
     let text = write_front(alloc, &ring, &plan, it.cert)?;
     let approved = accepted(alloc, ring, plan, it.cert)?;
-    let history = history_on(alloc, &approved, it.writers, it.history, it.dead)?;
+    let entries = past(alloc, it, &approved)?;
+    let history = history_on(alloc, &approved, it.writers, entries.as_slice(), it.dead)?;
     followed(text, history.as_slice())
 }

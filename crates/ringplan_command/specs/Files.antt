@@ -44,6 +44,6 @@ IsJob (State job) = ⊤
 IsJob (StateBy workers) = ⊤
 IsJob (Part wish) = ⊤
 IsJob (Drive workers form) = ⊤
-IsJob (Make making) = ⊤
+IsJob (Make making options) = ⊤
 IsJob (Describe text) = ⊤
 IsJob _ = ⊥

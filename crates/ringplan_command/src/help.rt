@@ -28,9 +28,6 @@ pub(crate) const DRAW: &str =
 pub(crate) const MAP: &str =
     "Draws who owns what before the plan and after it, in place of who gives what to whom";
 
-pub(crate) const RACK_COLUMNS: &str =
-    "Groups the nodes of a map by rack; a rack is what follows the last C of a node's name";
-
 pub(crate) const CHECK: &str = "Says whether the checker accepts the plan";
 
 pub(crate) const WHY: &str =
@@ -103,32 +100,23 @@ pub(crate) const MOVES: &str =
 pub(crate) const ALL: &str =
     "Shows every node, round and copy; without it at most 24 nodes, 12 rounds and 6 entries of a round";
 
-pub(crate) const RACKS: &str =
-    "Says how many partitions have two slots in one rack; a rack is what follows the last C of a node's name";
+pub(crate) const LAYOUT: &str =
+    "What is known of nodes and partitions, as a text: racks, weights, sizes, aliases and dead nodes; docs/FORMATS.md has its lines";
 
-pub(crate) const MOVED_SIZES: &str =
-    "Says how much moves by sizes: lines of a partition and a number, ascending; the others have 1, and 0 is a partition without keys";
+pub(crate) const RACKS: &str =
+    "The racks of nodes: what follows the last C of a node's name, or none, or auto; without it auto: as the layout or the names show them";
 
 pub(crate) const RATE: &str =
-    "Says when the plan can end at the earliest, where one transfer copies N of a size in a second, 1 to 4294967295";
+    "Says when the plan can end at the earliest, if one transfer copies N of a size in a second, 1 to 4294967295; wants --layout";
 
 pub(crate) const DEAD: &str =
     "A node that is dead for good: it leaves, its slots are read from others, and it does not join, drop or retire; write a name that begins with - as --dead=-NAME";
 
 pub(crate) const GONE: &str =
-    "A node that is dead from here on: no step that is to come asks anything of it; at least one is named; write a name that begins with - as --dead=-NAME";
+    "A node that is dead from here on: no step that is to come asks anything of it; at least one is named, here or in the layout; write a name that begins with - as --dead=-NAME";
 
 pub(crate) const BACK: &str =
     "Takes mirrors back that no copy can fill any more: the store must let go of them, as docs/STORES.md says";
-
-pub(crate) const WEIGHT: &str =
-    "A node's name, `=` and how many parts of the slots it shall have, 1 to 1000; the others have 1";
-
-pub(crate) const RACKS_APART: &str =
-    "Keeps the slots of a partition in different racks as far as possible; a rack is what follows the last C of a node's name";
-
-pub(crate) const SIZES: &str =
-    "Makes the goal ring even by sizes: lines of a partition and a number, ascending; the others have 1, and 0 is a partition without keys";
 
 pub(crate) const EXIT_CODE: &str =
     "Ends with status 4 where the plan that is printed has steps, and with 0 where it has none";
@@ -143,11 +131,8 @@ pub(crate) const NO_WORKERS: &[u8; 105] =
 pub(crate) const NO_PART: &[u8; 153] =
     b"error: a part is named by '--of <K>' and '--part <I>' with I below K, or by '--partitions <A-B>' with A not above B\n\nFor more information, try '--help'.\n";
 
-pub(crate) const NO_WEIGHT: &[u8; 127] =
-    b"error: invalid value for '--weight <NODE=K>': not a name, '=' and a number from 1 to 1000\n\nFor more information, try '--help'.\n";
-
-pub(crate) const NO_BYTE: &[u8; 102] =
-    b"error: invalid value for '--racks-behind <C>': not one character\n\nFor more information, try '--help'.\n";
+pub(crate) const NO_RACKS: &[u8; 116] =
+    b"error: invalid value for '--racks-behind <C>': not one character, none or auto\n\nFor more information, try '--help'.\n";
 
 pub(crate) const NO_FORMAT: &[u8; 100] =
     b"error: invalid value for '--format <FORMAT>': not text or json\n\nFor more information, try '--help'.\n";
@@ -155,11 +140,14 @@ pub(crate) const NO_FORMAT: &[u8; 100] =
 pub(crate) const NO_COLOR: &[u8; 106] =
     b"error: invalid value for '--color <WHEN>': not auto, always or never\n\nFor more information, try '--help'.\n";
 
-pub(crate) const NO_RATE: &[u8; 80] =
-    b"error: '--rate <N>' wants '--sizes <FILE>'\n\nFor more information, try '--help'.\n";
+pub(crate) const NO_RATE: &[u8; 81] =
+    b"error: '--rate <N>' wants '--layout <FILE>'\n\nFor more information, try '--help'.\n";
 
 pub(crate) const NO_WINDOW: &[u8; 111] =
     b"error: invalid value for '--rounds <K>' or '--only <W>': not 1 to 1000000\n\nFor more information, try '--help'.\n";
+
+pub(crate) const NO_DEAD: &[u8; 110] =
+    b"error: a node that is dead is named by '--dead <NODE>', or by the layout\n\nFor more information, try '--help'.\n";
 
 /// What is said of words or options that are no text.
 pub const NO_WORDS: &[u8; 123] =
@@ -169,7 +157,7 @@ pub(crate) const NO_SHELL: &[u8; 95] =
     b"error: invalid value for '<SHELL>': not bash, zsh or fish\n\nFor more information, try '--help'.\n";
 
 /// How the text of a line begins whose word there was once, its command where that is one of an option, and the line that says what to type instead.
-pub(crate) const SUCCESSORS: &[(&str, &str, &str); 4] = &[
+pub(crate) const SUCCESSORS: &[(&str, &str, &str); 6] = &[
     (
         "error: unrecognized subcommand 'judge'",
         "",
@@ -190,10 +178,20 @@ pub(crate) const SUCCESSORS: &[(&str, &str, &str); 4] = &[
         "Usage: ringplan drive ",
         "ringplan: there is no `drive --json`: use `drive --format json`\n",
     ),
+    (
+        "error: unexpected argument '--sizes'",
+        "",
+        "ringplan: there is no `--sizes`: use `--layout`, with `size` lines\n",
+    ),
+    (
+        "error: unexpected argument '--weight'",
+        "",
+        "ringplan: there is no `--weight`: use `--layout`, with `weight` lines\n",
+    ),
 ];
 
 pub(crate) const STREAMS: &str = "\
-Example: ringplan goal --racks-behind . examples/plan_grow.bundle
+Example: ringplan goal examples/plan_grow.bundle
 
 A bundle is the text of a ring, then one of these: a change; a plan and its certificate; these and then a script or a history.
 Standard output has what the command prints. `plan`, `check`, `play`, `drive`, `replay` and `migrate` print their refusals there too:
@@ -329,13 +327,13 @@ done: the next change begins with it. A move that a history has begun and not sw
 Exit status: 0 printed, 1 no plan, one that is refused, or an open move, 2 a text or the command line is refused, 3 memory, input or output";
 
 pub(crate) const SHOW_STREAMS: &str = "\
-Example: ringplan show --racks-behind . examples/plan_grow.bundle
+Example: ringplan show examples/plan_grow.bundle
 
 Input: a bundle: a ring with a change, or with a plan and its certificate, and perhaps a history.
 Standard output: who joins and leaves, what moves in how many rounds, what becomes of balance, racks and failures, the nodes that take part, and the
 copies of each round; with a history who is down, and what is done, open and next. Of a ring alone each node with its slots, allowance and state.
-With `--sizes` how much moves in all, by node and by round, and the most that copies which wait for one another have. With `--rate` also the second
-in which the plan ends at the earliest.
+If the layout has sizes, how much moves in all, by node and by round, and the most that copies which wait for one another have. With `--rate` also the
+second in which the plan ends at the earliest.
 Partitions, slots, steps and rounds are numbers; `5.1` is slot 1 of partition 5.
 
 Exit status: 0 printed, 1 no plan, one that is refused, or a history that is no run, 2 a text or the command line is refused, 3 memory, input or output";
@@ -367,7 +365,7 @@ Example: ringplan goal --dead b examples/goal_around_a_dead_node.bundle -o plan.
 
 Input: the text of a ring, and then that of the goal ring, with the same nodes, partitions and quorums; or that of a change, and then the goal ring
 is made: no slot moves without need, and what moves goes where it keeps racks apart and slots even by weight.
-With `--sizes` a slot moves if it is a leaver's, or if it goes to a node that joins and stores no more than its share.
+If the layout has sizes, a slot moves if it is a leaver's, or if it goes to a node that joins and stores no more than its share.
 Standard output: the texts of the first ring, a plan that leads to the goal ring, and its certificate, which `ringplan check` accepts. Standard error:
 else what `why` prints. The slots of a partition are compared as sets. A dead node that shall leave keeps its line `in`: it cannot take part in its
 own retirement.

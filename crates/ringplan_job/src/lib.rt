@@ -5,4 +5,4 @@ mod job;
 mod making;
 
 pub use job::Job;
-pub use making::{Color, Cut, DrawWish, Exit, Making, Picture, Screen, Shape, Statement, Wish};
+pub use making::{Color, Cut, Exit, Making, Picture, Screen, Shape, Statement, Wish};

@@ -2,7 +2,6 @@
 
 ghost use Rattle.std.specs.Prelude.{◌≡◌, ◌≢◌};
 
-use change_text::Options;
 use plan_runs::Back;
 
 /// Where a text for people goes.
@@ -47,33 +46,24 @@ pub enum Shape {
 }
 
 /// What a summary is to show.
-#[derive(Debug, Drop)]
+#[derive(Clone, Copy, Debug)]
 pub struct Wish {
     pub shape: Shape,
     pub color: Color,
-    /// By which byte nodes have racks, and the sizes of partitions; no node is named.
-    pub options: Options,
-    /// How much one transfer copies in a second, in the unit of the sizes: from 1 on, and there only with sizes.
+    /// How much one transfer copies in a second, in the unit of the layout's sizes: from 1 on, and only with a layout.
     pub rate: Option<u32>,
 }
 
 impl Wish {
     /// The wish, with the colours that it has on that screen.
     pub fn on(self, screen: Screen) -> Wish
-        ensures same { (result.shape ≡ self.shape) × (result.options ≡ self.options) × (result.rate ≡ self.rate) }
+        ensures same { (result.shape ≡ self.shape) × (result.rate ≡ self.rate) }
         ensures color { self.color ≢ Color.Auto → result.color ≡ self.color }
     {
-        let Wish {
-            shape,
-            color,
-            options,
-            rate,
-        } = self;
         Wish {
-            shape,
-            color: color.on(screen),
-            options,
-            rate,
+            shape: self.shape,
+            color: self.color.on(screen),
+            rate: self.rate,
         }
     }
 }
@@ -85,14 +75,6 @@ pub enum Picture {
     Rounds,
     /// Who owns what before the plan and after it.
     Map,
-}
-
-/// What is to be drawn.
-#[derive(Clone, Copy, Debug)]
-pub struct DrawWish {
-    pub picture: Picture,
-    /// The byte after which a node's name names its rack, where a map is to be grouped by rack.
-    pub racks_behind: Option<u8>,
 }
 
 /// How a plan is to be cut.
@@ -114,18 +96,18 @@ pub enum Exit {
 }
 
 /// What is stated of a bundle as one object of JSON.
-#[derive(Debug, Drop)]
+#[derive(Clone, Copy, Debug)]
 pub enum Statement {
     /// Why it is refused, or what a yes says.
     Why,
     /// What the plan does to each node, and how far a history has come; of a ring alone, its nodes. Whatever the shape and the colours, it is all.
     Show(Wish),
     /// A plan that leads to the ring that is wished for, and how much it moves.
-    Goal(Options, Exit),
+    Goal(Exit),
 }
 
 /// What can be made of a bundle.
-#[derive(Debug, Drop)]
+#[derive(Clone, Copy, Debug)]
 pub enum Making {
     /// Why it is refused, or what a yes says.
     Why(Color),
@@ -136,7 +118,7 @@ pub enum Making {
     /// A summary.
     Show(Wish),
     /// A picture.
-    Draw(DrawWish),
+    Draw(Picture),
     /// The plan's steps as lines of JSON.
     Steps,
     /// The slots that move, as lines of JSON.
@@ -144,9 +126,9 @@ pub enum Making {
     /// The plan in parts, or one of these.
     Windows(Cut),
     /// A plan that leads to the ring that is wished for.
-    Goal(Options, Exit),
+    Goal(Exit),
     /// Another plan around nodes that died in the middle of a change, with the history that goes on by it.
-    Around(Options, Back),
+    Around(Back),
     /// An object of JSON.
     State(Statement),
 }

@@ -7,6 +7,7 @@ ghost use Rattle.ringplan_people.specs.Studies.{IsLeftAt, IsLeftBy, IsLeftNow, I
 
 use crate::study::{Study, accepted, studied, study_change, study_plan};
 use crate::why::push_words_of;
+use change_text::Options;
 use helpers::Words;
 use history_text::read_replay;
 use plan_bundles::{Kind, kind_of, ring_after};
@@ -153,7 +154,10 @@ pub fn after_bundle(alloc: Global, bytes: &[u8]) -> Result<Vec<u8>, Refusal>
     ensures after { IfOk result (λ text. IsLeftNow bytes.now text.items ⊎ IsLeftBy bytes.now text.items) }
 {
     match kind_of(bytes) {
-        Kind::Change => ring_left(alloc, &study_change(alloc, bytes)?, bytes),
+        Kind::Change => {
+            let found = study_change(alloc, bytes, &Options::new(alloc))?;
+            ring_left(alloc, &found, bytes)
+        }
         Kind::Plan => ring_left(alloc, &study_plan(alloc, bytes)?, bytes),
         Kind::History => after_history(alloc, bytes),
     }
@@ -162,7 +166,7 @@ pub fn after_bundle(alloc: Global, bytes: &[u8]) -> Result<Vec<u8>, Refusal>
 /// Adds why `after_bundle` refuses a bundle with `WrongStage` at the step: which steps must come first where a history has begun a move, that the plan leaves a mirror,
 /// or what is wrong with the plan.
 pub fn push_open(alloc: Global, out: &mut Words, bytes: &[u8], step: u32) -> Result<(), Refusal> {
-    let is_told = match studied(alloc, bytes) {
+    let is_told = match studied(alloc, bytes, &Options::new(alloc)) {
         Ok(found) => push_open_of(alloc, out, &found, step)?,
         Err(Refusal::OutOfMemory) => return Err(Refusal::OutOfMemory),
         Err(_) => false,

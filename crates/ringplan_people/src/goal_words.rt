@@ -1,14 +1,11 @@
 //! Why no plan leads to the ring that is wished for, in words.
 
-use crate::show::show_bundle;
 use crate::why::push_words_of;
 use change_text::{Options, Wanted, read_wanted};
 use helpers::Words;
-use plan_bundles::{Kind, front, kind_of, nodes_of, wished_goal};
+use plan_bundles::{Kind, dead_by, front, kind_of, nodes_of, wished_goal};
 use plan_goal::{Aim, Goal, Unfit, is_among, read_goal, why_unfit};
 use ring_names::Refusal;
-use ring_table::{Ring, read_ring};
-use ringplan_job::{Color, Shape, Wish};
 use show_why::{Page, Said, push_printed, tell_text};
 use std::alloc::Global;
 
@@ -56,7 +53,8 @@ fn push_no_plan(
     goal: &Goal,
     options: &Options,
 ) -> Result<(), Refusal> {
-    let dead = nodes_of(alloc, &goal.ring, options.dead.as_slice())?;
+    let names = dead_by(alloc, options)?;
+    let dead = nodes_of(alloc, &goal.ring, names.as_slice())?;
     let unfit = why_unfit(&Aim {
         alloc,
         ring: &goal.ring,
@@ -75,20 +73,6 @@ fn goal_of(alloc: Global, bytes: &[u8], options: &Options) -> Result<Goal, Refus
     match kind_of(bytes) {
         Kind::Change => wished_goal(alloc, bytes, options),
         Kind::Plan | Kind::History => read_goal(alloc, bytes),
-    }
-}
-
-// Says which name the ring does not declare.
-fn push_unknown(out: &mut Words, ring: &Ring, options: &Options) {
-    for names in [options.dead.as_slice(), options.weighed.as_slice()] {
-        for name in names {
-            if ring.number_of(name.as_slice()).is_none() {
-                out.text(b"refused: the command line names ");
-                push_printed(out, name.as_slice());
-                out.text(b", and the ring declares no such node\n");
-                return;
-            }
-        }
     }
 }
 
@@ -173,87 +157,6 @@ fn push_by_goal(
     }
 }
 
-/// Says which name of the command line is unknown.
-pub(crate) fn push_names(
-    alloc: Global,
-    out: &mut Words,
-    bytes: &[u8],
-    options: &Options,
-) -> Result<(), Refusal> {
-    match read_ring(alloc, &bytes[..front(bytes, 1)]) {
-        Ok(ring) => {
-            push_unknown(out, &ring, options);
-            Ok(())
-        }
-        Err(Refusal::OutOfMemory) => Err(Refusal::OutOfMemory),
-        Err(_) => Ok(()),
-    }
-}
-
-/// Says which partition of the sizes the ring does not have. Answers whether there is one.
-pub(crate) fn push_unlisted(out: &mut Words, ring: &Ring, options: &Options) -> bool {
-    let Some(sizes) = &options.sizes else {
-        return false;
-    };
-    let mut line = 0u32;
-    for size in sizes.iter() {
-        line = line.saturating_add(1);
-        if size.partition >= ring.q() {
-            out.fill(
-                b"refused: line # of the sizes names partition #, and the ring has # partitions\n",
-                &[],
-                &[line, size.partition, ring.q()],
-            );
-            return true;
-        }
-    }
-    false
-}
-
-// Says what is wrong with the sizes, or with a text.
-fn push_limit(
-    alloc: Global,
-    out: &mut Words,
-    bytes: &[u8],
-    options: &Options,
-    refusal: &Refusal,
-) -> Result<(), Refusal> {
-    let is_said = match read_wanted(alloc, bytes) {
-        Ok(wanted) => push_unlisted(out, &wanted.ring, options),
-        Err(Refusal::OutOfMemory) => return Err(Refusal::OutOfMemory),
-        Err(_) => false,
-    };
-    if is_said {
-        return Ok(());
-    }
-    push_fault(alloc, out, bytes, refusal)
-}
-
-/// Says what is wrong with the sizes of a bundle that is shown, or with its texts.
-pub(crate) fn push_shown_limit(
-    alloc: Global,
-    out: &mut Words,
-    bytes: &[u8],
-    options: &Options,
-    refusal: &Refusal,
-) -> Result<(), Refusal> {
-    let plain = Wish {
-        shape: Shape::Short,
-        color: Color::Never,
-        options: Options::new(alloc),
-        rate: None,
-    };
-    match show_bundle(alloc, bytes, &plain) {
-        Ok(_) => {
-            let ring = read_ring(alloc, &bytes[..front(bytes, 1)])?;
-            let _ = push_unlisted(out, &ring, options);
-            Ok(())
-        }
-        Err(Refusal::OutOfMemory) => Err(Refusal::OutOfMemory),
-        Err(_) => push_words_of(alloc, out, bytes, refusal),
-    }
-}
-
 /// Adds which of the nodes that are named dead leave though the change does not say so.
 pub fn push_dead_leavers(
     alloc: Global,
@@ -261,11 +164,12 @@ pub fn push_dead_leavers(
     bytes: &[u8],
     options: &Options,
 ) -> Result<(), Refusal> {
-    if options.dead.is_empty() || kind_of(bytes) != Kind::Change {
+    let names = dead_by(alloc, options)?;
+    if names.is_empty() || kind_of(bytes) != Kind::Change {
         return Ok(());
     }
     let Wanted { ring, change } = read_wanted(alloc, bytes)?;
-    for node in nodes_of(alloc, &ring, options.dead.as_slice())?.as_slice() {
+    for node in nodes_of(alloc, &ring, names.as_slice())?.as_slice() {
         if ring.is_member(*node) && !is_among(change.leaves.as_slice(), *node) {
             out.fill(
                 b"ringplan: @ is dead, so it leaves, though the change does not say so\n",
@@ -287,8 +191,6 @@ pub fn push_goal_words(
 ) -> Result<(), Refusal> {
     match refusal {
         Refusal::NoPlan => push_by_goal(alloc, out, bytes, options, refusal),
-        Refusal::UnknownNode(0) => push_names(alloc, out, bytes, options),
-        Refusal::TooLarge(_) => push_limit(alloc, out, bytes, options, refusal),
         _ => push_fault(alloc, out, bytes, refusal),
     }
 }

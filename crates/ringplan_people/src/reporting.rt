@@ -7,7 +7,8 @@ ghost use Rattle.ringplan_people.specs.Why.{IsWhy};
 
 use crate::after::{after_bundle, push_open};
 use crate::cert::{cert_of, push_why_none};
-use crate::goal_words::{push_dead_leavers, push_goal_words, push_names, push_shown_limit};
+use crate::goal_words::{push_dead_leavers, push_goal_words};
+use crate::racks::{is_of_options, push_misfits, push_racks};
 use crate::show::{draw_bundle, show_bundle};
 use crate::stating::state_bundle;
 use crate::steps::{moves_bundle, steps_bundle};
@@ -47,6 +48,7 @@ fn make_goal(
     ensures { IfOk result (λ text. IsLedText bytes.now options.now text.items) }
 {
     let found = led_bundle(alloc, bytes, options)?;
+    push_racks(alloc, &mut notes.words, bytes, &found.approved, options)?;
     push_dead_leavers(alloc, &mut notes.words, bytes, options)?;
     notes.has_steps = found.approved.plan().len() > 0;
     if !notes.has_steps {
@@ -58,32 +60,25 @@ fn make_goal(
 // What is made of the bundle. Adds what standard error says of it.
 fn make_of(
     alloc: Global,
-    making: &Making,
+    making: Making,
+    options: &Options,
     bytes: &[u8],
     notes: &mut Notes,
 ) -> Result<Vec<u8>, Refusal>
-    requires { IsTold making.now }
-    ensures { IfOk result (λ text. IsMade making.now bytes.now text.items) }
+    requires { IsTold making }
+    ensures { IfOk result (λ text. IsMade making options.now bytes.now text.items) }
 {
     match making {
         Making::Why(_) | Making::State(_) => unreachable!(),
         Making::Cert => cert_of(alloc, bytes),
         Making::After => after_bundle(alloc, bytes),
-        Making::Show(wish) => show_bundle(alloc, bytes, wish),
-        Making::Draw(wish) => draw_bundle(alloc, bytes, *wish),
-        Making::Steps => steps_bundle(alloc, bytes),
-        Making::Moves => moves_bundle(alloc, bytes),
-        Making::Windows(cut) => windows_bundle(alloc, bytes, *cut),
-        Making::Goal(options, _) => make_goal(alloc, bytes, options, notes),
-        Making::Around(options, back) => {
-            around_bundle(
-                alloc,
-                bytes,
-                options.dead.as_slice(),
-                *back,
-                &mut notes.words,
-            )
-        }
+        Making::Show(wish) => show_bundle(alloc, bytes, wish, options, &mut notes.words),
+        Making::Draw(shown) => draw_bundle(alloc, bytes, shown, options, &mut notes.words),
+        Making::Steps => steps_bundle(alloc, bytes, options, &mut notes.words),
+        Making::Moves => moves_bundle(alloc, bytes, options, &mut notes.words),
+        Making::Windows(cut) => windows_bundle(alloc, bytes, cut, options, &mut notes.words),
+        Making::Goal(_) => make_goal(alloc, bytes, options, notes),
+        Making::Around(back) => around_bundle(alloc, bytes, options, back, &mut notes.words),
     }
 }
 
@@ -103,18 +98,18 @@ pub(crate) fn goal_status(exit: Exit, has_steps: bool) -> u8
 }
 
 // The exit status at what was made.
-fn made_status(making: &Making, has_steps: bool) -> u8
-    ensures { IsMadeWith making.now result }
+fn made_status(making: Making, has_steps: bool) -> u8
+    ensures { IsMadeWith making result }
 {
     match making {
-        Making::Goal(_, exit) => goal_status(*exit, has_steps),
+        Making::Goal(exit) => goal_status(exit, has_steps),
         _ => 0,
     }
 }
 
 // The report of what was made, with these notes.
-fn made(making: &Making, output: Vec<u8>, notes: Notes) -> Result<Report, Refusal>
-    ensures { IfOk result (λ r. (r.output.items ≡ output.items) × IsMadeWith making.now r.status) }
+fn made(making: Making, output: Vec<u8>, notes: Notes) -> Result<Report, Refusal>
+    ensures { IfOk result (λ r. (r.output.items ≡ output.items) × IsMadeWith making r.status) }
 {
     let Notes { words, has_steps } = notes;
     let errors = words.end()?;
@@ -145,23 +140,21 @@ fn refused_with(alloc: Global, refusal: Refusal, words: Words) -> Result<Report,
 pub(crate) fn push_said(
     alloc: Global,
     out: &mut Words,
-    making: &Making,
+    making: Making,
+    options: &Options,
     bytes: &[u8],
     refusal: &Refusal,
 ) -> Result<(), Refusal> {
+    if is_of_options(refusal) && push_misfits(alloc, out, bytes, options)? {
+        return Ok(());
+    }
     match (making, refusal) {
         (_, Refusal::OutOfMemory) => Err(Refusal::OutOfMemory),
         (Making::Cert, _) => push_why_none(alloc, out, bytes, refusal),
         (Making::After, Refusal::WrongStage(step)) => push_open(alloc, out, bytes, *step),
-        (Making::Windows(_), _) => push_windows_words(alloc, out, bytes, refusal),
-        (Making::Goal(options, _), _) => push_goal_words(alloc, out, bytes, options, refusal),
-        (Making::Show(wish), Refusal::TooLarge(_)) => {
-            push_shown_limit(alloc, out, bytes, &wish.options, refusal)
-        }
-        (Making::Around(options, _), Refusal::UnknownNode(0)) => {
-            push_names(alloc, out, bytes, options)
-        }
-        (Making::Around(_, _), Refusal::NoPlan) => {
+        (Making::Windows(_), _) => push_windows_words(alloc, out, bytes, options, refusal),
+        (Making::Goal(_), _) => push_goal_words(alloc, out, bytes, options, refusal),
+        (Making::Around(_), Refusal::NoPlan) => {
             out.text(b"refused: no plan was found by which the history goes on\n");
             Ok(())
         }
@@ -170,19 +163,24 @@ pub(crate) fn push_said(
 }
 
 // The report of what is made of the bundle, or of why nothing is.
-fn report_made(alloc: Global, making: &Making, bytes: &[u8]) -> Result<Report, Refusal>
-    requires { IsTold making.now }
-    ensures { IfOk result (λ r. IsReport making.now bytes.now r.output.items r.status) }
+fn report_made(
+    alloc: Global,
+    making: Making,
+    options: &Options,
+    bytes: &[u8],
+) -> Result<Report, Refusal>
+    requires { IsTold making }
+    ensures { IfOk result (λ r. IsReport making options.now bytes.now r.output.items r.status) }
 {
     let mut notes = Notes {
         words: Words::new(alloc),
         has_steps: false,
     };
-    match make_of(alloc, making, bytes, &mut notes) {
+    match make_of(alloc, making, options, bytes, &mut notes) {
         Ok(output) => made(making, output, notes),
         Err(refusal) => {
             let mut words = Words::new(alloc);
-            push_said(alloc, &mut words, making, bytes, &refusal)?;
+            push_said(alloc, &mut words, making, options, bytes, &refusal)?;
             refused_with(alloc, refusal, words)
         }
     }
@@ -211,23 +209,33 @@ fn report_why(alloc: Global, color: Color, bytes: &[u8]) -> Result<Report, Refus
 }
 
 // The report of a statement.
-fn report_stated(alloc: Global, statement: &Statement, bytes: &[u8]) -> Result<Report, Refusal>
-    ensures { IfOk result (λ r. IsStated statement.now bytes.now r.status) }
+fn report_stated(
+    alloc: Global,
+    statement: Statement,
+    options: &Options,
+    bytes: &[u8],
+) -> Result<Report, Refusal>
+    ensures { IfOk result (λ r. IsStated statement options.now bytes.now r.status) }
 {
-    let answer = state_bundle(alloc, statement, bytes)?;
+    let answer = state_bundle(alloc, statement, options, bytes)?;
     Ok(silent(alloc, answer))
 }
 
-/// What is printed of a bundle, where `making` is asked for. On standard output stands what is made of the bundle, and the status is 0, or 4 for a plan
+/// What is printed of a bundle, if `making` is asked for by these options. On standard output stands what is made of the bundle, and the status is 0, or 4 for a plan
 /// with steps where a goal asks so; or it is empty, and on standard error stand the refusal's line and why. `why` and a statement print both on standard output.
 /// The only refusal is `OutOfMemory`.
-pub fn report_bundle(alloc: Global, making: &Making, bytes: &[u8]) -> Result<Report, Refusal>
-    ensures { IfOk result (λ r. IsReport making.now bytes.now r.output.items r.status) }
+pub fn report_bundle(
+    alloc: Global,
+    making: Making,
+    options: &Options,
+    bytes: &[u8],
+) -> Result<Report, Refusal>
+    ensures { IfOk result (λ r. IsReport making options.now bytes.now r.output.items r.status) }
 {
     match making {
-        Making::Why(color) => report_why(alloc, *color, bytes),
-        Making::State(statement) => report_stated(alloc, statement, bytes),
-        _ => report_made(alloc, making, bytes),
+        Making::Why(color) => report_why(alloc, color, bytes),
+        Making::State(statement) => report_stated(alloc, statement, options, bytes),
+        _ => report_made(alloc, making, options, bytes),
     }
 }
 

@@ -5,16 +5,17 @@ ghost use Rattle.plan_bundles.specs.Goals.{IsLed};
 ghost use Rattle.ringplan_people.specs.Made.{IsStated};
 ghost use Rattle.ringplan_people.specs.Studies.{HasApproved, IsShown};
 
-use crate::goal_words::{push_goal_words, push_unlisted};
+use crate::goal_words::push_goal_words;
 use crate::history_words::unless_memory;
 use crate::object::{Object, text_value};
+use crate::racks::{is_of_options, push_misfits, racking_of};
 use crate::reporting::goal_status;
-use crate::show::{Shown, ask_sizes, shown_by, volumes_of};
+use crate::show::{Shown, racks_at_rest, shown_by, volumes_of};
 use crate::study::{Study, studied};
 use crate::why::{Outcome, push_accepted, push_why};
 use change_text::Options;
-use helpers::{Words, at, rack, small, word};
-use plan_bundles::{front, led_bundle};
+use helpers::{Labels, Words, at, small, word};
+use plan_bundles::{ask_layout, front, led_bundle};
 use plan_goal::Proposed;
 use ring_names::Refusal;
 use ring_table::{Ring, read_ring};
@@ -128,7 +129,7 @@ fn state_why(alloc: Global, bytes: &[u8]) -> Result<Answer, Refusal>
     ensures yes { IfOk result (λ answer. answer.status ≡ 0 → HasApproved bytes.now) }
     ensures few { IfOk result (λ answer. answer.status ≤ 3) }
 {
-    match studied(alloc, bytes) {
+    match studied(alloc, bytes, &Options::new(alloc)) {
         Ok(found) => {
             // The plan is approved, which the prover knows once it is read.
             let _ = found.approved.plan();
@@ -138,18 +139,18 @@ fn state_why(alloc: Global, bytes: &[u8]) -> Result<Answer, Refusal>
     }
 }
 
-// The object of a node: its name, its rack where racks are asked for, and whether it is a member.
+// The object of a node: its name, its rack if racks are known, and whether it is a member.
 fn node_object(
     alloc: Global,
     ring: &Ring,
     present: &Present,
     node: u32,
-    racks_behind: Option<u8>,
+    racks: Option<&Labels>,
 ) -> Result<Object, Refusal> {
     let mut object = Object::new(alloc);
     object.text("name", ring.name(node))?;
-    if let Some(behind) = racks_behind {
-        object.text("rack", rack(ring.name(node), behind))?;
+    if let Some(racks) = racks {
+        object.text("rack", racks.name(node))?;
     }
     object.put("is_member", Value::from(present.is_member(node)))?;
     object.number("slots", at(present.owned.as_slice(), node as usize))?;
@@ -157,11 +158,11 @@ fn node_object(
 }
 
 // The nodes of a ring alone.
-fn ring_object(alloc: Global, ring: &Ring, racks_behind: Option<u8>) -> Result<Object, Refusal> {
+fn ring_object(alloc: Global, ring: &Ring, racks: Option<&Labels>) -> Result<Object, Refusal> {
     let present = Present::at_rest(alloc, ring)?;
     let mut nodes = Vec::new(alloc);
     for node in 0..small(ring.nodes().len()) {
-        nodes.push(node_object(alloc, ring, &present, node, racks_behind)?.value())?;
+        nodes.push(node_object(alloc, ring, &present, node, racks)?.value())?;
     }
     let mut object = Object::new(alloc);
     object.text("answer", b"yes")?;
@@ -175,12 +176,12 @@ fn nodes_value(
     ring: &Ring,
     shown: &Shown,
     volumes: Option<&Volumes>,
-    racks_behind: Option<u8>,
+    racks: Option<&Labels>,
 ) -> Result<Value, Refusal> {
     let loads = &shown.scene.loads;
     let mut nodes = Vec::new(alloc);
     for node in 0..small(ring.nodes().len()) {
-        let mut object = node_object(alloc, ring, &shown.present, node, racks_behind)?;
+        let mut object = node_object(alloc, ring, &shown.present, node, racks)?;
         if let Some(volumes) = volumes {
             object.long("gives_size", word(volumes.gives.as_slice(), node as usize))?;
             object.long("takes_size", word(volumes.takes.as_slice(), node as usize))?;
@@ -232,21 +233,24 @@ fn put_volumes(
 fn plan_object(
     alloc: Global,
     found: &Study,
-    shown: &Shown,
-    volumes: Option<&Volumes>,
-    wish: &Wish,
+    wish: Wish,
+    options: &Options,
 ) -> Result<Object, Refusal> {
+    ask_layout(found.approved.ring(), &options.layout)?;
+    let racking = racking_of(alloc, &found.approved, options)?;
+    let shown = shown_by(alloc, found)?;
+    let volumes = volumes_of(alloc, found, &shown.scene, options)?;
     let (ring, plan) = (found.approved.ring(), found.approved.plan());
     let mut object = Object::new(alloc);
     object.text("answer", b"yes")?;
     object.number("steps", plan.len())?;
     put_change(&mut object, alloc, ring, &shown.scene)?;
-    let racks_behind = wish.options.racks_behind;
+    let racks = racking.racks.as_ref();
     object.put(
         "nodes",
-        nodes_value(alloc, ring, shown, volumes, racks_behind)?,
+        nodes_value(alloc, ring, &shown, volumes.as_ref(), racks)?,
     )?;
-    if let Some(volumes) = volumes {
+    if let Some(volumes) = &volumes {
         put_volumes(&mut object, alloc, volumes, wish.rate)?;
     }
     if let Some(progress) = &shown.progress {
@@ -255,10 +259,10 @@ fn plan_object(
     Ok(object)
 }
 
-// The object of a partition of the sizes that the ring does not have.
-fn state_unlisted(
+// What of the options does not fit the bundle.
+fn state_misfit(
     alloc: Global,
-    ring: &Ring,
+    bytes: &[u8],
     options: &Options,
     refusal: &Refusal,
 ) -> Result<Answer, Refusal>
@@ -266,61 +270,86 @@ fn state_unlisted(
 {
     unless_memory(*refusal)?;
     let mut words = Words::new(alloc);
-    let _ = push_unlisted(&mut words, ring, options);
+    let _ = push_misfits(alloc, &mut words, bytes, options)?;
     let object = refused_object(alloc, refusal, words)?;
     refused_answer(object, refusal)
 }
 
 // A ring alone, of which nothing moves.
-fn state_ring(alloc: Global, bytes: &[u8], wish: &Wish) -> Result<Answer, Refusal>
+fn state_ring(alloc: Global, bytes: &[u8], options: &Options) -> Result<Answer, Refusal>
     ensures yes { IfOk result (λ answer. answer.status ≡ 0 → IsShown bytes.now) }
     ensures few { IfOk result (λ answer. answer.status ≤ 3) }
 {
     match read_ring(alloc, bytes) {
-        Ok(ring) => match ask_sizes(alloc, &ring, &wish.options) {
-            Ok(()) => ring_object(alloc, &ring, wish.options.racks_behind)?.answer(0),
-            Err(refusal) => state_unlisted(alloc, &ring, &wish.options, &refusal),
+        Ok(ring) => match racks_at_rest(alloc, &ring, options) {
+            Ok(racking) => ring_object(alloc, &ring, racking.racks.as_ref())?.answer(0),
+            Err(refusal) => state_misfit(alloc, bytes, options, &refusal),
         },
         Err(refusal) => state_refusal(alloc, bytes, &refusal),
     }
 }
 
 // A plan that the checker accepted.
-fn state_studied(alloc: Global, found: &Study, wish: &Wish) -> Result<Answer, Refusal>
+fn state_studied(
+    alloc: Global,
+    bytes: &[u8],
+    found: &Study,
+    wish: Wish,
+    options: &Options,
+) -> Result<Answer, Refusal>
     ensures { IfOk result (λ answer. answer.status ≤ 3) }
 {
-    let shown = shown_by(alloc, found)?;
-    match volumes_of(alloc, found, &shown.scene, &wish.options) {
-        Ok(volumes) => plan_object(alloc, found, &shown, volumes.as_ref(), wish)?.answer(0),
-        Err(refusal) => { state_unlisted(alloc, found.approved.ring(), &wish.options, &refusal) }
+    match plan_object(alloc, found, wish, options) {
+        Ok(object) => object.answer(0),
+        Err(refusal) => state_misfit(alloc, bytes, options, &refusal),
     }
 }
 
+// Why a bundle is refused, or what of the options does not fit it.
+fn state_unshown(
+    alloc: Global,
+    bytes: &[u8],
+    options: &Options,
+    refusal: &Refusal,
+) -> Result<Answer, Refusal>
+    ensures { IfOk result (λ answer. (answer.status ≢ 0) × (answer.status ≤ 3)) }
+{
+    if is_of_options(refusal) {
+        return state_misfit(alloc, bytes, options, refusal);
+    }
+    state_refusal(alloc, bytes, refusal)
+}
+
 // The plan of a bundle.
-fn state_plan(alloc: Global, bytes: &[u8], wish: &Wish) -> Result<Answer, Refusal>
+fn state_plan(alloc: Global, bytes: &[u8], wish: Wish, options: &Options) -> Result<Answer, Refusal>
     ensures yes { IfOk result (λ answer. answer.status ≡ 0 → IsShown bytes.now) }
     ensures few { IfOk result (λ answer. answer.status ≤ 3) }
 {
-    match studied(alloc, bytes) {
+    match studied(alloc, bytes, options) {
         Ok(found) => {
             // The plan is approved, which the prover knows once it is read.
             let _ = found.approved.plan();
-            state_studied(alloc, &found, wish)
+            state_studied(alloc, bytes, &found, wish, options)
         }
-        Err(refusal) => state_refusal(alloc, bytes, &refusal),
+        Err(refusal) => state_unshown(alloc, bytes, options, &refusal),
     }
 }
 
 // What is shown of a bundle, as `show` takes it.
-fn state_shown(alloc: Global, bytes: &[u8], wish: &Wish) -> Result<Answer, Refusal>
+fn state_shown(
+    alloc: Global,
+    bytes: &[u8],
+    wish: Wish,
+    options: &Options,
+) -> Result<Answer, Refusal>
     ensures yes { IfOk result (λ answer. answer.status ≡ 0 → IsShown bytes.now) }
     ensures few { IfOk result (λ answer. answer.status ≤ 3) }
 {
     // Nothing stands after the first line `end`.
     if front(bytes, 1) == bytes.len() {
-        return state_ring(alloc, bytes, wish);
+        return state_ring(alloc, bytes, options);
     }
-    state_plan(alloc, bytes, wish)
+    state_plan(alloc, bytes, wish, options)
 }
 
 // The bundle of a plan that leads to the goal ring, and how much it moves.
@@ -368,12 +397,17 @@ fn state_goal(alloc: Global, bytes: &[u8], options: &Options, exit: Exit) -> Res
 
 /// What is stated of a bundle, as an object of JSON in one line, and the exit status: that of `why`, of `show` and of `goal`. A refusal is stated by the members
 /// of a check's answer and by `words`; `why` and `show` add the lines at fault and a mend. The only refusal is `OutOfMemory`.
-pub fn state_bundle(alloc: Global, statement: &Statement, bytes: &[u8]) -> Result<Answer, Refusal>
-    ensures { IfOk result (λ answer. IsStated statement.now bytes.now answer.status) }
+pub fn state_bundle(
+    alloc: Global,
+    statement: Statement,
+    options: &Options,
+    bytes: &[u8],
+) -> Result<Answer, Refusal>
+    ensures { IfOk result (λ answer. IsStated statement options.now bytes.now answer.status) }
 {
     match statement {
         Statement::Why => state_why(alloc, bytes),
-        Statement::Show(wish) => state_shown(alloc, bytes, wish),
-        Statement::Goal(options, exit) => state_goal(alloc, bytes, options, *exit),
+        Statement::Show(wish) => state_shown(alloc, bytes, wish, options),
+        Statement::Goal(exit) => state_goal(alloc, bytes, options, exit),
     }
 }

@@ -13,7 +13,7 @@ ghost use Rattle.ringplan_people.specs.Why.{AnswersCheck, BeginsWith, IsWhy};
 use crate::history_words::{tell_history, unless_memory};
 use crate::painting::painted;
 use crate::study::{Study, studied, study_change};
-use change_text::{Wanted, read_wanted};
+use change_text::{Options, Wanted, read_wanted};
 use helpers::Words;
 use plan_bundles::{Kind, cert_bundle, front, kind_of};
 use plan_cert::Cert;
@@ -51,11 +51,11 @@ fn asked(alloc: Global, mended: &[u8], was: &Refusal) -> Result<Outcome, Refusal
             Ok(()) => Ok(Outcome::Accepted),
             Err(refusal) => next(refusal, was),
         },
-        Kind::Change => match study_change(alloc, mended) {
+        Kind::Change => match study_change(alloc, mended, &Options::new(alloc)) {
             Ok(_) => Ok(Outcome::Planned),
             Err(refusal) => next(refusal, was),
         },
-        Kind::History => match studied(alloc, mended) {
+        Kind::History => match studied(alloc, mended, &Options::new(alloc)) {
             Ok(_) => Ok(Outcome::Replayed),
             Err(refusal) => next(refusal, was),
         },
@@ -359,7 +359,7 @@ fn why_read(alloc: Global, bytes: &[u8], bundle: Bundle, color: Color) -> Result
 fn push_more(alloc: Global, out: &mut Words, bytes: &[u8]) -> Result<Option<Refusal>, Refusal>
     ensures { IfOk result (λ r. IfNone r (HasApproved bytes.now)) }
 {
-    match studied(alloc, bytes) {
+    match studied(alloc, bytes, &Options::new(alloc)) {
         Ok(found) => {
             push_accepted(out, &found);
             // The plan is approved, which the prover knows once it is read.

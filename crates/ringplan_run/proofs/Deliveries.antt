@@ -6,12 +6,13 @@ use Rattle.std.specs.Global.{Global}
 use Rattle.ringplan_command.specs.declared.files.Files.{Files}
 use Rattle.ringplan_job.specs.declared.job.Job.{Job}
 use Rattle.ringplan_job.specs.declared.making.Making.{Making}
+use Rattle.change_text.specs.declared.options.Options.{Options}
 use Rattle.ringplan_jobs.specs.Io.{Prints, AppendsPart, Tells}
 use Rattle.ringplan_command.specs.Command.{Asked, asked, only}
 use Rattle.ringplan_command.specs.Files.{Names, files_in, files_of, no_files}
 use Rattle.ringplan_command.specs.Tree.{word_of}
 use Rattle.ringplan_command.proofs.Commands.{asked_alone, no_files_alone}
-use Rattle.ringplan_run.specs.Run.{Delivers, IsWritten, NamesSizes, Reports, Runs, RunsTo, Shows, failed, filed, no_sizes, printed, told_by}
+use Rattle.ringplan_run.specs.Run.{Delivers, IsWritten, Reports, Runs, RunsTo, Shows, failed, filed, no_layout, printed, told_by}
 
 -- nothing is printed, with any status
 pub prints_nothing : (old : Option (List ℕ)) (status : ℕ) → Prints old old [] status status
@@ -106,9 +107,9 @@ ran_alone job words told old new result e h =
 -- ---- reports of what was not read
 
 -- nothing is made, whatever the bytes
-pub reports_none : (making : Making) (bytes : List ℕ) (status : ℕ) → NamesSizes making → (status ≡ 2) ⊎ (status ≡ 3) → Reports making bytes [] status
-reports_none making bytes status names (inl two) = no_sizes names refl two
-reports_none making bytes status names (inr three) = failed refl three
+pub reports_none : (making : Making) (options : Options) (bytes : List ℕ) (status : ℕ) → (status ≡ 2) ⊎ (status ≡ 3) → Reports making options bytes [] status
+reports_none making options bytes status (inl two) = no_layout refl two
+reports_none making options bytes status (inr three) = failed refl three
 
 -- whatever the reader tells, some bytes are what it tells
 pub told_bytes : (told : Option (List ℕ)) → (bytes : List ℕ) × Tells told bytes

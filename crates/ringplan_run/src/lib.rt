@@ -4,9 +4,9 @@
 
 mod driving;
 mod files;
+mod layouts;
 mod parting;
 mod program;
-mod sizes;
 
 pub use driving::drive_bundle;
 pub use program::{end_without_memory, end_without_words, run, run_alone};

@@ -12,7 +12,7 @@ use crate::span::Span;
 use crate::table::push_table;
 use crate::volumes::Volumes;
 use crate::writing::{end_line, push_long, push_tenths};
-use helpers::{Words, at, parts_of, small};
+use helpers::{Labels, Words, at, parts_of, small};
 use plan_moves::Progress;
 use plan_text::Plan;
 use ring_names::Refusal;
@@ -50,8 +50,8 @@ pub struct View<'a> {
     pub shape: Shape,
     /// How much moves, where sizes are asked for.
     pub sized: Option<Sized<'a>>,
-    /// The byte behind which a node's name names its rack, where racks are asked for.
-    pub racks_behind: Option<u8>,
+    /// The racks of nodes, if they are known.
+    pub racks: Option<&'a Labels>,
 }
 
 // Behind which column of a line its words begin.
@@ -194,9 +194,9 @@ fn tell_balance(view: &View, line: &mut Words) {
     )
 }
 
-fn tell_racks(view: &View, line: &mut Words, behind: u8) {
-    let now = sharing(view.ring, view.present.rows.as_slice(), behind);
-    let then = sharing(view.ring, view.scene.last_rows.as_slice(), behind);
+fn tell_racks(view: &View, line: &mut Words, racks: &Labels) {
+    let now = sharing(view.present.rows.as_slice(), racks);
+    let then = sharing(view.scene.last_rows.as_slice(), racks);
     line.text(b"  racks     ");
     push_many(line, now, b"partition has", b"partitions have");
     line.text(b" two slots in one rack now, ");
@@ -366,8 +366,8 @@ fn push_overview(view: &View, out: &mut Words, line: &mut Words) -> Result<(), R
     }
     tell_balance(view, line);
     end_line(out, line, INDENT);
-    if let Some(behind) = view.racks_behind {
-        tell_racks(view, line, behind);
+    if let Some(racks) = view.racks {
+        tell_racks(view, line, racks);
         end_line(out, line, INDENT);
     }
     if !view.scene.joins.is_empty() {

@@ -6,7 +6,7 @@ use crate::names::{push_many, push_quorum};
 use crate::present::Present;
 use crate::span::Span;
 use crate::writing::{end_line, push_left, push_number_right, push_spaces, push_tenths};
-use helpers::{Words, at, parts_of, rack, small};
+use helpers::{Labels, Words, at, parts_of, small};
 use ring_names::Refusal;
 use ring_table::{Allowance, Node, Ring};
 use std::alloc::Global;
@@ -14,19 +14,21 @@ use std::alloc::Global;
 // Behind which column of a line its words begin.
 const INDENT: usize = 12;
 
-// What is said of a ring: its owners, and the byte behind which a node's name names its rack, where racks are asked for.
+// What is said of a ring: its owners, and the racks and aliases of its nodes if they are known.
 #[derive(Clone, Copy)]
 struct Rest<'a> {
     alloc: Global,
     ring: &'a Ring,
     present: &'a Present,
-    racks_behind: Option<u8>,
+    racks: Option<&'a Labels>,
+    aliases: Option<&'a Labels>,
 }
 
-// How wide the columns of names, racks and allowances are.
+// How wide the columns of names, aliases, racks and allowances are.
 #[derive(Clone, Copy)]
 struct Widths {
     names: usize,
+    aliases: usize,
     racks: usize,
     bears: usize,
 }
@@ -55,8 +57,8 @@ fn tell_balance(rest: &Rest, line: &mut Words) {
     push_tenths(line, parts_of(total, count_members(rest), 10))
 }
 
-fn tell_racks(rest: &Rest, line: &mut Words, behind: u8) {
-    let shared = sharing(rest.ring, rest.present.rows.as_slice(), behind);
+fn tell_racks(rest: &Rest, line: &mut Words, racks: &Labels) {
+    let shared = sharing(rest.present.rows.as_slice(), racks);
     line.text(b"  racks     ");
     push_many(line, shared, b"partition has", b"partitions have");
     line.text(b" two slots in one rack");
@@ -98,8 +100,8 @@ fn push_whole(rest: &Rest, out: &mut Words, line: &mut Words) -> Result<(), Refu
     out.byte(b'\n');
     tell_balance(rest, line);
     end_line(out, line, INDENT);
-    if let Some(behind) = rest.racks_behind {
-        tell_racks(rest, line, behind);
+    if let Some(racks) = rest.racks {
+        tell_racks(rest, line, racks);
         end_line(out, line, INDENT);
     }
     tell_one_fails(rest, line)?;
@@ -128,18 +130,23 @@ impl Widths {
     fn of(rest: &Rest, line: &mut Words) -> Widths {
         let mut widths = Widths {
             names: 4,
+            aliases: 5,
             racks: 4,
             bears: 5,
         };
+        let mut number = 0u32;
         for node in rest.ring.nodes() {
-            let own = node.name.as_slice();
-            widths.names = widths.names.max(own.len());
-            if let Some(behind) = rest.racks_behind {
-                widths.racks = widths.racks.max(rack(own, behind).len());
+            widths.names = widths.names.max(node.name.as_slice().len());
+            if let Some(aliases) = rest.aliases {
+                widths.aliases = widths.aliases.max(aliases.name(number).len());
+            }
+            if let Some(racks) = rest.racks {
+                widths.racks = widths.racks.max(racks.name(number).len());
             }
             push_bears(line, node.allowance);
             widths.bears = widths.bears.max(line.len());
             line.clear();
+            number = number.saturating_add(1);
         }
         widths
     }
@@ -148,7 +155,11 @@ impl Widths {
     fn push_head(&self, rest: &Rest, out: &mut Words) {
         push_spaces(out, 4);
         push_left(out, b"node", self.names);
-        if rest.racks_behind.is_some() {
+        if rest.aliases.is_some() {
+            push_spaces(out, 2);
+            push_left(out, b"alias", self.aliases);
+        }
+        if rest.racks.is_some() {
             push_spaces(out, 2);
             push_left(out, b"rack", self.racks);
         }
@@ -157,17 +168,21 @@ impl Widths {
         out.text(b"  state\n");
     }
 
-    // The line of a node with so many slots; the second text is empty, and is so after it.
+    // The line of the node of that number; the second text is empty, and is so after it.
     fn push_row(&self, rest: &Rest, out: &mut Words, line: &mut Words, row: (&Node, u32)) {
-        let (node, slots) = row;
-        let own = node.name.as_slice();
+        let (node, number) = row;
         push_spaces(out, 4);
-        push_left(out, own, self.names);
-        if let Some(behind) = rest.racks_behind {
+        push_left(out, node.name.as_slice(), self.names);
+        if let Some(aliases) = rest.aliases {
             push_spaces(out, 2);
-            push_left(out, rack(own, behind), self.racks);
+            push_left(out, aliases.name(number), self.aliases);
+        }
+        if let Some(racks) = rest.racks {
+            push_spaces(out, 2);
+            push_left(out, racks.name(number), self.racks);
         }
         push_spaces(out, 2);
+        let slots = at(rest.present.owned.as_slice(), number as usize);
         push_number_right(out, slots, 5);
         push_spaces(out, 2);
         push_bears(line, node.allowance);
@@ -182,29 +197,30 @@ impl Widths {
     }
 }
 
-/// The summary of a ring alone: its balance, racks and failures, and a line for each node with its slots, its rack where racks are asked for, how many transfers it
+/// The summary of a ring alone: its balance, racks and failures, and a line for each node with its slots, its alias and its rack if such are known, how many transfers it
 /// bears, and whether it is a member, `in`, or not, `out`. Its only refusal is `OutOfMemory`.
 pub fn ring_summary(
     alloc: Global,
     ring: &Ring,
-    racks_behind: Option<u8>,
+    racks: Option<&Labels>,
+    aliases: Option<&Labels>,
 ) -> Result<Vec<u8>, Refusal> {
     let present = Present::at_rest(alloc, ring)?;
     let rest = Rest {
         alloc,
         ring,
         present: &present,
-        racks_behind,
+        racks,
+        aliases,
     };
     let mut out = Words::new(alloc);
     let mut line = Words::new(alloc);
     push_whole(&rest, &mut out, &mut line)?;
     let widths = Widths::of(&rest, &mut line);
     widths.push_head(&rest, &mut out);
-    let mut number = 0usize;
+    let mut number = 0u32;
     for node in ring.nodes() {
-        let slots = at(present.owned.as_slice(), number);
-        widths.push_row(&rest, &mut out, &mut line, (node, slots));
+        widths.push_row(&rest, &mut out, &mut line, (node, number));
         number = number.saturating_add(1);
     }
     line.end()?;

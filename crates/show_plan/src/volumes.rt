@@ -3,7 +3,7 @@
 use crate::scene::Scene;
 use crate::shown::Shown;
 use crate::writing::width_of;
-use helpers::{at, set_word, word};
+use helpers::{set_word, word};
 use plan_text::{Plan, Step};
 use ring_names::Refusal;
 use ring_table::Ring;
@@ -36,7 +36,7 @@ impl Volumes {
         ring: &Ring,
         plan: &Plan,
         scene: &Scene,
-        sizes: &[u32],
+        sizes: &[u64],
     ) -> Result<Volumes, Refusal> {
         let nodes = ring.nodes().len();
         let mut volumes = Volumes {
@@ -48,7 +48,7 @@ impl Volumes {
             longest: longest(alloc, plan, sizes)?,
         };
         for shown in scene.shown.moves.as_slice() {
-            let size = u64::from(at(sizes, shown.slot.partition as usize));
+            let size = word(sizes, shown.slot.partition as usize);
             volumes.count(scene, shown, size);
         }
         volumes.rounds_width = width_of(volumes.rounds.as_slice(), 4);
@@ -82,7 +82,7 @@ fn add(words: &mut [u64], place: usize, size: u64) {
 }
 
 // The greatest sum of sizes of copies on a path of dependencies.
-fn longest(alloc: Global, plan: &Plan, sizes: &[u32]) -> Result<u64, Refusal> {
+fn longest(alloc: Global, plan: &Plan, sizes: &[u64]) -> Result<u64, Refusal> {
     let mut ends: Vec<u64> = Vec::new(alloc);
     let mut most = 0u64;
     for number in 0..plan.len() {
@@ -91,7 +91,7 @@ fn longest(alloc: Global, plan: &Plan, sizes: &[u32]) -> Result<u64, Refusal> {
             sum = sum.max(word(ends.as_slice(), *before as usize));
         }
         if let Step::Copy(slot, _) = plan.step(number) {
-            sum = sum.saturating_add(u64::from(at(sizes, slot.partition as usize)));
+            sum = sum.saturating_add(word(sizes, slot.partition as usize));
         }
         ends.push(sum)?;
         most = most.max(sum);

@@ -18,6 +18,7 @@ mod said;
 mod spacing;
 mod telling;
 
+pub use near::Nearest;
 pub use page::{Page, Place, Span, cut_line, field, place_of, span_of};
 pub use said::{Said, push_printed};
 pub use telling::tell_text;

@@ -9,8 +9,8 @@ use Rattle.plan_around.proofs.around.around_read.Goals as goal
 pub returns-in-Ok : goal.returns-in-Ok
 returns-in-Ok c =
     let read = c.args.read in
-    let dead = c.args.dead.now in
-    let back = c.args.back in
+    let dead = c.args.asked.dead.now in
+    let back = c.args.asked.back in
     let text = c.in-Ok.text.items in
     let old = c.in_ok-approved.approved.plan in
     let entries = c.as_slice-entries.result.now in

@@ -1,10 +1,12 @@
-use Rattle.std.proofs.Common.{List, ap, subst, ◌∙◌}
+use Rattle.std.proofs.Common.{List, ap, subst, sym, ◌∙◌}
 use Rattle.std.proofs.lemmas.Result.{IfOk-weaker}
 use Rattle.ring_table.specs.Value.{RingValue}
 use Rattle.ring_table.specs.Spelling.{ring_text}
 use Rattle.plan_text.specs.Spelling.{plan_text}
 use Rattle.plan_text.specs.declared.step.Planned.{Planned}
 use Rattle.plan_cert.specs.Spelling.{cert_text}
+use Rattle.plan_runs.specs.declared.event.Entry.{Entry}
+use Rattle.plan_past.specs.Past.{IsSamePast}
 use Rattle.history_text.specs.Spelling.{history_text}
 use Rattle.plan_around.specs.Around.{RunsApart}
 use Rattle.plan_around.proofs.Again.{four}
@@ -17,13 +19,22 @@ returns c =
     let it = c.args.it.now in
     let approved = c.in_ok-approved.approved in
     let same = c.in_ok-approved.ensures.same in
-    let run = subst (λ (r : RingValue). RunsApart r plan it.dead.now it.history.now) same.0 (subst (λ (p : List Planned). RunsApart approved.ring p it.dead.now it.history.now) same.1 c.in_ok-history.ensures.run) in
-    let more = c.as_slice.ensures.value ∙ c.in_ok-history.ensures.text ∙ ap (λ (r : RingValue). history_text r it.writers.now it.history.now) same.0 in
+    let entries = c.as_slice.result.now in
+    let past = subst (λ (h : List Entry). IsSamePast it.back it.old.now.plan plan it.history.now h) (sym c.as_slice.ensures.value)
+    (subst (λ (p : List Planned). IsSamePast it.back it.old.now.plan p it.history.now c.in_ok-entries.entries.items) same.1 c.in_ok-entries.ensures) in
+    let run = subst (λ (r : RingValue). RunsApart r plan it.dead.now entries) same.0 (subst (λ (p : List Planned). RunsApart approved.ring p it.dead.now entries) same.1 c.in_ok-history.ensures.run) in
+    let more = c.as_slice-2.ensures.value ∙ c.in_ok-history.ensures.text ∙ ap (λ (r : RingValue). history_text r it.writers.now entries) same.0 in
     IfOk-weaker c.followed.result _ _
     (λ v is. record {
-      certified = c.in_ok-approved.ensures.certified;
-      keeps = c.in_ok-approved.ensures.keeps;
-      run = run;
-      text = four (ring_text ring) (plan_text ring plan) (cert_text ring it.cert.now) (history_text ring it.writers.now it.history.now) v.items c.in_ok-text.text.items c.as_slice.result.now c.in_ok-text.ensures.text more is;
+      plan = plan;
+      cert = it.cert.now;
+      history = entries;
+      past = past;
+      goes_on = record {
+        certified = c.in_ok-approved.ensures.certified;
+        keeps = c.in_ok-approved.ensures.keeps;
+        run = run;
+        text = four (ring_text ring) (plan_text ring plan) (cert_text ring it.cert.now) (history_text ring it.writers.now entries) v.items c.in_ok-text.text.items c.as_slice-2.result.now c.in_ok-text.ensures.text more is;
+      };
     })
     c.followed.ensures

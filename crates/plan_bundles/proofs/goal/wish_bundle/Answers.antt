@@ -1,4 +1,5 @@
-use Rattle.std.proofs.Common.{◌≡◌, ◌∙◌, List, Some, map, sym, ap, subst}
+use Rattle.std.specs.Global.{Vec}
+use Rattle.std.proofs.Common.{ℕ, ◌≡◌, ◌∙◌, List, Some, map, sym, ap, subst}
 use Rattle.ring_names.specs.Names.{place}
 use Rattle.ring_names.specs.declared.ids.NodeId.{NodeId}
 use Rattle.ring_table.specs.Value.{names_of}
@@ -11,7 +12,8 @@ pub returns : goal.returns
 returns c =
     let w = c.in_ok-ring.field-0 in
     let wanted = c.in_ok-wanted.wanted in
-    let named = ap (λ xs. map (place (names_of w.ring)) (map (λ name. name.items) xs)) (sym c.as_slice.ensures.value) ∙ c.in_ok-nodes.ensures
+    let names = ap (λ (xs : List (Vec ℕ)). map (λ name. name.items) xs) c.as_slice.ensures.value ∙ c.in_ok-dead.ensures in
+    let named = ap (λ (ns : List (List ℕ)). map (place (names_of w.ring)) ns) (sym names) ∙ c.in_ok-nodes.ensures
     ∙ ap (λ (xs : List NodeId). map (λ x. Some x.0) xs) (sym c.as_slice-3.ensures.value) in
     let same : c.as_slice-2.result.now ≡ c.as_slice-3.result.now = c.as_slice-2.ensures.value ∙ sym c.as_slice-3.ensures.value in
     let changed = subst (λ (change : Change). HasChangedMembers w.ring change wanted) c.in_ok-change.ensures c.in_ok-wanted.ensures in
