@@ -1,6 +1,7 @@
 //! What is known of nodes and partitions.
 
 use layout_text::Layout;
+use ring_names::Slot;
 use std::alloc::Global;
 
 /// How the racks of nodes are known.
@@ -14,6 +15,15 @@ pub enum RackRule {
     Behind(u8),
 }
 
+/// What becomes of partitions that have fewer than R live owners.
+#[derive(Clone, Copy, Debug, PartialEq, Eq)]
+pub enum Unreadable {
+    /// No plan is made.
+    Refused,
+    /// Their slots stay with their owners.
+    Left,
+}
+
 /// What planners and summaries are told of nodes and partitions.
 #[derive(Debug, Drop)]
 pub struct Options {
@@ -23,6 +33,9 @@ pub struct Options {
     pub layout: Layout,
     /// The file that has the layout, before it is read.
     pub layout_file: Option<String>,
+    pub unreadable: Unreadable,
+    /// Slots that stay with their owners.
+    pub left: Vec<Slot>,
 }
 
 impl Options {
@@ -33,6 +46,8 @@ impl Options {
             racks: RackRule::Auto,
             layout: Layout::new(alloc),
             layout_file: None,
+            unreadable: Unreadable::Refused,
+            left: Vec::new(alloc),
         }
     }
 }

@@ -95,6 +95,25 @@ pub enum Exit {
     Steps,
 }
 
+/// How much of a plan that has begun is still to be done.
+#[derive(Clone, Copy, Debug, PartialEq, Eq)]
+pub enum Extent {
+    /// All that it has.
+    Whole,
+    /// Only the moves that have begun.
+    Begun,
+}
+
+/// How another plan goes on where one stopped.
+#[derive(Clone, Copy, Debug)]
+pub struct Detour {
+    /// Whether mirrors may be taken back.
+    pub back: Back,
+    pub extent: Extent,
+    /// How much is said of slots that do not go where they were to go: sums by node, or a line for each.
+    pub shape: Shape,
+}
+
 /// What is stated of a bundle as one object of JSON.
 #[derive(Clone, Copy, Debug)]
 pub enum Statement {
@@ -127,8 +146,8 @@ pub enum Making {
     Windows(Cut),
     /// A plan that leads to the ring that is wished for.
     Goal(Exit),
-    /// Another plan around nodes that died in the middle of a change, with the history that goes on by it.
-    Around(Back),
+    /// Another plan for a change that has begun, with the history that goes on by it.
+    Around(Detour),
     /// An object of JSON.
     State(Statement),
 }
