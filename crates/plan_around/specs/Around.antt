@@ -15,7 +15,10 @@ use Rattle.plan_check.specs.Certified.{IsCertified}
 use Rattle.plan_check.specs.Headline.{KeepsPromises}
 use Rattle.history_text.specs.Replays.{Parts, replay_at}
 use Rattle.history_text.specs.Spelling.{history_text}
-use Rattle.ring_core.specs.Replays.{IsHistory}
+use Rattle.ring_core.specs.Replays.{IsHistory, Replays}
+use Rattle.ring_core.specs.World.{ring_of, plan_of}
+use Rattle.ring_core.specs.declared.world.World.{World as Store}
+use Rattle.plan_around.specs.Alike.{LeadAlike}
 use Rattle.plan_runs.specs.declared.back.Back.{Back}
 use Rattle.plan_past.specs.Past.{IsSamePast}
 use Rattle.plan_bundles.specs.Goals.{AreNamed}
@@ -33,12 +36,23 @@ pub record GoesOn (ring : RingValue) (dead : List NodeId) (writers : List (List 
   pub run : RunsApart ring plan dead history
   pub text : bytes ≡ ring_text ring ++ (plan_text ring plan ++ (cert_text ring cert ++ history_text ring writers history))
 
--- the text goes on so by some plan, from a history of the old one, with the same past
+-- the store is in a world to which the history leads by the plan
+pub record IsAfter (ring : RingValue) (plan : List Planned) (history : List Entry) (store : Store) : Type 0 where
+  pub ring : ring_of store ≡ ring
+  pub plan : plan_of store ≡ plan
+  pub replays : Replays ring plan store history
+
+-- whatever history led to the store, it and this one, which is a run of the new plan, lead to worlds that are alike
+abbrev pub LeadsOn : RingValue → Store → List Planned → List Entry → Type 0
+LeadsOn ring store new later = (earlier : List Entry) → Replays ring (plan_of store) store earlier → LeadAlike ring (plan_of store) new earlier later
+
+-- the text goes on so by some plan, from a history that tells what the old one tells and leads to a store like that one
 pub record GoesAround (back : Back) (ring : RingValue) (dead : List NodeId) (writers : List (List ℕ)) (old : List Planned) (earlier : List Entry) (text : List ℕ) : Type 0 where
   pub plan : List Planned
   pub cert : Cert
   pub history : List Entry
   pub past : IsSamePast back old plan earlier history
+  pub stores : LeadAlike ring old plan earlier history
   pub goes_on : GoesOn ring dead writers plan cert history text
 
 -- the bytes are the texts of a ring, a plan, a certificate and a history, which is a run of the plan; and the text goes on from there around the nodes of these names

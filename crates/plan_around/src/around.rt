@@ -4,7 +4,7 @@ ghost use Rattle.std.specs.Prelude.{◌≡◌, ◌≤◌, IfOk, OnOk, length};
 ghost use Rattle.history_text.specs.Replays.{IsReplay};
 ghost use Rattle.ring_core.specs.Replays.{IsHistory};
 ghost use Rattle.plan_bundles.specs.Goals.{dead_names};
-ghost use Rattle.plan_around.specs.Around.{GoesAround, IsAround};
+ghost use Rattle.plan_around.specs.Around.{GoesAround, IsAfter, IsAround};
 
 use crate::ahead::find_ahead;
 use crate::going::{Going, accepted, go_on};
@@ -17,7 +17,7 @@ use plan_bundles::{ask_layout, dead_by, members_by, nodes_of, racks_of};
 use plan_cert::Cert;
 use plan_check::Approved;
 use plan_runs::{Back, Entry};
-use ring_core::replay;
+use ring_core::{World, replay};
 use ring_names::{Names, NodeId, Refusal};
 use ring_table::Ring;
 use std::alloc::Global;
@@ -75,7 +75,8 @@ fn find(it: &Begun) -> Result<Around, Refusal> {
 }
 
 // The text that goes on by the plan that was found: its certificate is that of the old plan if it is that plan, and else one that is found for it.
-fn go_by(it: &Begun, ring: Ring, found: Around) -> Result<Vec<u8>, Refusal>
+fn go_by(it: &Begun, before: &World, ring: Ring, found: Around) -> Result<Vec<u8>, Refusal>
+    requires { IsAfter ring it.now.approved.now.plan it.now.history.now before.now }
     ensures { IfOk result (λ v. GoesAround it.now.asked.back ring it.now.asked.dead.now it.now.writers.now it.now.approved.now.plan it.now.history.now v.items) }
 {
     let Around {
@@ -96,23 +97,24 @@ fn go_by(it: &Begun, ring: Ring, found: Around) -> Result<Vec<u8>, Refusal>
         cert: it.cert,
     };
     if is_same {
-        return go_on(it.alloc, ring, plan, &going);
+        return go_on(it.alloc, ring, plan, &going, before);
     }
     let outcome = certificate(it.alloc, &ring, &plan)?;
     let going = Going {
         cert: &outcome.cert,
         ..going
     };
-    go_on(it.alloc, ring, plan, &going)
+    go_on(it.alloc, ring, plan, &going, before)
 }
 
 // The bundle that goes on from there. Adds what becomes of slots and nodes.
-fn go_around(it: &Begun, ring: Ring, words: &mut Words) -> Result<Vec<u8>, Refusal>
+fn go_around(it: &Begun, before: &World, ring: Ring, words: &mut Words) -> Result<Vec<u8>, Refusal>
+    requires { IsAfter ring it.now.approved.now.plan it.now.history.now before.now }
     ensures { IfOk result (λ v. GoesAround it.now.asked.back ring it.now.asked.dead.now it.now.writers.now it.now.approved.now.plan it.now.history.now v.items) }
 {
     let found = find(it)?;
     words.text(found.words.as_slice());
-    go_by(it, ring, found)
+    go_by(it, before, ring, found)
 }
 
 // The bundle that goes on from one that was read.
@@ -136,7 +138,7 @@ fn around_read(
     let other = ring.copy(alloc)?;
     let approved = accepted(alloc, ring, plan, &cert)?;
     let entries = history.as_slice();
-    follow(alloc, &approved, entries)?;
+    let store = replay(alloc, &approved, entries)?;
     let begun = Begun {
         alloc,
         approved: &approved,
@@ -145,7 +147,7 @@ fn around_read(
         history: entries,
         asked,
     };
-    match go_around(&begun, other, words) {
+    match go_around(&begun, &store, other, words) {
         Ok(text) => Ok(text),
         Err(refusal) => Err(cause(refusal)),
     }

@@ -7,8 +7,10 @@ ghost use Rattle.plan_check.specs.Headline.{KeepsPromises};
 ghost use Rattle.history_text.specs.Known.{AreKnownEntries};
 ghost use Rattle.history_text.specs.Spelling.{history_text};
 ghost use Rattle.plan_past.specs.Past.{IsSamePast};
-ghost use Rattle.plan_around.specs.Around.{GoesAround, RunsApart};
+ghost use Rattle.ring_core.specs.World.{ring_of};
+ghost use Rattle.plan_around.specs.Around.{GoesAround, IsAfter, LeadsOn, RunsApart};
 
+use crate::alike::are_alike;
 use crate::apart::are_apart;
 use crate::retelling::{Retold, retell};
 use history_text::{are_known, push_history};
@@ -18,7 +20,7 @@ use plan_goal::write_front;
 use plan_past::{SamePast, Told, is_same_past};
 use plan_runs::{Back, Entry};
 use plan_text::Plan;
-use ring_core::replay;
+use ring_core::{World, replay};
 use ring_names::{Names, NodeId, Refusal};
 use ring_table::Ring;
 use std::alloc::Global;
@@ -44,39 +46,47 @@ pub(crate) fn accepted(
     }
 }
 
-// Whether the history is a run of the plan that leads to where the dead are asked for nothing more. Refused is what the replay refuses.
-fn runs_apart(
+// Whether the history is a run of the plan that leads to where the dead are asked for nothing more, and to a store like the one before. Refused is what the replay refuses.
+fn runs_on(
     alloc: Global,
     approved: &Approved,
+    before: &World,
     history: &[Entry],
     dead: &[NodeId],
 ) -> Result<bool, Refusal>
-    requires { length history.now ≤ 1000000 }
-    ensures { IfOk result (λ b. IsTrue b → RunsApart approved.now.ring approved.now.plan dead.now history.now) }
+    requires few { length history.now ≤ 1000000 }
+    requires ring { ring_of before.now ≡ approved.now.ring }
+    ensures apart { IfOk result (λ b. IsTrue b → RunsApart approved.now.ring approved.now.plan dead.now history.now) }
+    ensures alike { IfOk result (λ b. IsTrue b → LeadsOn approved.now.ring before.now approved.now.plan history.now) }
 {
     let store = replay(alloc, approved, history)?;
+    if !are_alike(approved.ring(), approved.plan(), before, &store) {
+        return Ok(false);
+    }
     are_apart(alloc, &store, approved.ring(), approved.plan(), dead)
 }
 
-// The text of the history, where it goes on by the plan; else `NoPlan`, or what the replay refuses.
+// The text of the history, if it goes on by the plan; else `NoPlan`, or what the replay refuses.
 fn history_on(
     alloc: Global,
     approved: &Approved,
-    writers: &Names,
+    before: &World,
+    it: &Going,
     history: &[Entry],
-    dead: &[NodeId],
 ) -> Result<Vec<u8>, Refusal>
-    ensures run { OnOk result (RunsApart approved.now.ring approved.now.plan dead.now history.now) }
-    ensures text { IfOk result (λ v. v.items ≡ history_text approved.now.ring writers.now history.now) }
+    requires { ring_of before.now ≡ approved.now.ring }
+    ensures run { OnOk result (RunsApart approved.now.ring approved.now.plan it.now.dead.now history.now) }
+    ensures alike { OnOk result (LeadsOn approved.now.ring before.now approved.now.plan history.now) }
+    ensures text { IfOk result (λ v. v.items ≡ history_text approved.now.ring it.now.writers.now history.now) }
 {
-    if history.len() > MOST || !are_known(approved.ring(), writers, history) {
+    if history.len() > MOST || !are_known(approved.ring(), it.writers, history) {
         return Err(Refusal::NoPlan);
     }
-    if !runs_apart(alloc, approved, history, dead)? {
+    if !runs_on(alloc, approved, before, history, it.dead)? {
         return Err(Refusal::NoPlan);
     }
     let mut out = Vec::new(alloc);
-    push_history(&mut out, approved, writers, history)?;
+    push_history(&mut out, approved, it.writers, history)?;
     Ok(out)
 }
 
@@ -136,9 +146,17 @@ fn past(alloc: Global, it: &Going, new: &Approved) -> Result<Vec<Entry>, Refusal
     Ok(entries)
 }
 
-/// The text of all, if the checker accepts the new plan and the history goes on by it. `NoPlan` if the plan or the certificate is not the ring's, if the history does not
-/// tell what the old one tells, or if the dead are asked for something; else what the checker or the replay refuses.
-pub(crate) fn go_on(alloc: Global, ring: Ring, plan: Plan, it: &Going) -> Result<Vec<u8>, Refusal>
+/// The text of all, if the checker accepts the new plan and the history goes on by it, from a store like the one that the old history leads to. `NoPlan` if the plan or the
+/// certificate is not the ring's, if the history does not tell what the old one tells, if the stores differ, or if the dead are asked for something; else what the checker
+/// or the replay refuses.
+pub(crate) fn go_on(
+    alloc: Global,
+    ring: Ring,
+    plan: Plan,
+    it: &Going,
+    before: &World,
+) -> Result<Vec<u8>, Refusal>
+    requires { IsAfter ring it.now.old.now.plan it.now.history.now before.now }
     ensures { IfOk result (λ v. GoesAround it.now.back ring it.now.dead.now it.now.writers.now it.now.old.now.plan it.now.history.now v.items) }
 {
     if !plan.suits(&ring) || !it.cert.suits(&ring) {
@@ -147,6 +165,6 @@ pub(crate) fn go_on(alloc: Global, ring: Ring, plan: Plan, it: &Going) -> Result
     let text = write_front(alloc, &ring, &plan, it.cert)?;
     let approved = accepted(alloc, ring, plan, it.cert)?;
     let entries = past(alloc, it, &approved)?;
-    let history = history_on(alloc, &approved, it.writers, entries.as_slice(), it.dead)?;
+    let history = history_on(alloc, &approved, before, it, entries.as_slice())?;
     followed(text, history.as_slice())
 }

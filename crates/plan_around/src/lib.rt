@@ -2,6 +2,7 @@
 #![tactic(auto)]
 
 mod ahead;
+mod alike;
 mod apart;
 mod around;
 mod chunks;

@@ -8,7 +8,9 @@ use Rattle.plan_cert.specs.Spelling.{cert_text}
 use Rattle.plan_runs.specs.declared.event.Entry.{Entry}
 use Rattle.plan_past.specs.Past.{IsSamePast}
 use Rattle.history_text.specs.Spelling.{history_text}
-use Rattle.plan_around.specs.Around.{RunsApart}
+use Rattle.ring_core.specs.Replays.{Replays}
+use Rattle.plan_around.specs.Alike.{LeadAlike}
+use Rattle.plan_around.specs.Around.{LeadsOn, RunsApart}
 use Rattle.plan_around.proofs.Again.{four}
 use Rattle.plan_around.proofs.going.go_on.Goals as goal
 
@@ -17,12 +19,15 @@ returns c =
     let ring = c.args.ring in
     let plan = c.args.plan in
     let it = c.args.it.now in
+    let before = c.args.before.now in
     let approved = c.in_ok-approved.approved in
     let same = c.in_ok-approved.ensures.same in
     let entries = c.as_slice.result.now in
     let past = subst (λ (h : List Entry). IsSamePast it.back it.old.now.plan plan it.history.now h) (sym c.as_slice.ensures.value)
     (subst (λ (p : List Planned). IsSamePast it.back it.old.now.plan p it.history.now c.in_ok-entries.entries.items) same.1 c.in_ok-entries.ensures) in
     let run = subst (λ (r : RingValue). RunsApart r plan it.dead.now entries) same.0 (subst (λ (p : List Planned). RunsApart approved.ring p it.dead.now entries) same.1 c.in_ok-history.ensures.run) in
+    let first = subst (λ (p : List Planned). Replays ring p before it.history.now) (sym c.requires.plan) c.requires.replays in
+    let on = subst (λ (r : RingValue). LeadsOn r before plan entries) same.0 (subst (λ (p : List Planned). LeadsOn approved.ring before p entries) same.1 c.in_ok-history.ensures.alike) in
     let more = c.as_slice-2.ensures.value ∙ c.in_ok-history.ensures.text ∙ ap (λ (r : RingValue). history_text r it.writers.now entries) same.0 in
     IfOk-weaker c.followed.result _ _
     (λ v is. record {
@@ -30,6 +35,7 @@ returns c =
       cert = it.cert.now;
       history = entries;
       past = past;
+      stores = subst (λ (p : List Planned). LeadAlike ring p plan it.history.now entries) c.requires.plan (on it.history.now first);
       goes_on = record {
         certified = c.in_ok-approved.ensures.certified;
         keeps = c.in_ok-approved.ensures.keeps;
