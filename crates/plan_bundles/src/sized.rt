@@ -44,8 +44,8 @@ fn is_flagged(flags: &[bool], place: usize) -> bool
     }
 }
 
-// The owners of the partition's slots.
-fn row_at(rows: &[Listed<NodeId>], partition: usize) -> &[NodeId]
+/// The owners of the partition's slots.
+pub(crate) fn row_at(rows: &[Listed<NodeId>], partition: usize) -> &[NodeId]
     ensures { result.now ≡ row_at rows.now partition }
 {
     match rows.get(partition) {

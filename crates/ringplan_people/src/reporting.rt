@@ -7,7 +7,7 @@ ghost use Rattle.ringplan_people.specs.Why.{IsWhy};
 
 use crate::after::{after_bundle, push_open};
 use crate::cert::{cert_of, push_why_none};
-use crate::goal_words::{push_dead_leavers, push_goal_words};
+use crate::goal_words::{push_dead_leavers, push_goal_words, push_left};
 use crate::racks::{is_of_options, push_misfits, push_racks};
 use crate::show::{draw_bundle, show_bundle};
 use crate::stating::state_bundle;
@@ -50,6 +50,7 @@ fn make_goal(
     let found = led_bundle(alloc, bytes, options)?;
     push_racks(alloc, &mut notes.words, bytes, &found.approved, options)?;
     push_dead_leavers(alloc, &mut notes.words, bytes, options)?;
+    push_left(alloc, &mut notes.words, bytes, options)?;
     notes.has_steps = found.approved.plan().len() > 0;
     if !notes.has_steps {
         notes.words.text(b"ringplan: the plan has no steps: the ring is as wanted already\n");
