@@ -6,6 +6,7 @@ mod alike;
 mod apart;
 mod around;
 mod chunks;
+mod ending;
 mod going;
 mod over;
 mod retelling;

@@ -22,5 +22,5 @@ pub use racks::{
 pub use rings::ring_after;
 pub use room::MAX_WINDOWS;
 pub use sections::{Kind, front, kind_of};
-pub use sized::{has_sizes, sizes_of};
+pub use sized::{has_sizes, is_flagged, row_at, sizes_of};
 pub use windows::cut_plan;
