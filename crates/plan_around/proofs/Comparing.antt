@@ -11,11 +11,15 @@ use Rattle.plan_text.specs.declared.step.Planned.{Planned}
 use Rattle.plan_text.specs.Valid.{is_ring_slot}
 use Rattle.plan_runs.specs.World.{World as TheWorld}
 use Rattle.plan_runs.specs.declared.event.Entry.{Entry}
-use Rattle.ring_core.specs.World.{ring_of, plan_of}
+use Rattle.ring_core.specs.World.{ring_of, plan_of, Meets}
 use Rattle.ring_core.specs.Replays.{Replays}
 use Rattle.ring_core.proofs.SlotOwners.{in_ring}
 use Rattle.ring_core.specs.declared.world.World.{World}
 use Rattle.plan_around.specs.Alike.{last_step, AreAlike, InBoth, LeadAlike}
+use Rattle.plan_around.specs.Around.{LeadsWell}
+use Rattle.plan_around.specs.Ends.{EndsWell}
+use Rattle.plan_runs.specs.declared.back.Back.{Back}
+use Rattle.ringplan_job.specs.declared.making.Extent.{Extent}
 
 -- nodes of one number are one
 pub same_node : (x y : NodeId) → x.0 ≡ y.0 → x ≡ y
@@ -49,6 +53,11 @@ led ring old new a b earlier later ra pa rb pb alike first second =
         (subst (λ (p : List Planned). AreAlike (ring_of a) p w ring new u) pa
         (subst (λ (s : RingValue). AreAlike (ring_of a) (plan_of a) w s new u) rb
         (subst (λ (q : List Planned). AreAlike (ring_of a) (plan_of a) w (ring_of b) q u) pb h)))
+
+-- a history that leads to a store leads to a world from which a plan ends well, if it does so from each world that the store may be in
+pub led_well : (extent : Extent) (back : Back) (ring : RingValue) (old new : List Planned) (a : World) (dead : List NodeId) (left : List Slot) (earlier : List Entry)
+    → Replays ring old a earlier → ((w : TheWorld) → Meets a w → EndsWell extent back ring old w new dead left) → LeadsWell extent back ring old new dead left earlier
+led_well extent back ring old new a dead left earlier first well = ∥∥₁_map first (λ x. (x.0, x.2, well x.0 x.1))
 
 -- the slot of a put is the ring's
 pub put_in_ring : (ring : RingValue) (slot : Slot) (i : ℕ) → slot.partition < ring.q → slot.index ≡ i → i < ring.n → is_ring_slot ring slot ≡ true

@@ -10,7 +10,11 @@ use Rattle.plan_past.specs.Past.{IsSamePast}
 use Rattle.history_text.specs.Spelling.{history_text}
 use Rattle.ring_core.specs.Replays.{Replays}
 use Rattle.plan_around.specs.Alike.{LeadAlike}
+use Rattle.plan_runs.specs.World.{World as TheWorld}
+use Rattle.ring_core.specs.World.{Meets}
 use Rattle.plan_around.specs.Around.{LeadsOn, RunsApart}
+use Rattle.plan_around.specs.Ends.{EndsWell}
+use Rattle.plan_around.proofs.Comparing.{led_well}
 use Rattle.plan_around.proofs.Again.{four}
 use Rattle.plan_around.proofs.going.go_on.Goals as goal
 
@@ -26,8 +30,10 @@ returns c =
     let past = subst (λ (h : List Entry). IsSamePast it.back it.old.now.plan plan it.history.now h) (sym c.as_slice.ensures.value)
     (subst (λ (p : List Planned). IsSamePast it.back it.old.now.plan p it.history.now c.in_ok-entries.entries.items) same.1 c.in_ok-entries.ensures) in
     let run = subst (λ (r : RingValue). RunsApart r plan it.dead.now entries) same.0 (subst (λ (p : List Planned). RunsApart approved.ring p it.dead.now entries) same.1 c.in_ok-history.ensures.run) in
-    let first = subst (λ (p : List Planned). Replays ring p before it.history.now) (sym c.requires.plan) c.requires.replays in
+    let first = subst (λ (p : List Planned). Replays ring p before it.history.now) (sym c.requires.after.plan) c.requires.after.replays in
     let on = subst (λ (r : RingValue). LeadsOn r before plan entries) same.0 (subst (λ (p : List Planned). LeadsOn approved.ring before p entries) same.1 c.in_ok-history.ensures.alike) in
+    let well = subst (λ (r : RingValue). (w : TheWorld) → Meets before w → EndsWell it.extent it.back r it.old.now.plan w plan it.dead.now it.left.now) c.requires.same
+    (subst (λ (p : List Planned). (w : TheWorld) → Meets before w → EndsWell it.extent it.back it.old.now.ring it.old.now.plan w p it.dead.now it.left.now) same.1 c.in_ok-ask_ends.ensures) in
     let more = c.as_slice-2.ensures.value ∙ c.in_ok-history.ensures.text ∙ ap (λ (r : RingValue). history_text r it.writers.now entries) same.0 in
     IfOk-weaker c.followed.result _ _
     (λ v is. record {
@@ -35,7 +41,8 @@ returns c =
       cert = it.cert.now;
       history = entries;
       past = past;
-      stores = subst (λ (p : List Planned). LeadAlike ring p plan it.history.now entries) c.requires.plan (on it.history.now first);
+      stores = subst (λ (p : List Planned). LeadAlike ring p plan it.history.now entries) c.requires.after.plan (on it.history.now first);
+      ends = led_well it.extent it.back ring it.old.now.plan plan before it.dead.now it.left.now it.history.now c.requires.after.replays well;
       goes_on = record {
         certified = c.in_ok-approved.ensures.certified;
         keeps = c.in_ok-approved.ensures.keeps;
