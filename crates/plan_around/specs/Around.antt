@@ -1,5 +1,5 @@
 -- A plan around the dead, and the history that goes on by it.
-use Rattle.std.specs.Prelude.{◌≡◌, ℕ, List, ◌++◌, Ok}
+use Rattle.std.specs.Prelude.{◌≡◌, ℕ, List, [], ◌∷◌, ◌++◌, Ok}
 use Rattle.ring_names.specs.declared.ids.NodeId.{NodeId}
 use Rattle.ring_names.specs.declared.ids.Slot.{Slot}
 use Rattle.texts.specs.Left.{whole_text}
@@ -21,6 +21,7 @@ use Rattle.ring_core.specs.World.{ring_of, plan_of}
 use Rattle.ring_core.specs.declared.world.World.{World as Store}
 use Rattle.plan_around.specs.Alike.{LeadAlike}
 use Rattle.plan_runs.specs.declared.back.Back.{Back}
+use Rattle.plan_runs.specs.declared.back.Back.TheVariants.{Allowed}
 use Rattle.plan_past.specs.Past.{IsSamePast}
 use Rattle.plan_bundles.specs.Goals.{AreNamed, dead_names}
 use Rattle.change_text.specs.declared.options.Options.{Options}
@@ -66,6 +67,11 @@ pub record GoesAround (extent : Extent) (back : Back) (ring : RingValue) (dead :
   pub ends : LeadsWell extent back ring old plan dead left earlier
   pub goes_on : GoesOn ring dead writers plan cert history text
 
+-- whether mirrors may be taken back: also if a slot is to stay with its owner
+abbrev pub back_with : List Slot → Back → Back
+back_with [] back = back
+back_with (slot ∷ slots) back = Allowed
+
 -- the bytes are the texts of a ring, a plan, a certificate and a history, which is a run of the plan; and the text goes on from there as the options ask
 pub record IsAround (bytes : List ℕ) (options : Options) (detour : Detour) (text : List ℕ) : Type 0 where
   pub parts : Parts
@@ -73,4 +79,4 @@ pub record IsAround (bytes : List ℕ) (options : Options) (detour : Detour) (te
   pub dead : List NodeId
   pub named : AreNamed parts.0 (dead_names options) dead
   pub earlier : IsHistory parts.0 parts.1.0 parts.1.1.1.0
-  pub around : GoesAround detour.extent detour.back parts.0 dead options.left.items parts.1.1.1.1 parts.1.0 parts.1.1.1.0 text
+  pub around : GoesAround detour.extent (back_with options.left.items detour.back) parts.0 dead options.left.items parts.1.1.1.1 parts.1.0 parts.1.1.1.0 text

@@ -3,8 +3,7 @@
 ghost use Rattle.std.specs.Prelude.{◌≡◌, ◌≤◌, IfOk, OnOk, length};
 ghost use Rattle.history_text.specs.Replays.{IsReplay};
 ghost use Rattle.ring_core.specs.Replays.{IsHistory};
-ghost use Rattle.plan_bundles.specs.Goals.{dead_names};
-ghost use Rattle.plan_around.specs.Around.{GoesAround, IsAfter, IsAround};
+ghost use Rattle.plan_around.specs.Around.{GoesAround, IsAfter, IsAround, back_with};
 
 use crate::ahead::find_ahead;
 use crate::going::{Going, accepted, go_on};
@@ -18,15 +17,18 @@ use plan_cert::Cert;
 use plan_check::Approved;
 use plan_runs::{Back, Entry};
 use ring_core::{World, replay};
-use ring_names::{Names, NodeId, Refusal};
+use ring_names::{Names, NodeId, Refusal, Slot};
 use ring_table::Ring;
+use ringplan_job::Detour;
 use std::alloc::Global;
 
-// The nodes that are dead from here on, the racks of nodes if they are known, and whether mirrors may be taken back.
+// The nodes that are dead from here on, the racks of nodes if they are known, the slots that stay with their owners, how the plan goes on, and whether mirrors may be taken back.
 #[derive(Clone, Copy)]
 struct Asked<'a> {
     dead: &'a [NodeId],
     racks: Option<&'a Labels>,
+    left: &'a [Slot],
+    detour: Detour,
     back: Back,
 }
 
@@ -69,15 +71,19 @@ fn find(it: &Begun) -> Result<Around, Refusal> {
         history: it.history,
         dead: it.asked.dead,
         ahead: ahead.as_slice(),
+        extent: it.asked.detour.extent,
+        left: it.asked.left,
         racks: it.asked.racks,
         back: it.asked.back,
+        shape: it.asked.detour.shape,
     })
 }
 
 // The text that goes on by the plan that was found: its certificate is that of the old plan if it is that plan, and else one that is found for it.
 fn go_by(it: &Begun, before: &World, ring: Ring, found: Around) -> Result<Vec<u8>, Refusal>
-    requires { IsAfter ring it.now.approved.now.plan it.now.history.now before.now }
-    ensures { IfOk result (λ v. GoesAround it.now.asked.back ring it.now.asked.dead.now it.now.writers.now it.now.approved.now.plan it.now.history.now v.items) }
+    requires after { IsAfter ring it.now.approved.now.plan it.now.history.now before.now }
+    requires same { it.now.approved.now.ring ≡ ring }
+    ensures { IfOk result (λ v. GoesAround it.now.asked.detour.extent it.now.asked.back ring it.now.asked.dead.now it.now.asked.left.now it.now.writers.now it.now.approved.now.plan it.now.history.now v.items) }
 {
     let Around {
         plan,
@@ -91,7 +97,9 @@ fn go_by(it: &Begun, before: &World, ring: Ring, found: Around) -> Result<Vec<u8
         history: it.history,
         writers: it.writers,
         dead: it.asked.dead,
+        left: it.asked.left,
         back: it.asked.back,
+        extent: it.asked.detour.extent,
         numbers: numbers.as_slice(),
         olds: olds.as_slice(),
         cert: it.cert,
@@ -109,8 +117,9 @@ fn go_by(it: &Begun, before: &World, ring: Ring, found: Around) -> Result<Vec<u8
 
 // The bundle that goes on from there. Adds what becomes of slots and nodes.
 fn go_around(it: &Begun, before: &World, ring: Ring, words: &mut Words) -> Result<Vec<u8>, Refusal>
-    requires { IsAfter ring it.now.approved.now.plan it.now.history.now before.now }
-    ensures { IfOk result (λ v. GoesAround it.now.asked.back ring it.now.asked.dead.now it.now.writers.now it.now.approved.now.plan it.now.history.now v.items) }
+    requires after { IsAfter ring it.now.approved.now.plan it.now.history.now before.now }
+    requires same { it.now.approved.now.ring ≡ ring }
+    ensures { IfOk result (λ v. GoesAround it.now.asked.detour.extent it.now.asked.back ring it.now.asked.dead.now it.now.asked.left.now it.now.writers.now it.now.approved.now.plan it.now.history.now v.items) }
 {
     let found = find(it)?;
     words.text(found.words.as_slice());
@@ -125,7 +134,7 @@ fn around_read(
     words: &mut Words,
 ) -> Result<Vec<u8>, Refusal>
     requires { IsReplay read }
-    ensures { IfOk result (λ v. GoesAround asked.back read.ring asked.dead.now read.writers read.plan read.history.items v.items
+    ensures { IfOk result (λ v. GoesAround asked.detour.extent asked.back read.ring asked.dead.now asked.left.now read.writers read.plan read.history.items v.items
         × IsHistory read.ring read.plan read.history.items) }
 {
     let ReplayBundle {
@@ -153,6 +162,13 @@ fn around_read(
     }
 }
 
+// Whether mirrors may be taken back: also if a slot is to stay with its owner.
+fn back_with(left: &[Slot], back: Back) -> Back
+    ensures { result ≡ back_with left.now back }
+{
+    if left.is_empty() { back } else { Back::Allowed }
+}
+
 /// Makes the bundle that goes on where one stopped, around the nodes that are dead by the options: its ring, another plan, a certificate, and the history by that plan. An
 /// executor goes on with it: what it holds of a step it finds by the step's kind, partition, slot and node. Adds line by line to `words` what becomes of slots and nodes
 /// that do not go where they were to go; if there is no such bundle, what is added says nothing.
@@ -164,10 +180,10 @@ pub fn around_bundle(
     alloc: Global,
     bytes: &[u8],
     options: &Options,
-    back: Back,
+    detour: Detour,
     words: &mut Words,
 ) -> Result<Vec<u8>, Refusal>
-    ensures around { IfOk result (λ v. IsAround bytes.now (dead_names options.now) back v.items) }
+    ensures around { IfOk result (λ v. IsAround bytes.now options.now detour v.items) }
 {
     let read = read_replay(alloc, bytes)?;
     ask_layout(&read.ring, &options.layout)?;
@@ -175,10 +191,13 @@ pub fn around_bundle(
     let nodes = nodes_of(alloc, &read.ring, names.as_slice())?;
     let members = members_by(alloc, &read.ring, &read.plan)?;
     let racking = racks_of(alloc, &read.ring, members.as_slice(), options)?;
+    let left = options.left.as_slice();
     let asked = Asked {
         dead: nodes.as_slice(),
         racks: racking.racks.as_ref(),
-        back,
+        left,
+        detour,
+        back: back_with(left, detour.back),
     };
     racking.push(words);
     around_read(alloc, read, asked, words)

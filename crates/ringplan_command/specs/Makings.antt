@@ -26,6 +26,8 @@ use Rattle.ringplan_job.specs.declared.making.Statement.TheVariants as stated
 use Rattle.ringplan_job.specs.declared.making.Wish.{Wish}
 use Rattle.change_text.specs.declared.options.Options.{Options}
 use Rattle.change_text.specs.declared.options.RackRule.{RackRule}
+use Rattle.change_text.specs.declared.options.Unreadable.{Unreadable}
+use Rattle.change_text.specs.declared.options.Unreadable.TheVariants.{Left, Refused}
 use Rattle.change_text.specs.declared.options.RackRule.TheVariants.{Auto as AutoRacks, Off as NoRacks, Behind}
 
 -- the text of a form of answers, but for `text`, which is also the form if none is named
@@ -88,6 +90,10 @@ abbrev pub MeansExit : List Row → Exit → Type 0
 MeansExit rows StepsExit = IsSet (codes "exit-code") rows
 MeansExit rows Printed = IsUnset (codes "exit-code") rows
 
+abbrev pub MeansUnreadable : List Row → Unreadable → Type 0
+MeansUnreadable rows Left = IsSet (codes "partial") rows
+MeansUnreadable rows Refused = IsUnset (codes "partial") rows
+
 abbrev pub MeansBack : List Row → Back → Type 0
 MeansBack rows Allowed = IsSet (codes "back") rows
 MeansBack rows NoBack = IsUnset (codes "back") rows
@@ -112,7 +118,7 @@ MeansCut rows cut = IsCount 1000000 1 (one_of (codes "rounds") rows) cut.rounds 
 abbrev pub MeansStatement : List Row → Statement → Options → Type 0
 MeansStatement rows stated.Why options = ⊤
 MeansStatement rows (stated.Show wish) options = MeansWish rows wish × MeansKnown rows options
-MeansStatement rows (stated.Goal exit) options = MeansExit rows exit × MeansKnown rows options
+MeansStatement rows (stated.Goal exit) options = MeansExit rows exit × MeansKnown rows options × MeansUnreadable rows options.unreadable
 
 -- the making is what the options of the line ask for, by what they say of nodes and partitions
 abbrev pub MeansMaking : List Row → Making → Options → Type 0
@@ -124,6 +130,6 @@ MeansMaking rows (Draw shown) options = MeansPicture rows shown × MeansKnown ro
 MeansMaking rows Steps options = IsUnset (codes "moves") rows × MeansKnown rows options
 MeansMaking rows Moves options = IsSet (codes "moves") rows × MeansKnown rows options
 MeansMaking rows (Windows cut) options = MeansCut rows cut × MeansKnown rows options
-MeansMaking rows (Goal exit) options = InWords rows × MeansExit rows exit × MeansKnown rows options
+MeansMaking rows (Goal exit) options = InWords rows × MeansExit rows exit × MeansKnown rows options × MeansUnreadable rows options.unreadable
 MeansMaking rows (Around detour) options = MeansDetour rows detour options × MeansKnown rows options
 MeansMaking rows (State statement) options = InJson rows × MeansStatement rows statement options

@@ -126,6 +126,9 @@ pub(crate) const LEAVE: &str =
 pub(crate) const ALL_SLOTS: &str =
     "Says in a line for each slot what becomes of it; without it only how many slots there are at each node";
 
+pub(crate) const PARTIAL: &str =
+    "Plans the rest if partitions cannot be read, since fewer than R of their owners live: the slots of these stay as they are";
+
 pub(crate) const EXIT_CODE: &str =
     "Ends with status 4 where the plan that is printed has steps, and with 0 where it has none";
 

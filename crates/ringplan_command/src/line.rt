@@ -4,7 +4,7 @@ ghost use Rattle.std.specs.Prelude.{◌≡◌, IfOk, IfSome, MatchOption, Some, 
 ghost use Rattle.change_text.specs.declared.options.RackRule.{RackRule as TheRule};
 ghost use Rattle.clap.specs.Words.{first_of, found_of, rows_of};
 ghost use Rattle.ringplan_command.specs.Command.{IsOfWord, IsTurnedAway};
-ghost use Rattle.ringplan_command.specs.Makings.{HasNoRacks, MeansBack, MeansColor, MeansExit, MeansExtent, MeansKnown, MeansPicture, MeansRacks, MeansShape, MeansWish, left_texts};
+ghost use Rattle.ringplan_command.specs.Makings.{HasNoRacks, MeansBack, MeansColor, MeansExit, MeansExtent, MeansKnown, MeansPicture, MeansRacks, MeansShape, MeansUnreadable, MeansWish, left_texts};
 ghost use Rattle.ringplan_command.specs.Slots.{AreSlots};
 
 use crate::command::{Format, Request, format_of};
@@ -227,15 +227,17 @@ fn windows_line(alloc: Global, matches: &ArgMatches) -> Result<Request, AllocErr
 fn goal_line(alloc: Global, matches: &ArgMatches) -> Result<Request, AllocError>
     ensures { IfOk result (IsOfWord Word.Goal (rows_of (found_of matches.now))) }
 {
-    let Some(options) = known_of(alloc, matches)? else {
+    let Some(mut options) = known_of(alloc, matches)? else {
         return mistaken(alloc, NO_RACKS);
     };
+    options.unreadable = unreadable_of(matches);
     goal_of(alloc, matches, options)
 }
 
 // A plan that leads to the goal ring, as text or JSON.
 fn goal_of(alloc: Global, matches: &ArgMatches, options: Options) -> Result<Request, AllocError>
-    requires { MeansKnown (rows_of (found_of matches.now)) options }
+    requires known { MeansKnown (rows_of (found_of matches.now)) options }
+    requires unreadable { MeansUnreadable (rows_of (found_of matches.now)) options.unreadable }
     ensures { IfOk result (IsOfWord Word.Goal (rows_of (found_of matches.now))) }
 {
     let exit = exit_of(matches);
@@ -244,6 +246,16 @@ fn goal_of(alloc: Global, matches: &ArgMatches, options: Options) -> Result<Requ
         Format::Json => Ok(Request::Make(Making::State(Statement::Goal(exit)), options)),
         Format::Unknown => mistaken(alloc, NO_FORMAT),
     }
+}
+
+// What becomes of partitions that cannot be read.
+fn unreadable_of(matches: &ArgMatches) -> Unreadable
+    ensures { MeansUnreadable (rows_of (found_of matches.now)) result }
+{
+    if is_set(matches, "partial") {
+        return Unreadable::Left;
+    }
+    Unreadable::Refused
 }
 
 // What a line with the word `around` asks for.

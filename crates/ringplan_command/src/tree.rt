@@ -11,8 +11,8 @@ use crate::help::{
     CHECK, CHECK_STREAMS, COLOR, COMPLETIONS, COMPLETIONS_STREAMS, DEAD, DRAW, DRAW_STREAMS, DRIVE,
     DRIVE_STREAMS, DRIVERS, ENTRY, EXIT_CODE, FILE, FORMAT, GOAL, GOAL_STREAMS, GONE, LAYOUT,
     LEAVE, MANUAL, MANUAL_STREAMS, MAP, MIGRATE, MIGRATE_STREAMS, MORE, MOVES, OF, ONLY, OUTPUT,
-    PART, PART_NUMBER, PART_STREAMS, PARTITIONS, PLAN, PLAN_STREAMS, PLAY, PLAY_STREAMS, RACKS,
-    RATE, REPLAY, REPLAY_STREAMS, REPORT, REST, ROUNDS, SHELL, SHOW, SHOW_STREAMS, STEPS,
+    PART, PART_NUMBER, PART_STREAMS, PARTIAL, PARTITIONS, PLAN, PLAN_STREAMS, PLAY, PLAY_STREAMS,
+    RACKS, RATE, REPLAY, REPLAY_STREAMS, REPORT, REST, ROUNDS, SHELL, SHOW, SHOW_STREAMS, STEPS,
     STEPS_STREAMS, STREAMS, VERSION, WHY, WHY_STREAMS, WINDOWS, WINDOWS_STREAMS, WORKERS,
 };
 use clap::{Arg, ArgAction, Command, value_parser};
@@ -262,6 +262,7 @@ fn goal<'a>(alloc: Global) -> Made<'a>
     ensures { IfOk result (IsApp goal_app) }
 {
     let command = known(alloc, job(alloc, "goal", GOAL, GOAL_STREAMS), DEAD);
+    let command = with_arg(command, flag(alloc, "partial", PARTIAL));
     let command = with_arg(command, flag(alloc, "exit-code", EXIT_CODE));
     with_arg(command, option(alloc, "format", "FORMAT", FORMAT))
 }

@@ -21,7 +21,7 @@ pub returns-in-Ok : goal.returns-in-Ok
 returns-in-Ok c =
     let read = c.args.read in
     let dead = c.args.asked.dead.now in
-    let back = c.args.asked.detour.back in
+    let back = c.args.asked.back in
     let extent = c.args.asked.detour.extent in
     let left = c.args.asked.left.now in
     let text = c.in-Ok.text.items in
