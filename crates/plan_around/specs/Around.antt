@@ -1,6 +1,7 @@
 -- A plan around the dead, and the history that goes on by it.
-use Rattle.std.specs.Prelude.{◌≡◌, ℕ, List, ◌++◌, Ok}
+use Rattle.std.specs.Prelude.{◌≡◌, ℕ, List, [], ◌∷◌, ◌++◌, Ok}
 use Rattle.ring_names.specs.declared.ids.NodeId.{NodeId}
+use Rattle.ring_names.specs.declared.ids.Slot.{Slot}
 use Rattle.texts.specs.Left.{whole_text}
 use Rattle.ring_table.specs.Value.{RingValue}
 use Rattle.ring_table.specs.Spelling.{ring_text}
@@ -17,6 +18,7 @@ use Rattle.history_text.specs.Replays.{Parts, replay_at}
 use Rattle.history_text.specs.Spelling.{history_text}
 use Rattle.ring_core.specs.Replays.{IsHistory}
 use Rattle.plan_runs.specs.declared.back.Back.{Back}
+use Rattle.plan_runs.specs.declared.back.Back.TheVariants.{Allowed}
 use Rattle.plan_past.specs.Past.{IsSamePast}
 use Rattle.plan_bundles.specs.Goals.{AreNamed}
 use Rattle.plan_around.specs.Apart.{AreApart}
@@ -40,6 +42,11 @@ pub record GoesAround (back : Back) (ring : RingValue) (dead : List NodeId) (wri
   pub history : List Entry
   pub past : IsSamePast back old plan earlier history
   pub goes_on : GoesOn ring dead writers plan cert history text
+
+-- whether mirrors may be taken back: also if a slot is to stay with its owner
+abbrev pub back_with : List Slot → Back → Back
+back_with [] back = back
+back_with (slot ∷ slots) back = Allowed
 
 -- the bytes are the texts of a ring, a plan, a certificate and a history, which is a run of the plan; and the text goes on from there around the nodes of these names
 pub record IsAround (bytes : List ℕ) (names : List (List ℕ)) (back : Back) (text : List ℕ) : Type 0 where
