@@ -181,15 +181,15 @@ fn ask_ends(alloc: Global, it: &Going, before: &World, new: &Approved) -> Result
 /// asked for something; otherwise what the checker or the replay refuses.
 pub(crate) fn go_on(
     alloc: Global,
-    ring: Ring,
     plan: Plan,
     it: &Going,
     before: &World,
 ) -> Result<Vec<u8>, Refusal>
-    requires after { IsAfter ring it.now.old.now.plan it.now.history.now before.now }
-    requires same { it.now.old.now.ring ≡ ring }
-    ensures { IfOk result (λ v. GoesAround it.now.extent it.now.back ring it.now.dead.now it.now.left.now it.now.writers.now it.now.old.now.plan it.now.history.now v.items) }
+    requires { IsAfter it.now.old.now.ring it.now.old.now.plan it.now.history.now before.now }
+    ensures { IfOk result (λ v. GoesAround it.now.extent it.now.back it.now.old.now.ring it.now.dead.now it.now.left.now it.now.writers.now it.now.old.now.plan
+        it.now.history.now v.items) }
 {
+    let ring = it.old.ring().copy(alloc)?;
     if !plan.suits(&ring) || !it.cert.suits(&ring) {
         return Err(Refusal::NoPlan);
     }
