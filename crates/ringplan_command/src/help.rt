@@ -345,9 +345,9 @@ Example: ringplan show examples/plan_grow.bundle
 
 Input: a bundle: a ring with a change, or with a plan and its certificate, and perhaps a history.
 Standard output: who joins and leaves, what moves in how many rounds, what becomes of balance, racks and failures, the nodes that take part, and the
-copies of each round; with a history who is down, and what is done, open and next. Of a ring alone each node with its slots, allowance and state.
-If the layout has sizes, how much moves in all, by node and by round, and the most that copies which wait for one another have. With `--rate` also the
-second in which the plan ends at the earliest.
+copies of each round; with a history what is done, open and next; and who is dead or down. Of a ring alone each node with its alias, rack, state, slots,
+size and allowance. If the layout has sizes, how much moves in all, by node and by round, and the most that copies which wait for one another have. With
+`--rate` also when the plan ends at the earliest; with a history both are of what is left.
 Partitions, slots, steps and rounds are numbers; `5.1` is slot 1 of partition 5.
 
 Exit status: 0 printed, 1 no plan, one that is refused, or a history that is no run, 2 a text or the command line is refused, 3 memory, input or output";
@@ -357,8 +357,9 @@ Example: ringplan draw examples/plan_grow.bundle -o plan.svg
 
 Input: a bundle: a ring with a change, or with a plan and its certificate, and perhaps a history.
 Standard output: an SVG file that needs no other: a row for each node that takes part, a column for each round, a bar for each copy, which shows its
-step under a pointer; with a history what is copied, open and still to do, and who is down. Above 40 rounds or 90 copies side by side columns and
-rows are summed. With `--map` a row is a partition and a column a node: grey is owned before and after, orange given, blue taken.
+step under a pointer; with a history what is copied, open and still to do. The names of nodes that are dead or down are crossed out. If the layout has
+sizes, how much each node gives and takes. Above 40 rounds or 90 copies side by side columns and rows are summed. With `--map` a row is a partition and
+a column a node: grey is owned before and after, orange given, blue taken.
 
 Exit status: 0 printed, 1 no plan, one that is refused, or a history that is no run, 2 a text or the command line is refused, 3 memory, input or output";
 
