@@ -18,7 +18,6 @@ use plan_check::Approved;
 use plan_runs::{Back, Entry};
 use ring_core::{World, replay};
 use ring_names::{Names, NodeId, Refusal, Slot};
-use ring_table::Ring;
 use ringplan_job::Detour;
 use std::alloc::Global;
 
