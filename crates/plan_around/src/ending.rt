@@ -100,7 +100,8 @@ fn has_dead_target(plan: &Plan, dead: &Dead, slot: Slot) -> bool
 fn has_dead_targets(it: &Endings, dead: &Dead, partition: u32) -> bool
     ensures { IsTrue result → (ring : RingValue) (w : TheWorld) → IsTouched ring it.now.old.now w dead.now.nodes.now partition }
 {
-    for index in 0..it.ring.n() {
+    let slots = it.ring.n();
+    for index in 0..slots {
         if has_dead_target(it.old, dead, Slot { partition, index }) {
             return true;
         }
@@ -186,7 +187,8 @@ fn row_ends(it: &Endings, ended: &Ended, partition: u32) -> bool
     requires partition { partition < it.now.ring.now.q }
     ensures { IsTrue result → (i : ℕ) → i < it.now.ring.now.n → SlotEnds it.now partition i }
 {
-    for index in 0..it.ring.n() {
+    let slots = it.ring.n();
+    for index in 0..slots {
         if !ends_at(it, ended, partition, index) {
             return false;
         }
@@ -199,7 +201,8 @@ fn slots_end(it: &Endings, ended: &Ended) -> bool
     requires { AreEnds it.now ended.now }
     ensures { IsTrue result → (p : ℕ) → p < it.now.ring.now.q → (i : ℕ) → i < it.now.ring.now.n → SlotEnds it.now p i }
 {
-    for partition in 0..it.ring.q() {
+    let q = it.ring.q();
+    for partition in 0..q {
         if !row_ends(it, ended, partition) {
             return false;
         }
@@ -214,7 +217,8 @@ fn mark_owners(it: &Endings, ended: &Ended, partition: u32, marks: &mut Vec<bool
     requires marks { HoldsIn it.now marks.old.items }
     ensures { HoldsIn it.now marks.new.items }
 {
-    for index in 0..it.ring.n() {
+    let slots = it.ring.n();
+    for index in 0..slots {
         let slot = Slot { partition, index };
         let node = ended.new.at(it.ring, slot).owner;
         mark(marks, node.0);
@@ -252,7 +256,8 @@ fn holders(alloc: Global, it: &Endings, ended: &Ended) -> Result<Vec<bool>, Refu
     ensures { IfOk result (λ marks. HoldsIn it.now marks.items) }
 {
     let mut marks = vec![in alloc; false; it.ring.nodes().len()]?;
-    for partition in 0..it.ring.q() {
+    let q = it.ring.q();
+    for partition in 0..q {
         mark_owners(it, ended, partition, &mut marks);
     }
     mark_targets(it, &mut marks);

@@ -70,8 +70,8 @@ pub fn goal_bundle(
 {
     let Goal { ring, wanted } = read_goal(alloc, bytes)?;
     let nodes = nodes_of(alloc, &ring, dead)?;
-    let wanted = wanted_by(alloc, unreadable, &ring, nodes.as_slice(), wanted)?;
-    reach(alloc, ring, &wanted, nodes.as_slice())
+    let goal = wanted_by(alloc, unreadable, &ring, nodes.as_slice(), wanted)?;
+    reach(alloc, ring, &goal, nodes.as_slice())
 }
 
 // Whether each node is a member once the change is made.
@@ -231,8 +231,8 @@ pub fn wish_bundle(alloc: Global, bytes: &[u8], options: &Options) -> Result<Pro
     let change = with_dead(&ring, change, nodes.as_slice())?;
     let wanted = wished_ring(alloc, &ring, &change, options)?;
     ask_sized(alloc, &ring, &change, &options.layout, &wanted)?;
-    let wanted = wanted_by(alloc, options.unreadable, &ring, nodes.as_slice(), wanted)?;
-    reach(alloc, ring, &wanted, nodes.as_slice())
+    let goal = wanted_by(alloc, options.unreadable, &ring, nodes.as_slice(), wanted)?;
+    reach(alloc, ring, &goal, nodes.as_slice())
 }
 
 // The ring of a bundle, and the second ring or the one that is wished for, whatever is unread.
