@@ -37,7 +37,7 @@ struct Part {
 }
 
 // A part without another node.
-fn part(kind: u32, node: u32) -> Part {
+fn lone_part(kind: u32, node: u32) -> Part {
     Part {
         kind,
         node,
@@ -76,7 +76,7 @@ fn phrase_mirrored(end: &'static [u8]) -> Phrase {
 }
 
 // What is said of the slots of a kind.
-fn phrase(kind: u32) -> Phrase {
+fn words_of(kind: u32) -> Phrase {
     match kind {
         0 => Phrase {
             one: b"1 slot is no longer mirrored to ",
@@ -132,10 +132,10 @@ impl Search<'_> {
                 node,
                 other: Some(other),
             },
-            Outcome::Filled(node) => part(2, node),
-            Outcome::Ended(node) => part(3, node),
-            Outcome::Left => part(4, owner),
-            Outcome::NotBegun => part(5, owner),
+            Outcome::Filled(node) => lone_part(2, node),
+            Outcome::Ended(node) => lone_part(3, node),
+            Outcome::Left => lone_part(4, owner),
+            Outcome::NotBegun => lone_part(5, owner),
             Outcome::Untaken(other) => Part {
                 kind: 6,
                 node: owner,
@@ -146,12 +146,12 @@ impl Search<'_> {
                 node: owner,
                 other: Some(other),
             },
-            Outcome::Unread => part(8, owner),
-            Outcome::MirroredToDead(node) => part(9, node),
-            Outcome::MirroredUnread(node) => part(10, node),
-            Outcome::MirroredAhead(node) => part(11, node),
-            Outcome::MirroredStill(node) => part(12, node),
-            Outcome::Again(node) => part(13, node),
+            Outcome::Unread => lone_part(8, owner),
+            Outcome::MirroredToDead(node) => lone_part(9, node),
+            Outcome::MirroredUnread(node) => lone_part(10, node),
+            Outcome::MirroredAhead(node) => lone_part(11, node),
+            Outcome::MirroredStill(node) => lone_part(12, node),
+            Outcome::Again(node) => lone_part(13, node),
         }
     }
 
@@ -159,7 +159,7 @@ impl Search<'_> {
     fn parts_of(&self, slot: Slot) -> [Option<Part>; 2] {
         let saying = self.saying_of(slot);
         let taken = match saying.taken {
-            Some(node) => Some(part(0, node)),
+            Some(node) => Some(lone_part(0, node)),
             None => None,
         };
         let fate = match saying.outcome {
@@ -210,7 +210,7 @@ impl Search<'_> {
         for kind in 0..KINDS {
             let sum = self.sum(parts.as_slice(), kind)?;
             if sum.count > 0 {
-                self.say_sum(phrase(kind), &sum)?;
+                self.say_sum(words_of(kind), &sum)?;
             }
         }
         Ok(())
