@@ -1,6 +1,6 @@
 //! Slots that a command line names.
 
-ghost use Rattle.std.specs.Prelude.{◌≡◌, ◌×◌, ℕ, [], IfOk, MatchOption, codes, unwrap_or};
+ghost use Rattle.std.specs.Prelude.{[], IfOk, MatchOption, codes, unwrap_or};
 ghost use Rattle.clap.specs.Words.{all_of, found_of, rows_of};
 ghost use Rattle.ring_names.specs.declared.ids.Slot.{Slot as TheSlot};
 ghost use Rattle.ringplan_command.specs.Slots.{AreSlots, HasNoSlot, IsSlot};
