@@ -1,3 +1,3 @@
 pub mod Commands
 pub mod Trees
-pub mod Naming
+pub mod NamedSlots

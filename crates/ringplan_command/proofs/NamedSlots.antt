@@ -1,6 +1,7 @@
 -- Slots that are named one after the other, and lines that name nothing.
-use Rattle.std.proofs.Common.{◌≡◌, ◌∙◌, ◌⊎◌, inl, inr, ℕ, zero, suc, List, [], ◌∷◌, ◌++◌, IfOk, Result, Ok, Err, Option, None, Some, refl, sym, subst, codes}
+use Rattle.std.proofs.Common.{◌≡◌, ◌∙◌, ◌⊎◌, inl, inr, ◌<◌, ◌+◌, ℕ, zero, suc, List, get_or, length, map, take, [], ◌∷◌, ◌++◌, IfOk, Result, Ok, Err, Option, None, Some, refl, sym, subst, codes}
 use Rattle.std.specs.Prelude.{slice_get, option_map, string_bytes}
+use Rattle.std.proofs.lemmas.List.{map_more}
 use Rattle.clap.specs.Words.{Row}
 use Rattle.change_text.specs.declared.options.Options.{Options}
 use Rattle.ring_names.specs.declared.ids.Slot.{Slot}
@@ -16,6 +17,12 @@ pub one_more : (texts : List (List ℕ)) (slots : List Slot) (text : List ℕ) (
 one_more [] slots text slot e is = subst (λ (xs : List Slot). AreSlots (text ∷ []) (xs ++ slot ∷ [])) (sym e) (is, refl)
 one_more (x ∷ xs) [] text slot e is = absurd e
 one_more (x ∷ xs) (y ∷ ys) text slot e is = (e.0, one_more xs ys text slot e.1 is)
+
+-- so it is of the first of a list, with the next one
+pub next_more : {T : Type 0} (f : T → List ℕ) (xs : List T) (i : ℕ) (d : T) (slots : List Slot) (slot : Slot) → i < length xs → IsSlot (f (get_or xs i d)) slot → AreSlots (map f (take i xs)) slots
+    → AreSlots (map f (take (i + 1) xs)) (slots ++ slot ∷ [])
+next_more f xs i d slots slot l is are =
+    subst (λ (ys : List (List ℕ)). AreSlots ys (slots ++ slot ∷ [])) (sym (map_more f xs i d l)) (one_more (map f (take i xs)) slots (f (get_or xs i d)) slot are is)
 
 -- a text that names no slot stands among no texts of slots
 pub none_with : (texts : List (List ℕ)) (slots : List Slot) (i : ℕ) (text : List ℕ) → slice_get texts i ≡ Some text → ((slot : Slot) → IsSlot text slot → ⊥) → AreSlots texts slots → ⊥
