@@ -3,7 +3,7 @@
 partitions, whose sizes are all 1, or 0 for a quarter, or 50 to 150, or log-normal, or as 1/k; and 192 ranges that are filled up to 256 by rows without keys.
 
 Of 200 of the plans, or all of fewer, `show --layout` is compared with a count of its own: what moves in all, by node and by round, the most that copies have of which each waits for the one
-before, and the second in which the plan ends at the earliest.
+before, and when the plan ends at the earliest.
 
 A ring is wrong where a slot has a new owner that is no leaver's and does not go, with keys, to a joiner that stores no more than its share; where a partition has more pairs of slots in
 one rack than before; and where the checker refuses the plan. The trial is wrong where more than one change of 500 has a joiner farther from its share than the largest size."""
@@ -160,6 +160,15 @@ def moved(case: Case, plan: str) -> Moved:
     return it
 
 
+def time_words(seconds: int) -> str:
+    """The seconds as they are said."""
+    if seconds < 120:
+        return "%d s" % seconds
+    if seconds < 3600:
+        return "%d min %02d s" % divmod(seconds, 60)
+    return "%d h %02d min" % (seconds // 3600, seconds % 3600 // 60)
+
+
 def shown_wrong(case: Case, plan: str, rate: int) -> str:
     """What `show --layout` says otherwise than the count, if something is."""
     it = moved(case, plan)
@@ -173,7 +182,7 @@ def shown_wrong(case: Case, plan: str, rate: int) -> str:
         if (node["gives_size"], node["takes_size"]) != (it.gives[node["name"]], it.takes[node["name"]]):
             return "show states %s" % node
     text = by_sizes(case, ["show", *words], plan)
-    line = "sizes %d in all; copies that wait for one another have up to %d, so at %d a second the plan ends in second %d at the earliest" % (it.whole, it.longest, rate, end)
+    line = "sizes %d in all; copies that wait for one another have up to %d, so at %d a second the plan ends in %s at the earliest" % (it.whole, it.longest, rate, time_words(end))
     if line not in re.sub(r"\s+", " ", text):
         return "show says otherwise than: " + line
     rows = {fields[1]: fields[at - 3 : at - 1] for fields in map(str.split, text.splitlines()) if "->" in fields for at in [fields.index("->")]}

@@ -107,7 +107,7 @@ def layouts(folder):
     owes("a fault before the layout's", run("show", "--layout", plan, given=read("copy_out_of_order")), b"", contains(b"no 2"), 1)
     with open(plan, "wb") as it:
         it.write(b"layout 1\nsize 1 5\nend\n")
-    owes("a rate", run("show", "--layout", plan, "--rate", "2", given=given), lambda it: b"at 2 a second the plan ends in second" in b" ".join(it.split()), contains(b"no racks known"), 0)
+    owes("a rate", run("show", "--layout", plan, "--rate", "2", given=given), lambda it: b"at 2 a second the plan ends in 3 s at the earliest" in b" ".join(it.split()), contains(b"no racks known"), 0)
     for form in ("text", "json"):
         owes("a rate without a layout", run("show", "--rate", "2", "--format", form), b"", contains(b"'--rate <N>' wants '--layout <FILE>'"), 2)
     for rate in ("0", "4294967296", "x", ""):

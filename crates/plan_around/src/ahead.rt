@@ -1,7 +1,7 @@
 //! Slots whose mirrors have puts that the slots' owners do not have.
 
 use crate::chunks::{Chunk, PutsByChunk};
-use crate::storing::{Mirrored, happen, has_put, mirrored};
+use crate::storing::{Mirrored, happen, has_put, mirrored_slot};
 use plan_check::Approved;
 use plan_moves::Progress;
 use plan_runs::{Entry, Event};
@@ -62,7 +62,7 @@ impl Looking<'_> {
             return None;
         };
         let slot = listing_slot(self.approved.plan(), self.progress, *step)?;
-        let it = mirrored(&self.store, slot)?;
+        let it = mirrored_slot(&self.store, slot)?;
         let chunk = (slot.partition, *chunk);
         Some(Given { it, chunk })
     }

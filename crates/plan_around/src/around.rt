@@ -3,13 +3,12 @@
 ghost use Rattle.std.specs.Prelude.{◌≡◌, ◌≤◌, IfOk, OnOk, length};
 ghost use Rattle.history_text.specs.Replays.{IsReplay};
 ghost use Rattle.ring_core.specs.Replays.{IsHistory};
-ghost use Rattle.plan_bundles.specs.Goals.{dead_names};
-ghost use Rattle.plan_around.specs.Around.{GoesAround, IsAround};
+ghost use Rattle.plan_around.specs.Around.{GoesAround, IsAfter, IsAround, back_with};
 
 use crate::ahead::find_ahead;
 use crate::going::{Going, accepted, go_on};
 use change_text::Options;
-use find_around::{Around, Task, find_around};
+use find_around::{Around, Reach, Task, find_around, find_unmoved};
 use find_chains::certificate;
 use helpers::{Labels, Words};
 use history_text::{ReplayBundle, read_replay};
@@ -17,16 +16,18 @@ use plan_bundles::{ask_layout, dead_by, members_by, nodes_of, racks_of};
 use plan_cert::Cert;
 use plan_check::Approved;
 use plan_runs::{Back, Entry};
-use ring_core::replay;
-use ring_names::{Names, NodeId, Refusal};
-use ring_table::Ring;
+use ring_core::{World, replay};
+use ring_names::{Names, NodeId, Refusal, Slot};
+use ringplan_job::Detour;
 use std::alloc::Global;
 
-// The nodes that are dead from here on, the racks of nodes if they are known, and whether mirrors may be taken back.
+// The nodes that are dead from here on, the racks of nodes if they are known, the slots that stay with their owners, and whether mirrors may be taken back.
 #[derive(Clone, Copy)]
 struct Asked<'a> {
     dead: &'a [NodeId],
     racks: Option<&'a Labels>,
+    left: &'a [Slot],
+    detour: Detour,
     back: Back,
 }
 
@@ -58,25 +59,48 @@ fn cause(refusal: Refusal) -> Refusal {
     }
 }
 
-// What the search found.
-fn find(it: &Begun) -> Result<Around, Refusal> {
-    let ahead = find_ahead(it.alloc, it.approved, it.history)?;
-    find_around(Task {
+// What the search is to do.
+fn task_of<'a>(it: &'a Begun, ahead: &'a [Slot]) -> Task<'a> {
+    Task {
         alloc: it.alloc,
         ring: it.approved.ring(),
         plan: it.approved.plan(),
         cert: it.cert,
         history: it.history,
+        extent: it.asked.detour.extent,
+        left: it.asked.left,
         dead: it.asked.dead,
-        ahead: ahead.as_slice(),
+        ahead,
         racks: it.asked.racks,
-        back: it.asked.back,
-    })
+        back: it.asked.detour.back,
+        shape: it.asked.detour.shape,
+    }
 }
 
-// The text that goes on by the plan that was found: its certificate is that of the old plan if it is that plan, and else one that is found for it.
-fn go_by(it: &Begun, ring: Ring, found: Around) -> Result<Vec<u8>, Refusal>
-    ensures { IfOk result (λ v. GoesAround it.now.asked.back ring it.now.asked.dead.now it.now.writers.now it.now.approved.now.plan it.now.history.now v.items) }
+// What the search found, as far as it may go.
+fn find(it: &Begun, reach: Reach) -> Result<Around, Refusal> {
+    let ahead = find_ahead(it.alloc, it.approved, it.history)?;
+    find_around(task_of(it, ahead.as_slice()), reach)
+}
+
+// Adds which slots are to stay though no step to come moves them. Answers whether there is one.
+fn push_unmoved(it: &Begun, words: &mut Words) -> Result<bool, Refusal> {
+    let unmoved = find_unmoved(&task_of(it, &[]))?;
+    for slot in unmoved.iter() {
+        words.fill(
+            b"refused: --leave #.#: no step that is to come moves this slot\n",
+            &[],
+            &[slot.partition, slot.index],
+        );
+    }
+    Ok(!unmoved.is_empty())
+}
+
+// The text that goes on by the plan that was found: its certificate is that of the old plan if it is that plan, and otherwise one that is found for it.
+fn go_by(it: &Begun, before: &World, found: Around) -> Result<Vec<u8>, Refusal>
+    requires { IsAfter it.now.approved.now.ring it.now.approved.now.plan it.now.history.now before.now }
+    ensures { IfOk result (λ v. GoesAround it.now.asked.detour.extent it.now.asked.back it.now.approved.now.ring it.now.asked.dead.now it.now.asked.left.now
+        it.now.writers.now it.now.approved.now.plan it.now.history.now v.items) }
 {
     let Around {
         plan,
@@ -90,29 +114,66 @@ fn go_by(it: &Begun, ring: Ring, found: Around) -> Result<Vec<u8>, Refusal>
         history: it.history,
         writers: it.writers,
         dead: it.asked.dead,
+        left: it.asked.left,
         back: it.asked.back,
+        extent: it.asked.detour.extent,
         numbers: numbers.as_slice(),
         olds: olds.as_slice(),
         cert: it.cert,
     };
     if is_same {
-        return go_on(it.alloc, ring, plan, &going);
+        return go_on(it.alloc, plan, &going, before);
     }
-    let outcome = certificate(it.alloc, &ring, &plan)?;
+    let outcome = certificate(it.alloc, it.approved.ring(), &plan)?;
     let going = Going {
         cert: &outcome.cert,
         ..going
     };
-    go_on(it.alloc, ring, plan, &going)
+    go_on(it.alloc, plan, &going, before)
 }
 
-// The bundle that goes on from there. Adds what becomes of slots and nodes.
-fn go_around(it: &Begun, ring: Ring, words: &mut Words) -> Result<Vec<u8>, Refusal>
-    ensures { IfOk result (λ v. GoesAround it.now.asked.back ring it.now.asked.dead.now it.now.writers.now it.now.approved.now.plan it.now.history.now v.items) }
+// The bundle that goes on from there, by a search that goes so far. Adds what becomes of slots and nodes.
+fn go_so_far(
+    it: &Begun,
+    before: &World,
+    reach: Reach,
+    words: &mut Words,
+) -> Result<Vec<u8>, Refusal>
+    requires { IsAfter it.now.approved.now.ring it.now.approved.now.plan it.now.history.now before.now }
+    ensures { IfOk result (λ v. GoesAround it.now.asked.detour.extent it.now.asked.back it.now.approved.now.ring it.now.asked.dead.now it.now.asked.left.now
+        it.now.writers.now it.now.approved.now.plan it.now.history.now v.items) }
 {
-    let found = find(it)?;
-    words.text(found.words.as_slice());
-    go_by(it, ring, found)
+    let found = find(it, reach)?;
+    let mut said = Words::new(it.alloc);
+    said.text(found.words.as_slice());
+    let text = go_by(it, before, found)?;
+    words.words(&said);
+    Ok(text)
+}
+
+// Whether there is no such plan, and memory was not refused.
+fn is_none(outcome: &Result<Vec<u8>, Refusal>) -> bool {
+    match outcome {
+        Ok(_) | Err(Refusal::OutOfMemory) => false,
+        Err(_) => true,
+    }
+}
+
+// The bundle that goes on from there, by the search that goes farthest and finds one. Adds what becomes of slots and nodes.
+fn go_around(it: &Begun, before: &World, words: &mut Words) -> Result<Vec<u8>, Refusal>
+    requires { IsAfter it.now.approved.now.ring it.now.approved.now.plan it.now.history.now before.now }
+    ensures { IfOk result (λ v. GoesAround it.now.asked.detour.extent it.now.asked.back it.now.approved.now.ring it.now.asked.dead.now it.now.asked.left.now
+        it.now.writers.now it.now.approved.now.plan it.now.history.now v.items) }
+{
+    let far = go_so_far(it, before, Reach::Far, words);
+    if !is_none(&far) {
+        return far;
+    }
+    let near = go_so_far(it, before, Reach::Near, words);
+    if !is_none(&near) {
+        return near;
+    }
+    go_so_far(it, before, Reach::Done, words)
 }
 
 // The bundle that goes on from one that was read.
@@ -123,7 +184,7 @@ fn around_read(
     words: &mut Words,
 ) -> Result<Vec<u8>, Refusal>
     requires { IsReplay read }
-    ensures { IfOk result (λ v. GoesAround asked.back read.ring asked.dead.now read.writers read.plan read.history.items v.items
+    ensures { IfOk result (λ v. GoesAround asked.detour.extent asked.back read.ring asked.dead.now asked.left.now read.writers read.plan read.history.items v.items
         × IsHistory read.ring read.plan read.history.items) }
 {
     let ReplayBundle {
@@ -133,10 +194,9 @@ fn around_read(
         writers,
         history,
     } = read;
-    let other = ring.copy(alloc)?;
     let approved = accepted(alloc, ring, plan, &cert)?;
     let entries = history.as_slice();
-    follow(alloc, &approved, entries)?;
+    let store = replay(alloc, &approved, entries)?;
     let begun = Begun {
         alloc,
         approved: &approved,
@@ -145,27 +205,41 @@ fn around_read(
         history: entries,
         asked,
     };
-    match go_around(&begun, other, words) {
+    if push_unmoved(&begun, words)? {
+        return Err(Refusal::NoPlan);
+    }
+    match go_around(&begun, &store, words) {
         Ok(text) => Ok(text),
-        Err(refusal) => Err(cause(refusal)),
+        Err(refusal) => {
+            words.text(b"refused: no plan was found by which the history goes on\n");
+            Err(cause(refusal))
+        }
     }
 }
 
+// Whether mirrors may be taken back: also if a slot is to stay with its owner.
+fn back_with(left: &[Slot], back: Back) -> Back
+    ensures { result ≡ back_with left.now back }
+{
+    if left.is_empty() { back } else { Back::Allowed }
+}
+
 /// Makes the bundle that goes on where one stopped, around the nodes that are dead by the options: its ring, another plan, a certificate, and the history by that plan. An
-/// executor goes on with it: what it holds of a step it finds by the step's kind, partition, slot and node. Adds line by line to `words` what becomes of slots and nodes
-/// that do not go where they were to go; if there is no such bundle, what is added says nothing.
+/// executor goes on with it: what it holds of a step it finds by the step's kind, partition, slot and node. Slots that the options name stay with their owners; a mirror of
+/// such a slot is taken back in any case. Adds line by line to `words` what becomes of slots and nodes that do not go where they were to go, or at `NoPlan` why.
 ///
 /// Refused is the first fault of the texts; a name that the ring does not declare, and a member without a rack where racks are known, as `UnknownNode(0)`; a partition that
-/// the ring does not have, as `TooLarge` with its line in the layout; a plan that the checker refuses; a history that is not a run of it; and as `NoPlan` if no plan is
-/// found by which it goes on. Costs about what `check` and `replay` cost of both bundles.
+/// the ring does not have, as `TooLarge` with its line in the layout; a plan that the checker refuses; a history that is not a run of it; and as `NoPlan` a slot that
+/// is to stay though no step to come moves it, or if no plan is found by which the history goes on. Costs about what `check` and `replay` cost of both bundles, and as much
+/// again for each plan that the checker refuses, at most two.
 pub fn around_bundle(
     alloc: Global,
     bytes: &[u8],
     options: &Options,
-    back: Back,
+    detour: Detour,
     words: &mut Words,
 ) -> Result<Vec<u8>, Refusal>
-    ensures around { IfOk result (λ v. IsAround bytes.now (dead_names options.now) back v.items) }
+    ensures around { IfOk result (λ v. IsAround bytes.now options.now detour v.items) }
 {
     let read = read_replay(alloc, bytes)?;
     ask_layout(&read.ring, &options.layout)?;
@@ -176,7 +250,9 @@ pub fn around_bundle(
     let asked = Asked {
         dead: nodes.as_slice(),
         racks: racking.racks.as_ref(),
-        back,
+        left: options.left.as_slice(),
+        detour,
+        back: back_with(options.left.as_slice(), detour.back),
     };
     racking.push(words);
     around_read(alloc, read, asked, words)

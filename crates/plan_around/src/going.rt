@@ -7,9 +7,14 @@ ghost use Rattle.plan_check.specs.Headline.{KeepsPromises};
 ghost use Rattle.history_text.specs.Known.{AreKnownEntries};
 ghost use Rattle.history_text.specs.Spelling.{history_text};
 ghost use Rattle.plan_past.specs.Past.{IsSamePast};
-ghost use Rattle.plan_around.specs.Around.{GoesAround, RunsApart};
+ghost use Rattle.plan_runs.specs.World.{World as TheWorld};
+ghost use Rattle.ring_core.specs.World.{ring_of, plan_of, Meets};
+ghost use Rattle.plan_around.specs.Around.{GoesAround, IsAfter, LeadsOn, RunsApart};
+ghost use Rattle.plan_around.specs.Ends.{EndsWell};
 
+use crate::alike::are_alike;
 use crate::apart::are_apart;
+use crate::ending::{Endings, ends_well};
 use crate::retelling::{Retold, retell};
 use history_text::{are_known, push_history};
 use plan_cert::Cert;
@@ -18,9 +23,10 @@ use plan_goal::write_front;
 use plan_past::{SamePast, Told, is_same_past};
 use plan_runs::{Back, Entry};
 use plan_text::Plan;
-use ring_core::replay;
-use ring_names::{Names, NodeId, Refusal};
+use ring_core::{World, replay};
+use ring_names::{Names, NodeId, Refusal, Slot};
 use ring_table::Ring;
+use ringplan_job::Extent;
 use std::alloc::Global;
 
 // The most entries of a history.
@@ -44,39 +50,47 @@ pub(crate) fn accepted(
     }
 }
 
-// Whether the history is a run of the plan that leads to where the dead are asked for nothing more. Refused is what the replay refuses.
-fn runs_apart(
+// Whether the history is a run of the plan that leads to where the dead are asked for nothing more, and to a store like the one before. Refused is what the replay refuses.
+fn runs_on(
     alloc: Global,
     approved: &Approved,
+    before: &World,
     history: &[Entry],
     dead: &[NodeId],
 ) -> Result<bool, Refusal>
-    requires { length history.now ≤ 1000000 }
-    ensures { IfOk result (λ b. IsTrue b → RunsApart approved.now.ring approved.now.plan dead.now history.now) }
+    requires few { length history.now ≤ 1000000 }
+    requires ring { ring_of before.now ≡ approved.now.ring }
+    ensures apart { IfOk result (λ b. IsTrue b → RunsApart approved.now.ring approved.now.plan dead.now history.now) }
+    ensures alike { IfOk result (λ b. IsTrue b → LeadsOn approved.now.ring before.now approved.now.plan history.now) }
 {
     let store = replay(alloc, approved, history)?;
+    if !are_alike(approved.ring(), approved.plan(), before, &store) {
+        return Ok(false);
+    }
     are_apart(alloc, &store, approved.ring(), approved.plan(), dead)
 }
 
-// The text of the history, where it goes on by the plan; else `NoPlan`, or what the replay refuses.
+// The text of the history, if it goes on by the plan; else `NoPlan`, or what the replay refuses.
 fn history_on(
     alloc: Global,
     approved: &Approved,
-    writers: &Names,
+    before: &World,
+    it: &Going,
     history: &[Entry],
-    dead: &[NodeId],
 ) -> Result<Vec<u8>, Refusal>
-    ensures run { OnOk result (RunsApart approved.now.ring approved.now.plan dead.now history.now) }
-    ensures text { IfOk result (λ v. v.items ≡ history_text approved.now.ring writers.now history.now) }
+    requires { ring_of before.now ≡ approved.now.ring }
+    ensures run { OnOk result (RunsApart approved.now.ring approved.now.plan it.now.dead.now history.now) }
+    ensures alike { OnOk result (LeadsOn approved.now.ring before.now approved.now.plan history.now) }
+    ensures text { IfOk result (λ v. v.items ≡ history_text approved.now.ring it.now.writers.now history.now) }
 {
-    if history.len() > MOST || !are_known(approved.ring(), writers, history) {
+    if history.len() > MOST || !are_known(approved.ring(), it.writers, history) {
         return Err(Refusal::NoPlan);
     }
-    if !runs_apart(alloc, approved, history, dead)? {
+    if !runs_on(alloc, approved, before, history, it.dead)? {
         return Err(Refusal::NoPlan);
     }
     let mut out = Vec::new(alloc);
-    push_history(&mut out, approved, writers, history)?;
+    push_history(&mut out, approved, it.writers, history)?;
     Ok(out)
 }
 
@@ -96,7 +110,9 @@ pub(crate) struct Going<'a> {
     pub(crate) history: &'a [Entry],
     pub(crate) writers: &'a Names,
     pub(crate) dead: &'a [NodeId],
+    pub(crate) left: &'a [Slot],
     pub(crate) back: Back,
+    pub(crate) extent: Extent,
     /// By step of the old plan, its number in the new one; none if its entries are left out.
     pub(crate) numbers: &'a [Option<u32>],
     /// By step of the new plan, its number in the old one.
@@ -136,17 +152,51 @@ fn past(alloc: Global, it: &Going, new: &Approved) -> Result<Vec<Entry>, Refusal
     Ok(entries)
 }
 
-/// The text of all, if the checker accepts the new plan and the history goes on by it. `NoPlan` if the plan or the certificate is not the ring's, if the history does not
-/// tell what the old one tells, or if the dead are asked for something; else what the checker or the replay refuses.
-pub(crate) fn go_on(alloc: Global, ring: Ring, plan: Plan, it: &Going) -> Result<Vec<u8>, Refusal>
-    ensures { IfOk result (λ v. GoesAround it.now.back ring it.now.dead.now it.now.writers.now it.now.old.now.plan it.now.history.now v.items) }
+// Asks whether the new plan ends where it should. If it does not, that is `NoPlan`.
+fn ask_ends(alloc: Global, it: &Going, before: &World, new: &Approved) -> Result<(), Refusal>
+    requires same { new.now.ring ≡ it.now.old.now.ring }
+    requires ring { ring_of before.now ≡ it.now.old.now.ring }
+    requires plan { plan_of before.now ≡ it.now.old.now.plan }
+    ensures { OnOk result ((w : TheWorld) → Meets before.now w
+        → EndsWell it.now.extent it.now.back it.now.old.now.ring it.now.old.now.plan w new.now.plan it.now.dead.now it.now.left.now) }
 {
+    let endings = Endings {
+        ring: it.old.ring(),
+        old: it.old.plan(),
+        new: new.plan(),
+        before,
+        dead: it.dead,
+        left: it.left,
+        back: it.back,
+        extent: it.extent,
+    };
+    if ends_well(alloc, &endings)? {
+        return Ok(());
+    }
+    Err(Refusal::NoPlan)
+}
+
+/// The text of all, if the checker accepts the new plan and the history goes on by it, from a store like the one that the old history leads to. `NoPlan` if the plan or the
+/// certificate is not the ring's, if the history does not tell what the old one tells, if the stores differ, if the plan does not end where it should, or if the dead are
+/// asked for something; otherwise what the checker or the replay refuses.
+pub(crate) fn go_on(
+    alloc: Global,
+    plan: Plan,
+    it: &Going,
+    before: &World,
+) -> Result<Vec<u8>, Refusal>
+    requires { IsAfter it.now.old.now.ring it.now.old.now.plan it.now.history.now before.now }
+    ensures { IfOk result (λ v. GoesAround it.now.extent it.now.back it.now.old.now.ring it.now.dead.now it.now.left.now it.now.writers.now it.now.old.now.plan
+        it.now.history.now v.items) }
+{
+    let ring = it.old.ring().copy(alloc)?;
     if !plan.suits(&ring) || !it.cert.suits(&ring) {
         return Err(Refusal::NoPlan);
     }
     let text = write_front(alloc, &ring, &plan, it.cert)?;
     let approved = accepted(alloc, ring, plan, it.cert)?;
+    ask_ends(alloc, it, before, &approved)?;
     let entries = past(alloc, it, &approved)?;
-    let history = history_on(alloc, &approved, it.writers, entries.as_slice(), it.dead)?;
+    let history = history_on(alloc, &approved, before, it, entries.as_slice())?;
     followed(text, history.as_slice())
 }

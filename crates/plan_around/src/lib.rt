@@ -2,9 +2,11 @@
 #![tactic(auto)]
 
 mod ahead;
+mod alike;
 mod apart;
 mod around;
 mod chunks;
+mod ending;
 mod going;
 mod over;
 mod retelling;

@@ -2,7 +2,7 @@
 //! the store of the new plan gives the replies. Nothing is promised of what they tell but that it can be checked.
 
 use crate::chunks::{Chunk, PutsByChunk};
-use crate::storing::{Mirrored, happen, has_put, mirrored};
+use crate::storing::{Mirrored, happen, has_put, mirrored_slot};
 use plan_check::Approved;
 use plan_past::renamed;
 use plan_runs::{Entry, Event};
@@ -59,7 +59,7 @@ impl Retelling<'_> {
         let Some(slot) = self.slot_of_copy(*step) else {
             return Ok(0);
         };
-        let Some(it) = mirrored(&self.new, slot) else {
+        let Some(it) = mirrored_slot(&self.new, slot) else {
             return Ok(0);
         };
         let given = self.given(&it, (slot.partition, *chunk))?;

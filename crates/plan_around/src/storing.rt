@@ -13,7 +13,7 @@ pub(crate) struct Mirrored {
 }
 
 /// The slot, if it is mirrored now.
-pub(crate) fn mirrored(store: &World, slot: Slot) -> Option<Mirrored> {
+pub(crate) fn mirrored_slot(store: &World, slot: Slot) -> Option<Mirrored> {
     match store.nodes_of(slot) {
         Some((owner, Some(mirror))) => Some(Mirrored {
             slot,

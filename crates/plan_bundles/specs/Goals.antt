@@ -20,7 +20,10 @@ use Rattle.layout_text.specs.declared.layout.Entry.{Entry}
 use Rattle.layout_text.specs.declared.layout.Fact.{Fact}
 use Rattle.layout_text.specs.declared.layout.Fact.TheVariants.{Dead}
 use Rattle.change_text.specs.declared.options.Options.{Options}
+use Rattle.change_text.specs.declared.options.Unreadable.{Unreadable}
+use Rattle.change_text.specs.declared.options.Unreadable.TheVariants.{Refused, Left}
 use Rattle.plan_bundles.specs.Rings.{flags}
+use Rattle.plan_bundles.specs.Unread.{without_unread}
 use Rattle.plan_bundles.specs.Sized.{IsSized, has_sizes, sizes_by, weights_by}
 
 -- the plan is one of the ring that leads to the wanted one
@@ -31,9 +34,15 @@ LeadsFrom ring wanted dead p = (p.approved.ring ≡ ring) × IsReached ring want
 abbrev pub AreNamed : RingValue → List (List ℕ) → List NodeId → Type 0
 AreNamed ring names nodes = map (place (names_of ring)) names ≡ map (λ x. Some x.0) nodes
 
+-- the ring that is wanted, or if unread partitions are left, with their slots as they are
+abbrev pub wanted_by : Unreadable → RingValue → List NodeId → RingValue → RingValue
+wanted_by Refused ring dead wanted = wanted
+wanted_by Left ring dead wanted = without_unread ring dead wanted
+
 -- the plan leads from the first of the two rings of the bytes to the second, around the nodes of these names
-abbrev pub IsGoalReached : List ℕ → List (List ℕ) → Proposed → Type 0
-IsGoalReached bytes names p = (g : Goal) × (whole_text goal_at bytes ≡ Ok g) × (dead : List NodeId) × AreNamed g.ring names dead × LeadsFrom g.ring g.wanted dead p
+abbrev pub IsGoalReached : List ℕ → Unreadable → List (List ℕ) → Proposed → Type 0
+IsGoalReached bytes unreadable names p = (g : Goal) × (whole_text goal_at bytes ≡ Ok g) × (dead : List NodeId) × AreNamed g.ring names dead
+    × LeadsFrom g.ring (wanted_by unreadable g.ring dead g.wanted) dead p
 
 -- whether the node is a member once the change is made
 abbrev pub is_changed_member : RingValue → Change → ℕ → Bool
@@ -75,11 +84,11 @@ dead_names options = map (λ name. name.items) options.dead.items ++ flat_map (�
 abbrev pub IsWishReached : List ℕ → Options → Proposed → Type 0
 IsWishReached bytes options p = (w : Wanted) × (whole_text wanted_at bytes ≡ Ok w) × (wanted : RingValue) × (dead : List NodeId)
     × AreNamed w.ring (dead_names options) dead × HasChangedMembers w.ring (with_dead w.ring dead w.change) wanted
-    × IsSizedAsAsked options w.ring (with_dead w.ring dead w.change) wanted × LeadsFrom w.ring wanted dead p
+    × IsSizedAsAsked options w.ring (with_dead w.ring dead w.change) wanted × LeadsFrom w.ring (wanted_by options.unreadable w.ring dead wanted) dead p
 
 -- the plan leads from the first ring of the bytes to another one: to the second of two rings, or to one with the members of a change
 abbrev pub IsLed : List ℕ → Options → Proposed → Type 0
-IsLed bytes options p = IsGoalReached bytes (dead_names options) p ⊎ IsWishReached bytes options p
+IsLed bytes options p = IsGoalReached bytes options.unreadable (dead_names options) p ⊎ IsWishReached bytes options p
 
 -- the text is that of such a plan, between those of its ring and its certificate
 abbrev pub IsLedText : List ℕ → Options → List ℕ → Type 0

@@ -9,10 +9,11 @@ ghost use Rattle.plan_bundles.specs.Goals.{leaves_too, with_dead as the_change_w
 use crate::racks::{ask_layout, members_with, racks_of};
 use crate::sections::{Kind, kind_of};
 use crate::sized::{Measures, are_kept, has_sizes, sizes_of, weights_of};
-use change_text::{Change, Options, Wanted, read_wanted};
+use crate::unread::wanted_by;
+use change_text::{Change, Options, Unreadable, Wanted, read_wanted};
 use helpers::Labels;
 use layout_text::{Fact, Layout};
-use plan_goal::{Goal, Proposed, is_among, reach, read_goal};
+use plan_goal::{Aim, Goal, Proposed, is_among, reach, read_goal, unread_partitions};
 use plan_maker::{Wish, wished};
 use ring_names::{Listed, NodeId, Refusal};
 use ring_table::Ring;
@@ -57,14 +58,20 @@ pub fn dead_by(alloc: Global, options: &Options) -> Result<Vec<Vec<u8>>, Refusal
     Ok(names)
 }
 
-/// Reads two rings, and finds a plan that leads from the first to the second, around the nodes that are named dead. Refused is the first fault of the
-/// rings, a name that the first does not declare, as `UnknownNode(0)`, and what `reach` refuses.
-pub fn goal_bundle(alloc: Global, bytes: &[u8], dead: &[Vec<u8>]) -> Result<Proposed, Refusal>
-    ensures reached { IfOk result (λ p. IsGoalReached bytes.now (map (λ name. name.items) dead.now) p) }
+/// Reads two rings, and finds a plan that leads from the first to the second, around the nodes that are named dead. If unread partitions are left, their slots stay
+/// with their owners. Refused is the first fault of the rings, a name that the first does not declare, as `UnknownNode(0)`, and what `reach` refuses.
+pub fn goal_bundle(
+    alloc: Global,
+    bytes: &[u8],
+    unreadable: Unreadable,
+    dead: &[Vec<u8>],
+) -> Result<Proposed, Refusal>
+    ensures reached { IfOk result (λ p. IsGoalReached bytes.now unreadable (map (λ name. name.items) dead.now) p) }
 {
     let Goal { ring, wanted } = read_goal(alloc, bytes)?;
     let nodes = nodes_of(alloc, &ring, dead)?;
-    reach(alloc, ring, &wanted, nodes.as_slice())
+    let goal = wanted_by(alloc, unreadable, &ring, nodes.as_slice(), wanted)?;
+    reach(alloc, ring, &goal, nodes.as_slice())
 }
 
 // Whether each node is a member once the change is made.
@@ -210,7 +217,7 @@ fn ask_sized(
 
 /// Reads a ring and a change, and finds a plan that leads from the ring to one with the members of the change, around the nodes that are dead by the options, by
 /// weight and with racks apart. A dead member leaves, whether or not the change says so. If the layout has sizes, a slot has a new owner only if it was a leaver's, or if
-/// it has keys and goes to a node that joins and stores no more than its share.
+/// it has keys and goes to a node that joins and stores no more than its share. If unread partitions are left, their slots stay with their owners.
 ///
 /// Refused is the first fault of the texts; a name that the ring does not declare, and a member without a rack where racks are known, as `UnknownNode(0)`; a partition
 /// that the ring does not have, as `TooLarge` with its line in the layout; a change that leaves too few members, as `NoPlan`; and what `reach` refuses.
@@ -224,17 +231,41 @@ pub fn wish_bundle(alloc: Global, bytes: &[u8], options: &Options) -> Result<Pro
     let change = with_dead(&ring, change, nodes.as_slice())?;
     let wanted = wished_ring(alloc, &ring, &change, options)?;
     ask_sized(alloc, &ring, &change, &options.layout, &wanted)?;
-    reach(alloc, ring, &wanted, nodes.as_slice())
+    let goal = wanted_by(alloc, options.unreadable, &ring, nodes.as_slice(), wanted)?;
+    reach(alloc, ring, &goal, nodes.as_slice())
 }
 
-/// The ring of a change, and the ring that is wished for.
-pub fn wished_goal(alloc: Global, bytes: &[u8], options: &Options) -> Result<Goal, Refusal> {
+// The ring of a bundle, and the second ring or the one that is wished for, whatever is unread.
+fn read_aim(alloc: Global, bytes: &[u8], options: &Options) -> Result<Goal, Refusal> {
+    if kind_of(bytes) != Kind::Change {
+        return read_goal(alloc, bytes);
+    }
     let Wanted { ring, change } = read_wanted(alloc, bytes)?;
     let dead = dead_by(alloc, options)?;
     let nodes = nodes_of(alloc, &ring, dead.as_slice())?;
     let change = with_dead(&ring, change, nodes.as_slice())?;
     let wanted = wished_ring(alloc, &ring, &change, options)?;
     Ok(Goal { ring, wanted })
+}
+
+/// The ring of a bundle with two rings or a change, the ring to which a plan should lead, and the unread partitions, ascending.
+pub fn goal_of(
+    alloc: Global,
+    bytes: &[u8],
+    options: &Options,
+) -> Result<(Goal, Vec<u32>), Refusal> {
+    let Goal { ring, wanted } = read_aim(alloc, bytes, options)?;
+    let dead = dead_by(alloc, options)?;
+    let nodes = nodes_of(alloc, &ring, dead.as_slice())?;
+    let aim = Aim {
+        alloc,
+        ring: &ring,
+        wanted: &wanted,
+        dead: nodes.as_slice(),
+    };
+    let unread = unread_partitions(&aim)?;
+    let wanted = wanted_by(alloc, options.unreadable, &ring, nodes.as_slice(), wanted)?;
+    Ok((Goal { ring, wanted }, unread))
 }
 
 /// Finds a plan that leads to the ring that is wished for: `goal_bundle` of two rings, around the nodes that are dead by the options, and `wish_bundle` of a ring and a
@@ -245,7 +276,7 @@ pub fn led_bundle(alloc: Global, bytes: &[u8], options: &Options) -> Result<Prop
     match kind_of(bytes) {
         Kind::Plan | Kind::History => {
             let dead = dead_by(alloc, options)?;
-            goal_bundle(alloc, bytes, dead.as_slice())
+            goal_bundle(alloc, bytes, options.unreadable, dead.as_slice())
         }
         Kind::Change => wish_bundle(alloc, bytes, options),
     }

@@ -34,8 +34,8 @@ fn load_at(loads: &[u64], place: usize) -> u64
     }
 }
 
-// Whether there is a flag at the place, and it is set.
-fn is_flagged(flags: &[bool], place: usize) -> bool
+/// Whether there is a flag at the place, and it is set.
+pub fn is_flagged(flags: &[bool], place: usize) -> bool
     ensures { result ≡ is_flagged flags.now place }
 {
     match flags.get(place) {
@@ -44,8 +44,8 @@ fn is_flagged(flags: &[bool], place: usize) -> bool
     }
 }
 
-// The owners of the partition's slots.
-fn row_at(rows: &[Listed<NodeId>], partition: usize) -> &[NodeId]
+/// The owners of the partition's slots, or none if there is no such partition.
+pub fn row_at(rows: &[Listed<NodeId>], partition: usize) -> &[NodeId]
     ensures { result.now ≡ row_at rows.now partition }
 {
     match rows.get(partition) {

@@ -7,9 +7,10 @@ use Rattle.clap.specs.declared.error.kind.ErrorKind.{ErrorKind}
 use Rattle.clap.specs.declared.error.kind.ErrorKind.TheVariants.{DisplayHelp, DisplayVersion}
 use Rattle.ringplan_command.specs.Files.{text_named}
 use Rattle.change_text.specs.declared.options.Options.{Options}
-use Rattle.ringplan_command.specs.Makings.{HasNoRacks, MeansMaking, NamesNoDead, but_text}
+use Rattle.ringplan_command.specs.Makings.{HasNoRacks, MeansMaking, NamesNoDetour, but_text, left_texts}
 use Rattle.ringplan_command.specs.Numbers.{HasNoNumber, IsCount, IsNumberTo}
 use Rattle.ringplan_command.specs.Parts.{MeansPart, PartTexts}
+use Rattle.ringplan_command.specs.Slots.{HasNoSlot}
 use Rattle.ringplan_command.specs.Tree.{drive_word, part_word, ringplan, word_of}
 use Rattle.ringplan_command.specs.declared.command.Request.{Request}
 use Rattle.ringplan_command.specs.declared.command.Request.TheVariants.{Do, CheckBy, State, StateBy, Part, Drive, Make, Describe, Help, Mistaken, OutOfMemory}
@@ -44,7 +45,7 @@ word_of_making (Draw shown) = people.Draw
 word_of_making Steps = people.Steps
 word_of_making Moves = people.Steps
 word_of_making (Goal exit) = people.Goal
-word_of_making (Around back) = people.Around
+word_of_making (Around detour) = people.Around
 word_of_making (Windows cut) = people.Windows
 word_of_making Cert = people.Cert
 word_of_making After = people.After
@@ -231,7 +232,7 @@ TakesValues (to_make people.Show rows) = ⊤
 TakesValues (to_make people.Draw rows) = ⊤
 TakesValues (to_make people.Goal rows) = ⊤
 TakesValues (to_make people.Steps rows) = HasNoRacks rows
-TakesValues (to_make people.Around rows) = HasNoRacks rows ⊎ NamesNoDead rows
+TakesValues (to_make people.Around rows) = HasNoRacks rows ⊎ (HasNoSlot (left_texts rows) ⊎ NamesNoDetour rows)
 TakesValues (to_make people.Windows rows) = HasNoRacks rows ⊎ (HasNoNumber 1000000 (one_of (codes "rounds") rows) ⊎ HasNoNumber 1000000 (one_of (codes "only") rows))
 TakesValues (to_describe Completions) = ⊤
 TakesValues (to_part texts) = (wish : PartWish) → MeansPart texts wish → ⊥

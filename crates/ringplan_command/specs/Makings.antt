@@ -4,13 +4,17 @@ use Rattle.std.specs.Str.{bytes_eq}
 use Rattle.clap.specs.Words.{Row, all_of, first_of, one_of}
 use Rattle.ringplan_command.specs.Files.{but_dash}
 use Rattle.ringplan_command.specs.Numbers.{IsCount, IsNumberNamed}
+use Rattle.ringplan_command.specs.Slots.{AreSlots}
 use Rattle.plan_runs.specs.declared.back.Back.{Back}
 use Rattle.plan_runs.specs.declared.back.Back.TheVariants.{Allowed, Never as NoBack}
 use Rattle.ringplan_job.specs.declared.making.Color.{Color}
 use Rattle.ringplan_job.specs.declared.making.Color.TheVariants.{Always, Never}
 use Rattle.ringplan_job.specs.declared.making.Cut.{Cut}
+use Rattle.ringplan_job.specs.declared.making.Detour.{Detour}
 use Rattle.ringplan_job.specs.declared.making.Exit.{Exit}
 use Rattle.ringplan_job.specs.declared.making.Exit.TheVariants.{Printed, Steps as StepsExit}
+use Rattle.ringplan_job.specs.declared.making.Extent.{Extent}
+use Rattle.ringplan_job.specs.declared.making.Extent.TheVariants.{Begun, Whole as WholePlan}
 use Rattle.ringplan_job.specs.declared.making.Making.{Making}
 use Rattle.ringplan_job.specs.declared.making.Making.TheVariants.{Why, Cert, After, Show, Draw, Steps, Moves, Windows, Goal, Around, State}
 use Rattle.ringplan_job.specs.declared.making.Picture.{Picture}
@@ -22,6 +26,8 @@ use Rattle.ringplan_job.specs.declared.making.Statement.TheVariants as stated
 use Rattle.ringplan_job.specs.declared.making.Wish.{Wish}
 use Rattle.change_text.specs.declared.options.Options.{Options}
 use Rattle.change_text.specs.declared.options.RackRule.{RackRule}
+use Rattle.change_text.specs.declared.options.Unreadable.{Unreadable}
+use Rattle.change_text.specs.declared.options.Unreadable.TheVariants.{Left, Refused}
 use Rattle.change_text.specs.declared.options.RackRule.TheVariants.{Auto as AutoRacks, Off as NoRacks, Behind}
 
 -- the text of a form of answers, but for `text`, which is also the form if none is named
@@ -57,9 +63,14 @@ MeansRacks (Some text) rule = ((text ≡ codes "auto") × (rule ≡ AutoRacks)) 
 abbrev pub HasNoRacks : List Row → Type 0
 HasNoRacks rows = (rule : RackRule) → MeansRacks (first_of (codes "racks-behind") rows) rule → ⊥
 
--- neither a dead node is named nor a file that may name one
-abbrev pub NamesNoDead : List Row → Type 0
-NamesNoDead rows = (unwrap_or (all_of (codes "dead") rows) [] ≡ []) × (but_dash (first_of (codes "layout") rows) ≡ None)
+-- the texts of the slots that are to stay with their owners
+abbrev pub left_texts : List Row → List (List ℕ)
+left_texts rows = unwrap_or (all_of (codes "leave") rows) []
+
+-- nothing is to change: neither a dead node is named nor a file that may name one, no slot is to stay, and no rest is asked for
+abbrev pub NamesNoDetour : List Row → Type 0
+NamesNoDetour rows = (unwrap_or (all_of (codes "dead") rows) [] ≡ []) × (but_dash (first_of (codes "layout") rows) ≡ None)
+    × (left_texts rows ≡ []) × IsUnset (codes "rest") rows
 
 -- the dead nodes, the racks and the file of the layout are those that are named
 abbrev pub MeansKnown : List Row → Options → Type 0
@@ -79,9 +90,21 @@ abbrev pub MeansExit : List Row → Exit → Type 0
 MeansExit rows StepsExit = IsSet (codes "exit-code") rows
 MeansExit rows Printed = IsUnset (codes "exit-code") rows
 
+abbrev pub MeansUnreadable : List Row → Unreadable → Type 0
+MeansUnreadable rows Left = IsSet (codes "partial") rows
+MeansUnreadable rows Refused = IsUnset (codes "partial") rows
+
 abbrev pub MeansBack : List Row → Back → Type 0
 MeansBack rows Allowed = IsSet (codes "back") rows
 MeansBack rows NoBack = IsUnset (codes "back") rows
+
+abbrev pub MeansExtent : List Row → Extent → Type 0
+MeansExtent rows Begun = IsSet (codes "rest") rows
+MeansExtent rows WholePlan = IsUnset (codes "rest") rows
+
+-- how a plan that has begun goes on, and which slots stay with their owners
+abbrev pub MeansDetour : List Row → Detour → Options → Type 0
+MeansDetour rows detour options = MeansBack rows detour.back × MeansExtent rows detour.extent × MeansShape rows detour.shape × AreSlots (left_texts rows) options.left.items
 
 -- what a summary is to show
 abbrev pub MeansWish : List Row → Wish → Type 0
@@ -95,7 +118,7 @@ MeansCut rows cut = IsCount 1000000 1 (one_of (codes "rounds") rows) cut.rounds 
 abbrev pub MeansStatement : List Row → Statement → Options → Type 0
 MeansStatement rows stated.Why options = ⊤
 MeansStatement rows (stated.Show wish) options = MeansWish rows wish × MeansKnown rows options
-MeansStatement rows (stated.Goal exit) options = MeansExit rows exit × MeansKnown rows options
+MeansStatement rows (stated.Goal exit) options = MeansExit rows exit × MeansKnown rows options × MeansUnreadable rows options.unreadable
 
 -- the making is what the options of the line ask for, by what they say of nodes and partitions
 abbrev pub MeansMaking : List Row → Making → Options → Type 0
@@ -107,6 +130,6 @@ MeansMaking rows (Draw shown) options = MeansPicture rows shown × MeansKnown ro
 MeansMaking rows Steps options = IsUnset (codes "moves") rows × MeansKnown rows options
 MeansMaking rows Moves options = IsSet (codes "moves") rows × MeansKnown rows options
 MeansMaking rows (Windows cut) options = MeansCut rows cut × MeansKnown rows options
-MeansMaking rows (Goal exit) options = InWords rows × MeansExit rows exit × MeansKnown rows options
-MeansMaking rows (Around back) options = MeansBack rows back × MeansKnown rows options
+MeansMaking rows (Goal exit) options = InWords rows × MeansExit rows exit × MeansKnown rows options × MeansUnreadable rows options.unreadable
+MeansMaking rows (Around detour) options = MeansDetour rows detour options × MeansKnown rows options
 MeansMaking rows (State statement) options = InJson rows × MeansStatement rows statement options

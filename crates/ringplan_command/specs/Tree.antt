@@ -113,10 +113,11 @@ abbrev pub windows_app : App
 windows_app = with_rule (with_rule (known_app (job_app (codes "windows"))) (record (cut_option (codes "rounds")) { required = true })) (cut_option (codes "only"))
 
 abbrev pub goal_app : App
-goal_app = with_rule (with_rule (known_app (job_app (codes "goal"))) (flag_option (codes "exit-code"))) (text_option (codes "format"))
+goal_app = with_rule (with_rule (with_rule (known_app (job_app (codes "goal"))) (flag_option (codes "partial"))) (flag_option (codes "exit-code"))) (text_option (codes "format"))
 
 abbrev pub around_app : App
-around_app = with_rule (known_app (job_app (codes "around"))) (flag_option (codes "back"))
+around_app = with_rule (with_rule (with_rule (with_rule (known_app (job_app (codes "around"))) (list_option (codes "leave"))) (flag_option (codes "rest")))
+    (flag_option (codes "back"))) (flag_option (codes "all"))
 
 -- the program's name, which wants a subcommand, and its version
 abbrev pub top_app : App

@@ -17,7 +17,7 @@ pub(crate) const GOAL: &str =
     "Prints a plan that leads to a goal ring, by racks, weights and dead nodes, with its certificate";
 
 pub(crate) const AROUND: &str =
-    "Prints another plan around nodes that died in the middle of a change, with the history that goes on by it";
+    "Prints another plan for a change that has begun, around dead nodes, at rest, or with slots left out, with the history that goes on by it";
 
 pub(crate) const SHOW: &str =
     "Prints a summary of the plan, and with a history how far it has come";
@@ -113,10 +113,21 @@ pub(crate) const DEAD: &str =
     "A node that is dead for good: it leaves, its slots are read from others, and it does not join, drop or retire; write a name that begins with - as --dead=-NAME";
 
 pub(crate) const GONE: &str =
-    "A node that is dead from here on: no step that is to come asks anything of it; at least one is named, here or in the layout; write a name that begins with - as --dead=-NAME";
+    "A node that is dead from here on: no step that is to come asks anything of it; write a name that begins with - as --dead=-NAME";
 
 pub(crate) const BACK: &str =
-    "Takes mirrors back that no copy can fill any more: the store must let go of them, as docs/STORES.md says";
+    "Takes mirrors back that no copy can fill any more: the store must let go of them, as docs/STORES.md says; with --rest also those whose copies have no chunk";
+
+pub(crate) const REST: &str = "Ends the moves that have begun, and begins no others";
+
+pub(crate) const LEAVE: &str =
+    "A slot that stays with its owner, by its partition and its index; a mirror of it is taken back; may stand several times";
+
+pub(crate) const ALL_SLOTS: &str =
+    "Says in a line for each slot what becomes of it; without it only how many slots there are at each node";
+
+pub(crate) const PARTIAL: &str =
+    "Plans the rest if partitions cannot be read, since fewer than R of their owners live: the slots of these stay as they are";
 
 pub(crate) const EXIT_CODE: &str =
     "Ends with status 4 where the plan that is printed has steps, and with 0 where it has none";
@@ -146,8 +157,11 @@ pub(crate) const NO_RATE: &[u8; 81] =
 pub(crate) const NO_WINDOW: &[u8; 111] =
     b"error: invalid value for '--rounds <K>' or '--only <W>': not 1 to 1000000\n\nFor more information, try '--help'.\n";
 
-pub(crate) const NO_DEAD: &[u8; 110] =
-    b"error: a node that is dead is named by '--dead <NODE>', or by the layout\n\nFor more information, try '--help'.\n";
+pub(crate) const NO_DETOUR: &[u8; 138] =
+    b"error: what changes is said by '--dead <NODE>', a layout that names one, '--leave <P.I>' or '--rest'\n\nFor more information, try '--help'.\n";
+
+pub(crate) const NO_SLOT: &[u8; 121] =
+    b"error: invalid value for '--leave <P.I>': not a partition and an index, such as 3.1\n\nFor more information, try '--help'.\n";
 
 /// What is said of words or options that are no text.
 pub const NO_WORDS: &[u8; 123] =
@@ -331,9 +345,9 @@ Example: ringplan show examples/plan_grow.bundle
 
 Input: a bundle: a ring with a change, or with a plan and its certificate, and perhaps a history.
 Standard output: who joins and leaves, what moves in how many rounds, what becomes of balance, racks and failures, the nodes that take part, and the
-copies of each round; with a history who is down, and what is done, open and next. Of a ring alone each node with its slots, allowance and state.
-If the layout has sizes, how much moves in all, by node and by round, and the most that copies which wait for one another have. With `--rate` also the
-second in which the plan ends at the earliest.
+copies of each round; with a history what is done, open and next; and who is dead or down. Of a ring alone each node with its alias, rack, state, slots,
+size and allowance. If the layout has sizes, how much moves in all, by node and by round, and the most that copies which wait for one another have. With
+`--rate` also when the plan ends at the earliest; with a history both are of what is left.
 Partitions, slots, steps and rounds are numbers; `5.1` is slot 1 of partition 5.
 
 Exit status: 0 printed, 1 no plan, one that is refused, or a history that is no run, 2 a text or the command line is refused, 3 memory, input or output";
@@ -343,8 +357,9 @@ Example: ringplan draw examples/plan_grow.bundle -o plan.svg
 
 Input: a bundle: a ring with a change, or with a plan and its certificate, and perhaps a history.
 Standard output: an SVG file that needs no other: a row for each node that takes part, a column for each round, a bar for each copy, which shows its
-step under a pointer; with a history what is copied, open and still to do, and who is down. Above 40 rounds or 90 copies side by side columns and
-rows are summed. With `--map` a row is a partition and a column a node: grey is owned before and after, orange given, blue taken.
+step under a pointer; with a history what is copied, open and still to do. The names of nodes that are dead or down are crossed out. If the layout has
+sizes, how much each node gives and takes. Above 40 rounds or 90 copies side by side columns and rows are summed. With `--map` a row is a partition and
+a column a node: grey is owned before and after, orange given, blue taken.
 
 Exit status: 0 printed, 1 no plan, one that is refused, or a history that is no run, 2 a text or the command line is refused, 3 memory, input or output";
 
@@ -375,11 +390,12 @@ Exit status: 0 printed, with `--exit-code` 4 if the plan has steps, 1 no plan, 2
 pub(crate) const AROUND_STREAMS: &str = "\
 Example: ringplan around --dead b begun.bundle -o on.bundle
 
-Input: a ring, a plan, its certificate and a history, which is a run of the plan that stopped or goes on.
+Input: a ring, a plan, its certificate and a history, which is a run of the plan that stopped or goes on. At least one of --dead, a layout that names a
+dead node, --leave and --rest.
 Standard output: the ring, another plan, its certificate and the history by that plan: `check` accepts the plan, and `replay` the history. Steps that
 are done are in both plans, with other numbers: a program that does the plan hands out no step while it changes bundles, and finds what it holds of a
-step by the step's kind, partition, slot and node. Standard error: what becomes of slots that do not go where they were to go; or else why there is no
-such plan.
+step by the step's kind, partition, slot and node. Standard error: how many slots do not go where they were to go, by node, and with --all each of them;
+or why there is no such plan.
 
 Exit status: 0 printed, 1 no plan, or one that is refused, or no run of it, 2 a text or the command line is refused, 3 memory, input or output";
 

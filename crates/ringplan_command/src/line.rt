@@ -4,20 +4,22 @@ ghost use Rattle.std.specs.Prelude.{◌≡◌, IfOk, IfSome, MatchOption, Some, 
 ghost use Rattle.change_text.specs.declared.options.RackRule.{RackRule as TheRule};
 ghost use Rattle.clap.specs.Words.{first_of, found_of, rows_of};
 ghost use Rattle.ringplan_command.specs.Command.{IsOfWord, IsTurnedAway};
-ghost use Rattle.ringplan_command.specs.Makings.{HasNoRacks, MeansBack, MeansColor, MeansExit, MeansKnown, MeansPicture, MeansRacks, MeansShape, MeansWish};
+ghost use Rattle.ringplan_command.specs.Makings.{HasNoRacks, MeansBack, MeansColor, MeansExit, MeansExtent, MeansKnown, MeansPicture, MeansRacks, MeansShape, MeansUnreadable, MeansWish, left_texts};
+ghost use Rattle.ringplan_command.specs.Slots.{AreSlots};
 
 use crate::command::{Format, Request, format_of};
 use crate::counts::Count;
 use crate::files::named;
-use crate::help::{NO_COLOR, NO_DEAD, NO_FORMAT, NO_RACKS, NO_RATE, NO_WINDOW};
+use crate::help::{NO_COLOR, NO_DETOUR, NO_FORMAT, NO_RACKS, NO_RATE, NO_SLOT, NO_WINDOW};
 use crate::naming::names_of;
 use crate::reading::{is_set, number_of, text_of};
+use crate::slots::slots_of;
 use crate::word::Word;
-use change_text::{Options, RackRule};
+use change_text::{Options, RackRule, Unreadable};
 use clap::ArgMatches;
 use layout_text::Layout;
 use plan_runs::Back;
-use ringplan_job::{Color, Cut, Exit, Making, Picture, Shape, Statement, Wish};
+use ringplan_job::{Color, Cut, Detour, Exit, Extent, Making, Picture, Shape, Statement, Wish};
 use std::alloc::{AllocError, Global};
 
 // The most rounds of copies that a window may have, and the most windows.
@@ -122,6 +124,8 @@ fn known_of(alloc: Global, matches: &ArgMatches) -> Result<Option<Options>, Allo
         racks,
         layout: Layout::new(alloc),
         layout_file,
+        unreadable: Unreadable::Refused,
+        left: Vec::new(alloc),
     }))
 }
 
@@ -223,15 +227,17 @@ fn windows_line(alloc: Global, matches: &ArgMatches) -> Result<Request, AllocErr
 fn goal_line(alloc: Global, matches: &ArgMatches) -> Result<Request, AllocError>
     ensures { IfOk result (IsOfWord Word.Goal (rows_of (found_of matches.now))) }
 {
-    let Some(options) = known_of(alloc, matches)? else {
+    let Some(mut options) = known_of(alloc, matches)? else {
         return mistaken(alloc, NO_RACKS);
     };
+    options.unreadable = unreadable_of(matches);
     goal_of(alloc, matches, options)
 }
 
 // A plan that leads to the goal ring, as text or JSON.
 fn goal_of(alloc: Global, matches: &ArgMatches, options: Options) -> Result<Request, AllocError>
-    requires { MeansKnown (rows_of (found_of matches.now)) options }
+    requires known { MeansKnown (rows_of (found_of matches.now)) options }
+    requires unreadable { MeansUnreadable (rows_of (found_of matches.now)) options.unreadable }
     ensures { IfOk result (IsOfWord Word.Goal (rows_of (found_of matches.now))) }
 {
     let exit = exit_of(matches);
@@ -242,17 +248,65 @@ fn goal_of(alloc: Global, matches: &ArgMatches, options: Options) -> Result<Requ
     }
 }
 
-// What a line with the word `around` asks for. A dead node is named, or a layout that may name one.
+// What becomes of partitions that cannot be read.
+fn unreadable_of(matches: &ArgMatches) -> Unreadable
+    ensures { MeansUnreadable (rows_of (found_of matches.now)) result }
+{
+    if is_set(matches, "partial") {
+        return Unreadable::Left;
+    }
+    Unreadable::Refused
+}
+
+// What a line with the word `around` asks for.
 fn around_line(alloc: Global, matches: &ArgMatches) -> Result<Request, AllocError>
     ensures { IfOk result (IsOfWord Word.Around (rows_of (found_of matches.now))) }
 {
-    let Some(options) = known_of(alloc, matches)? else {
+    let Some(mut options) = known_of(alloc, matches)? else {
         return mistaken(alloc, NO_RACKS);
     };
-    if options.dead.is_empty() && options.layout_file.is_none() {
-        return mistaken(alloc, NO_DEAD);
+    let Some(left) = slots_of(alloc, matches)? else {
+        return mistaken(alloc, NO_SLOT);
+    };
+    options.left = left;
+    around_of(alloc, matches, options)
+}
+
+// How a plan that has begun goes on. Something is to change: a node is dead, or a layout may name one, a slot stays with its owner, or only what has begun is ended.
+fn around_of(alloc: Global, matches: &ArgMatches, options: Options) -> Result<Request, AllocError>
+    requires known { MeansKnown (rows_of (found_of matches.now)) options }
+    requires left { AreSlots (left_texts (rows_of (found_of matches.now))) options.left.items }
+    ensures { IfOk result (IsOfWord Word.Around (rows_of (found_of matches.now))) }
+{
+    let detour = detour_of(matches);
+    let is_dead = !options.dead.is_empty() || options.layout_file.is_some();
+    if !is_dead && options.left.is_empty() && detour.extent == Extent::Whole {
+        return mistaken(alloc, NO_DETOUR);
     }
-    Ok(Request::Make(Making::Around(back_of(matches)), options))
+    Ok(Request::Make(Making::Around(detour), options))
+}
+
+// How the plan goes on, by the flags of the line.
+fn detour_of(matches: &ArgMatches) -> Detour
+    ensures back { MeansBack (rows_of (found_of matches.now)) result.back }
+    ensures extent { MeansExtent (rows_of (found_of matches.now)) result.extent }
+    ensures shape { MeansShape (rows_of (found_of matches.now)) result.shape }
+{
+    Detour {
+        back: back_of(matches),
+        extent: extent_of(matches),
+        shape: shape_of(matches),
+    }
+}
+
+// How much of the plan is still to be done.
+fn extent_of(matches: &ArgMatches) -> Extent
+    ensures { MeansExtent (rows_of (found_of matches.now)) result }
+{
+    if is_set(matches, "rest") {
+        return Extent::Begun;
+    }
+    Extent::Whole
 }
 
 // Whether the line lets mirrors be taken back.

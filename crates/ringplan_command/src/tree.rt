@@ -3,17 +3,17 @@
 ghost use Rattle.std.specs.Prelude.{◌≡◌, false, codes, IfOk};
 ghost use Rattle.clap.specs.Words.{App, rule_of, with_rule, with_subcommand};
 ghost use Rattle.ringplan_command.specs.Tree.{IsApp, cut_option, draw_app, drive_app, flag_option, goal_app, job_app, known_app, ringplan, show_app};
-ghost use Rattle.ringplan_command.specs.Tree.{around_app, check_app, file_argument, output_option, rate_option, steps_app, text_option, top_app};
+ghost use Rattle.ringplan_command.specs.Tree.{around_app, check_app, file_argument, list_option, output_option, rate_option, steps_app, text_option, top_app};
 ghost use Rattle.ringplan_command.specs.Tree.{completions_app, guide_app, number_option, part_app, replay_app, shell_argument, why_app, windows_app, words_app, workers_option};
 
 use crate::help::{
-    ABOUT, AFTER, AFTER_STREAMS, ALL, AROUND, AROUND_STREAMS, BACK, CERT, CERT_STREAMS, CHECK,
-    CHECK_STREAMS, COLOR, COMPLETIONS, COMPLETIONS_STREAMS, DEAD, DRAW, DRAW_STREAMS, DRIVE,
+    ABOUT, AFTER, AFTER_STREAMS, ALL, ALL_SLOTS, AROUND, AROUND_STREAMS, BACK, CERT, CERT_STREAMS,
+    CHECK, CHECK_STREAMS, COLOR, COMPLETIONS, COMPLETIONS_STREAMS, DEAD, DRAW, DRAW_STREAMS, DRIVE,
     DRIVE_STREAMS, DRIVERS, ENTRY, EXIT_CODE, FILE, FORMAT, GOAL, GOAL_STREAMS, GONE, LAYOUT,
-    MANUAL, MANUAL_STREAMS, MAP, MIGRATE, MIGRATE_STREAMS, MORE, MOVES, OF, ONLY, OUTPUT, PART,
-    PART_NUMBER, PART_STREAMS, PARTITIONS, PLAN, PLAN_STREAMS, PLAY, PLAY_STREAMS, RACKS, RATE,
-    REPLAY, REPLAY_STREAMS, REPORT, ROUNDS, SHELL, SHOW, SHOW_STREAMS, STEPS, STEPS_STREAMS,
-    STREAMS, VERSION, WHY, WHY_STREAMS, WINDOWS, WINDOWS_STREAMS, WORKERS,
+    LEAVE, MANUAL, MANUAL_STREAMS, MAP, MIGRATE, MIGRATE_STREAMS, MORE, MOVES, OF, ONLY, OUTPUT,
+    PART, PART_NUMBER, PART_STREAMS, PARTIAL, PARTITIONS, PLAN, PLAN_STREAMS, PLAY, PLAY_STREAMS,
+    RACKS, RATE, REPLAY, REPLAY_STREAMS, REPORT, REST, ROUNDS, SHELL, SHOW, SHOW_STREAMS, STEPS,
+    STEPS_STREAMS, STREAMS, VERSION, WHY, WHY_STREAMS, WINDOWS, WINDOWS_STREAMS, WORKERS,
 };
 use clap::{Arg, ArgAction, Command, value_parser};
 use std::alloc::{AllocError, Global};
@@ -113,6 +113,14 @@ fn file<'a>(alloc: Global) -> Arg<'a>
     ensures local { result.global ≡ false }
 {
     Arg::new(alloc, "file").value_name("FILE").help(FILE)
+}
+
+// `--leave P.I`, which may stand several times.
+fn leave<'a>(alloc: Global) -> Arg<'a>
+    ensures rule { rule_of result ≡ list_option (codes "leave") }
+    ensures local { result.global ≡ false }
+{
+    option(alloc, "leave", "P.I", LEAVE).action(ArgAction::Append)
 }
 
 // `-o FILE`.
@@ -254,6 +262,7 @@ fn goal<'a>(alloc: Global) -> Made<'a>
     ensures { IfOk result (IsApp goal_app) }
 {
     let command = known(alloc, job(alloc, "goal", GOAL, GOAL_STREAMS), DEAD);
+    let command = with_arg(command, flag(alloc, "partial", PARTIAL));
     let command = with_arg(command, flag(alloc, "exit-code", EXIT_CODE));
     with_arg(command, option(alloc, "format", "FORMAT", FORMAT))
 }
@@ -262,7 +271,10 @@ fn around<'a>(alloc: Global) -> Made<'a>
     ensures { IfOk result (IsApp around_app) }
 {
     let command = known(alloc, job(alloc, "around", AROUND, AROUND_STREAMS), GONE);
-    with_arg(command, flag(alloc, "back", BACK))
+    let command = with_arg(command, leave(alloc));
+    let command = with_arg(command, flag(alloc, "rest", REST));
+    let command = with_arg(command, flag(alloc, "back", BACK));
+    with_arg(command, flag(alloc, "all", ALL_SLOTS))
 }
 
 // The program's own line, which wants a subcommand.

@@ -18,7 +18,7 @@ use Rattle.ringplan_job.specs.declared.making.Color.{Color}
 use Rattle.ringplan_job.specs.declared.making.Statement.{Statement}
 use Rattle.ringplan_job.specs.declared.making.Statement.TheVariants as statements
 use Rattle.plan_bundles.specs.Certs.{IsCertifiedText}
-use Rattle.plan_bundles.specs.Goals.{IsLed, IsLedText, IsWishReached, dead_names}
+use Rattle.plan_bundles.specs.Goals.{IsLed, IsLedText, IsWishReached}
 use Rattle.plan_bundles.specs.Windows.{AreAskedOf}
 use Rattle.plan_around.specs.Around.{IsAround}
 use Rattle.ringplan_people.specs.Studies.{IsStudyOf, HasApproved, IsShown, IsLeftBy, IsLeftNow}
@@ -46,7 +46,7 @@ IsMade Steps options bytes text = OfPlan (λ ring plan. text ≡ steps_text ring
 IsMade Moves options bytes text = OfPlan (λ ring plan. text ≡ moves_text ring plan) bytes
 IsMade (Windows cut) options bytes text = OfPlan (λ ring plan. AreAskedOf ring plan cut.only text) bytes
 IsMade (Goal status) options bytes text = IsLedText bytes options text
-IsMade (Around back) options bytes text = IsAround bytes (dead_names options) back text
+IsMade (Around detour) options bytes text = IsAround bytes options detour text
 IsMade (Why color) options bytes text = ⊥
 IsMade (State statement) options bytes text = ⊥
 

@@ -1,16 +1,35 @@
 //! Why no plan leads to the ring that is wished for, in words.
 
 use crate::why::push_words_of;
-use change_text::{Options, Wanted, read_wanted};
+use change_text::{Options, Unreadable, Wanted, read_wanted};
 use helpers::Words;
-use plan_bundles::{Kind, dead_by, front, kind_of, nodes_of, wished_goal};
-use plan_goal::{Aim, Goal, Unfit, is_among, read_goal, why_unfit};
+use plan_bundles::{Kind, dead_by, front, goal_of, kind_of, nodes_of};
+use plan_goal::{Aim, Goal, Unfit, is_among, why_unfit};
 use ring_names::Refusal;
+use ring_table::Ring;
 use show_why::{Page, Said, push_printed, tell_text};
 use std::alloc::Global;
 
-// Says why no plan leads there, whatever its steps.
-fn push_unfit(out: &mut Words, goal: &Goal, unfit: Unfit) {
+// Adds which partitions are unread, and why that matters.
+fn push_unread(out: &mut Words, ring: &Ring, unread: &[u32]) {
+    out.text(if unread.len() == 1 {
+        b"partition "
+    } else {
+        b"partitions "
+    });
+    for (place, partition) in unread.iter().enumerate() {
+        out.text(if place > 0 { b", " } else { b"" });
+        out.number(*partition);
+    }
+    out.fill(
+        b" cannot be read: a slot of a dead node is copied from # live owners, and fewer are left",
+        &[],
+        &[ring.r()],
+    );
+}
+
+// Says why no plan leads there, whatever its steps. The partitions are those that are unread.
+fn push_unfit(out: &mut Words, goal: &Goal, unread: &[u32], unfit: Unfit) {
     let ring = &goal.ring;
     match unfit {
         Unfit::Space => out.text(
@@ -38,11 +57,11 @@ fn push_unfit(out: &mut Words, goal: &Goal, unfit: Unfit) {
             &[],
             &[slot.index, slot.partition],
         ),
-        Unfit::Unread(partition) => out.fill(
-            b"refused: in partition # fewer than # slots have owners that are not named dead\n  A slot of a dead node is read from # others, as a read is answered by so many.\n",
-            &[],
-            &[partition, ring.r(), ring.r()],
-        ),
+        Unfit::Unread(_) => {
+            out.text(b"refused: ");
+            push_unread(out, ring, unread);
+            out.text(b"\n  `goal --partial` plans the rest, and leaves these as they are.\n");
+        }
     }
 }
 
@@ -51,6 +70,7 @@ fn push_no_plan(
     alloc: Global,
     out: &mut Words,
     goal: &Goal,
+    unread: &[u32],
     options: &Options,
 ) -> Result<(), Refusal> {
     let names = dead_by(alloc, options)?;
@@ -62,18 +82,10 @@ fn push_no_plan(
         dead: dead.as_slice(),
     });
     match unfit {
-        Some(unfit) => push_unfit(out, goal, unfit),
+        Some(unfit) => push_unfit(out, goal, unread, unfit),
         None => out.text(b"refused: the planner found no plan\n"),
     }
     Ok(())
-}
-
-// The rings of a bundle, or the ring of a change and the one that is wished for.
-fn goal_of(alloc: Global, bytes: &[u8], options: &Options) -> Result<Goal, Refusal> {
-    match kind_of(bytes) {
-        Kind::Change => wished_goal(alloc, bytes, options),
-        Kind::Plan | Kind::History => read_goal(alloc, bytes),
-    }
 }
 
 // The refusal of a line, as many lines less.
@@ -151,7 +163,7 @@ fn push_by_goal(
     refusal: &Refusal,
 ) -> Result<(), Refusal> {
     match goal_of(alloc, bytes, options) {
-        Ok(goal) => push_no_plan(alloc, out, &goal, options),
+        Ok((goal, unread)) => push_no_plan(alloc, out, &goal, unread.as_slice(), options),
         Err(Refusal::OutOfMemory) => Err(Refusal::OutOfMemory),
         Err(_) => push_words_of(alloc, out, bytes, refusal),
     }
@@ -177,6 +189,25 @@ pub fn push_dead_leavers(
                 &[],
             );
         }
+    }
+    Ok(())
+}
+
+/// Adds which partitions stay as they are, since they cannot be read.
+pub fn push_left(
+    alloc: Global,
+    out: &mut Words,
+    bytes: &[u8],
+    options: &Options,
+) -> Result<(), Refusal> {
+    if options.unreadable == Unreadable::Refused {
+        return Ok(());
+    }
+    let (goal, unread) = goal_of(alloc, bytes, options)?;
+    if !unread.is_empty() {
+        out.text(b"ringplan: ");
+        push_unread(out, &goal.ring, unread.as_slice());
+        out.text(b": so no slot of these moves\n");
     }
     Ok(())
 }

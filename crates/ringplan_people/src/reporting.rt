@@ -7,7 +7,7 @@ ghost use Rattle.ringplan_people.specs.Why.{IsWhy};
 
 use crate::after::{after_bundle, push_open};
 use crate::cert::{cert_of, push_why_none};
-use crate::goal_words::{push_dead_leavers, push_goal_words};
+use crate::goal_words::{push_dead_leavers, push_goal_words, push_left};
 use crate::racks::{is_of_options, push_misfits, push_racks};
 use crate::show::{draw_bundle, show_bundle};
 use crate::stating::state_bundle;
@@ -50,6 +50,7 @@ fn make_goal(
     let found = led_bundle(alloc, bytes, options)?;
     push_racks(alloc, &mut notes.words, bytes, &found.approved, options)?;
     push_dead_leavers(alloc, &mut notes.words, bytes, options)?;
+    push_left(alloc, &mut notes.words, bytes, options)?;
     notes.has_steps = found.approved.plan().len() > 0;
     if !notes.has_steps {
         notes.words.text(b"ringplan: the plan has no steps: the ring is as wanted already\n");
@@ -78,7 +79,7 @@ fn make_of(
         Making::Moves => moves_bundle(alloc, bytes, options, &mut notes.words),
         Making::Windows(cut) => windows_bundle(alloc, bytes, cut, options, &mut notes.words),
         Making::Goal(_) => make_goal(alloc, bytes, options, notes),
-        Making::Around(back) => around_bundle(alloc, bytes, options, back, &mut notes.words),
+        Making::Around(detour) => { around_bundle(alloc, bytes, options, detour, &mut notes.words) }
     }
 }
 
@@ -154,11 +155,18 @@ pub(crate) fn push_said(
         (Making::After, Refusal::WrongStage(step)) => push_open(alloc, out, bytes, *step),
         (Making::Windows(_), _) => push_windows_words(alloc, out, bytes, options, refusal),
         (Making::Goal(_), _) => push_goal_words(alloc, out, bytes, options, refusal),
-        (Making::Around(_), Refusal::NoPlan) => {
-            out.text(b"refused: no plan was found by which the history goes on\n");
-            Ok(())
-        }
+        // `around_bundle` has said it.
+        (Making::Around(_), Refusal::NoPlan) => Ok(()),
         _ => push_words_of(alloc, out, bytes, refusal),
+    }
+}
+
+// What the notes say of a refusal: `around_bundle` says itself why there is no plan.
+fn said_before(alloc: Global, making: Making, refusal: &Refusal, notes: Notes) -> Words {
+    let Notes { words, .. } = notes;
+    match (making, refusal) {
+        (Making::Around(_), Refusal::NoPlan) => words,
+        _ => Words::new(alloc),
     }
 }
 
@@ -179,7 +187,7 @@ fn report_made(
     match make_of(alloc, making, options, bytes, &mut notes) {
         Ok(output) => made(making, output, notes),
         Err(refusal) => {
-            let mut words = Words::new(alloc);
+            let mut words = said_before(alloc, making, &refusal, notes);
             push_said(alloc, &mut words, making, options, bytes, &refusal)?;
             refused_with(alloc, refusal, words)
         }

@@ -9,15 +9,15 @@ use crate::study::{Study, studied};
 use change_text::Options;
 use helpers::{Labels, Words};
 use plan_bundles::{
-    Kind, Racking, aliases_of, ask_layout, front, has_sizes, kind_of, members_with, racks_of,
-    sizes_of,
+    Kind, Racking, aliases_of, ask_layout, dead_by, front, has_sizes, kind_of, members_with,
+    nodes_of, racks_of, sizes_of,
 };
 use plan_moves::Progress;
-use ring_names::Refusal;
+use ring_names::{NodeId, Refusal};
 use ring_table::{Ring, read_ring};
 use ringplan_job::{Picture, Shape as Asked, Wish};
 use show_picture::{Sheet, map_picture, picture};
-use show_plan::{Present, Scene, Shape, Sized, View, Volumes, ring_summary, summary};
+use show_plan::{Facts, Present, Scene, Shape, Sized, View, Volumes, ring_summary, summary};
 use std::alloc::Global;
 
 /// What is shown of a bundle's plan, and how far its history has come, where there is one.
@@ -28,32 +28,56 @@ pub(crate) struct Shown {
     pub present: Present,
 }
 
-/// How much an approved plan moves, if the layout has sizes. A partition that its ring does not have is `TooLarge`, with its line in the layout.
+/// How much each partition stores, if the layout has sizes. A partition that the ring does not have is `TooLarge`, with its line in the layout.
+pub(crate) fn sizes_by(
+    alloc: Global,
+    ring: &Ring,
+    options: &Options,
+) -> Result<Option<Vec<u64>>, Refusal> {
+    if !has_sizes(&options.layout) {
+        return Ok(None);
+    }
+    let sizes = sizes_of(alloc, ring.q(), &options.layout)?;
+    Ok(Some(sizes))
+}
+
+/// How much an approved plan moves, if the layout has sizes, and what its history leaves. Refused is what `sizes_by` refuses.
 pub(crate) fn volumes_of(
     alloc: Global,
     found: &Study,
     scene: &Scene,
+    progress: Option<&Progress>,
     options: &Options,
 ) -> Result<Option<Volumes>, Refusal> {
-    let layout = &options.layout;
-    if !has_sizes(layout) {
-        return Ok(None);
-    }
     let (ring, plan) = (found.approved.ring(), found.approved.plan());
-    let sizes = sizes_of(alloc, ring.q(), layout)?;
-    let volumes = Volumes::of(alloc, ring, plan, scene, sizes.as_slice())?;
+    let Some(sizes) = sizes_by(alloc, ring, options)? else {
+        return Ok(None);
+    };
+    let volumes = Volumes::of(alloc, ring, plan, scene, sizes.as_slice(), progress)?;
     Ok(Some(volumes))
 }
 
+/// The nodes that are named dead. A name that the ring does not declare is `UnknownNode(0)`.
+pub(crate) fn dead_of(
+    alloc: Global,
+    ring: &Ring,
+    options: &Options,
+) -> Result<Vec<NodeId>, Refusal> {
+    let names = dead_by(alloc, options)?;
+    nodes_of(alloc, ring, names.as_slice())
+}
+
 /// What is shown of a plan.
-pub(crate) fn shown_by(alloc: Global, found: &Study) -> Result<Shown, Refusal> {
+pub(crate) fn shown_by(alloc: Global, found: &Study, options: &Options) -> Result<Shown, Refusal> {
     let (ring, plan) = (found.approved.ring(), found.approved.plan());
     let progress = match &found.history {
         Some(history) => Some(Progress::of(alloc, plan, history.as_slice())?),
         None => None,
     };
     let scene = Scene::of(alloc, &found.approved, &found.cert)?;
-    let present = Present::of(alloc, ring, plan, &scene, progress.as_ref())?;
+    let dead = dead_of(alloc, ring, options)?;
+    let run = progress.as_ref();
+    let present = Present::of(alloc, ring, plan, &scene, run, dead.as_slice())?;
     Ok(Shown {
         scene,
         progress,
@@ -80,14 +104,23 @@ pub(crate) fn racks_at_rest(
     racks_of(alloc, ring, members.as_slice(), options)
 }
 
+/// What the options say of a ring's nodes and partitions. Refused is a name that the ring does not declare, and a partition that it does not have.
+pub(crate) fn facts_of(alloc: Global, ring: &Ring, options: &Options) -> Result<Facts, Refusal> {
+    Ok(Facts {
+        aliases: aliases_of(alloc, ring, &options.layout)?,
+        sizes: sizes_by(alloc, ring, options)?,
+        dead: dead_of(alloc, ring, options)?,
+    })
+}
+
 // The summary of a ring alone, of which nothing moves.
 fn show_ring(alloc: Global, bytes: &[u8], options: &Options) -> Result<Vec<u8>, Refusal>
     ensures shown { OnOk result (IsShown bytes.now) }
 {
     let ring = read_ring(alloc, bytes)?;
     let racking = racks_at_rest(alloc, &ring, options)?;
-    let aliases = aliases_of(alloc, &ring, &options.layout)?;
-    ring_summary(alloc, &ring, racking.racks.as_ref(), aliases.as_ref())
+    let facts = facts_of(alloc, &ring, options)?;
+    ring_summary(alloc, &ring, racking.racks.as_ref(), &facts)
 }
 
 // The summary of a bundle without colours.
@@ -161,12 +194,13 @@ fn show_plan(
 {
     let found = studied(alloc, bytes, options)?;
     let racks = racks_shown(alloc, bytes, &found, options, words)?;
-    let shown = shown_by(alloc, &found)?;
-    let volumes = volumes_of(alloc, &found, &shown.scene, options)?;
+    let shown = shown_by(alloc, &found, options)?;
+    let run = shown.progress.as_ref();
+    let volumes = volumes_of(alloc, &found, &shown.scene, run, options)?;
     let sized = sized(volumes.as_ref(), wish.rate);
     let (ring, plan) = (found.approved.ring(), found.approved.plan());
     let (scene, present) = (&shown.scene, &shown.present);
-    let (progress, racks) = (shown.progress.as_ref(), racks.as_ref());
+    let (progress, racks) = (run, racks.as_ref());
     let shape = shape_of(wish.shape);
     let view = View {
         alloc,
@@ -200,8 +234,9 @@ pub fn draw_bundle(
         scene,
         progress,
         present,
-    } = shown_by(alloc, &found)?;
+    } = shown_by(alloc, &found, options)?;
     let run = progress.as_ref();
+    let volumes = volumes_of(alloc, &found, &scene, run, options)?;
     let sheet = Sheet {
         alloc,
         ring: found.approved.ring(),
@@ -209,6 +244,7 @@ pub fn draw_bundle(
         scene: &scene,
         present: &present,
         progress: run,
+        volumes: volumes.as_ref(),
     };
     drawn(&sheet, kind, racks.as_ref())
 }

@@ -10,7 +10,7 @@ use crate::history_words::unless_memory;
 use crate::object::{Object, text_value};
 use crate::racks::{is_of_options, push_misfits, racking_of};
 use crate::reporting::goal_status;
-use crate::show::{Shown, racks_at_rest, shown_by, volumes_of};
+use crate::show::{Shown, facts_of, racks_at_rest, shown_by, volumes_of};
 use crate::study::{Study, studied};
 use crate::why::{Outcome, push_accepted, push_why};
 use change_text::Options;
@@ -18,11 +18,11 @@ use helpers::{Labels, Words, at, small, word};
 use plan_bundles::{ask_layout, front, led_bundle};
 use plan_goal::Proposed;
 use ring_names::Refusal;
-use ring_table::{Ring, read_ring};
+use ring_table::{Allowance, Ring, read_ring};
 use ringplan_job::{Exit, Statement, Wish};
 use ringplan_jobs::{Answer, refusal_members, status_of};
 use serde_json::Value;
-use show_plan::{Present, Scene, Volumes};
+use show_plan::{Facts, Present, Scene, Volumes, stored_by};
 use show_why::Said;
 use std::alloc::Global;
 
@@ -139,30 +139,92 @@ fn state_why(alloc: Global, bytes: &[u8]) -> Result<Answer, Refusal>
     }
 }
 
-// The object of a node: its name, its rack if racks are known, and whether it is a member.
-fn node_object(
+// What is stated of the nodes of a ring.
+#[derive(Clone, Copy)]
+struct Nodes<'a> {
     alloc: Global,
-    ring: &Ring,
-    present: &Present,
-    node: u32,
-    racks: Option<&Labels>,
-) -> Result<Object, Refusal> {
-    let mut object = Object::new(alloc);
-    object.text("name", ring.name(node))?;
-    if let Some(racks) = racks {
-        object.text("rack", racks.name(node))?;
+    ring: &'a Ring,
+    present: &'a Present,
+    racks: Option<&'a Labels>,
+    aliases: Option<&'a Labels>,
+    // how much each node stores
+    stored: Option<&'a [u64]>,
+}
+
+impl<'a> Nodes<'a> {
+    // The object of a node: its name, rack and alias, whether it is a member and dead, what it owns and stores, and how many transfers it bears.
+    fn object(&self, node: u32) -> Result<Object, Refusal> {
+        let present = self.present;
+        let mut object = Object::new(self.alloc);
+        object.text("name", self.ring.name(node))?;
+        put_label(&mut object, "rack", self.racks, node)?;
+        put_label(&mut object, "alias", self.aliases, node)?;
+        object.put("is_member", Value::from(present.is_member(node)))?;
+        object.put("is_dead", Value::from(present.is_dead(node)))?;
+        object.number("slots", at(present.owned.as_slice(), node as usize))?;
+        if let Some(stored) = self.stored {
+            object.long("stored_size", word(stored, node as usize))?;
+        }
+        put_allowance(&mut object, self.ring, node)?;
+        Ok(object)
     }
-    object.put("is_member", Value::from(present.is_member(node)))?;
-    object.number("slots", at(present.owned.as_slice(), node as usize))?;
-    Ok(object)
+}
+
+// Puts the node's label, if it has one.
+fn put_label(
+    object: &mut Object,
+    key: &'static str,
+    labels: Option<&Labels>,
+    node: u32,
+) -> Result<(), Refusal> {
+    match labels {
+        Some(labels) if !labels.name(node).is_empty() => object.text(key, labels.name(node)),
+        _ => Ok(()),
+    }
+}
+
+// Puts how many transfers the node bears: of both kinds together, or of each.
+fn put_allowance(object: &mut Object, ring: &Ring, node: u32) -> Result<(), Refusal> {
+    match ring.nodes().get(node as usize) {
+        Some(declared) => match declared.allowance {
+            Allowance::Joint(most) => object.number("bears", most),
+            Allowance::Split { take, give } => {
+                object.number("bears_in", take)?;
+                object.number("bears_out", give)
+            }
+        },
+        None => Ok(()),
+    }
+}
+
+// The words of a list, if there is one.
+fn slice_of(words: &Option<Vec<u64>>) -> Option<&[u64]> {
+    match words {
+        Some(words) => Some(words.as_slice()),
+        None => None,
+    }
 }
 
 // The nodes of a ring alone.
-fn ring_object(alloc: Global, ring: &Ring, racks: Option<&Labels>) -> Result<Object, Refusal> {
-    let present = Present::at_rest(alloc, ring)?;
+fn ring_object(
+    alloc: Global,
+    ring: &Ring,
+    racks: Option<&Labels>,
+    facts: &Facts,
+) -> Result<Object, Refusal> {
+    let present = Present::at_rest(alloc, ring, facts.dead.as_slice())?;
+    let stored = stored_by(alloc, &present, facts.sizes())?;
+    let stated = Nodes {
+        alloc,
+        ring,
+        present: &present,
+        racks,
+        aliases: facts.aliases.as_ref(),
+        stored: slice_of(&stored),
+    };
     let mut nodes = Vec::new(alloc);
     for node in 0..small(ring.nodes().len()) {
-        nodes.push(node_object(alloc, ring, &present, node, racks)?.value())?;
+        nodes.push(stated.object(node)?.value())?;
     }
     let mut object = Object::new(alloc);
     object.text("answer", b"yes")?;
@@ -171,17 +233,11 @@ fn ring_object(alloc: Global, ring: &Ring, racks: Option<&Labels>) -> Result<Obj
 }
 
 // The nodes of a ring with a plan: what each owns, gives and takes, and whether it is down.
-fn nodes_value(
-    alloc: Global,
-    ring: &Ring,
-    shown: &Shown,
-    volumes: Option<&Volumes>,
-    racks: Option<&Labels>,
-) -> Result<Value, Refusal> {
+fn nodes_value(stated: &Nodes, shown: &Shown, volumes: Option<&Volumes>) -> Result<Value, Refusal> {
     let loads = &shown.scene.loads;
-    let mut nodes = Vec::new(alloc);
-    for node in 0..small(ring.nodes().len()) {
-        let mut object = node_object(alloc, ring, &shown.present, node, racks)?;
+    let mut nodes = Vec::new(stated.alloc);
+    for node in 0..small(stated.ring.nodes().len()) {
+        let mut object = stated.object(node)?;
         if let Some(volumes) = volumes {
             object.long("gives_size", word(volumes.gives.as_slice(), node as usize))?;
             object.long("takes_size", word(volumes.takes.as_slice(), node as usize))?;
@@ -209,7 +265,7 @@ fn put_change(
     object.number("rounds", scene.round_count())
 }
 
-// Puts how much a plan moves, and when it ends at the earliest.
+// Puts how much a plan moves, what its history leaves, and when that ends at the earliest.
 fn put_volumes(
     object: &mut Object,
     alloc: Global,
@@ -223,10 +279,38 @@ fn put_volumes(
     object.long("moves_size", volumes.moved)?;
     object.put("rounds_size", Value::Array(rounds))?;
     object.long("longest_size", volumes.longest)?;
+    if let Some(left) = &volumes.left {
+        object.long("left_size", left.moved)?;
+        object.long("longest_left_size", left.longest)?;
+    }
     if let Some(rate) = rate {
         object.long("earliest_end", volumes.earliest_end(rate))?;
     }
     Ok(())
+}
+
+// Puts the nodes of a ring with a plan.
+fn put_nodes(
+    object: &mut Object,
+    alloc: Global,
+    found: &Study,
+    shown: &Shown,
+    volumes: Option<&Volumes>,
+    options: &Options,
+) -> Result<(), Refusal> {
+    let ring = found.approved.ring();
+    let racking = racking_of(alloc, &found.approved, options)?;
+    let facts = facts_of(alloc, ring, options)?;
+    let stored = stored_by(alloc, &shown.present, facts.sizes())?;
+    let stated = Nodes {
+        alloc,
+        ring,
+        present: &shown.present,
+        racks: racking.racks.as_ref(),
+        aliases: facts.aliases.as_ref(),
+        stored: slice_of(&stored),
+    };
+    object.put("nodes", nodes_value(&stated, shown, volumes)?)
 }
 
 // What a plan does to each node, and how far a history has come.
@@ -236,20 +320,16 @@ fn plan_object(
     wish: Wish,
     options: &Options,
 ) -> Result<Object, Refusal> {
-    ask_layout(found.approved.ring(), &options.layout)?;
-    let racking = racking_of(alloc, &found.approved, options)?;
-    let shown = shown_by(alloc, found)?;
-    let volumes = volumes_of(alloc, found, &shown.scene, options)?;
     let (ring, plan) = (found.approved.ring(), found.approved.plan());
+    ask_layout(ring, &options.layout)?;
+    let shown = shown_by(alloc, found, options)?;
+    let run = shown.progress.as_ref();
+    let volumes = volumes_of(alloc, found, &shown.scene, run, options)?;
     let mut object = Object::new(alloc);
     object.text("answer", b"yes")?;
     object.number("steps", plan.len())?;
     put_change(&mut object, alloc, ring, &shown.scene)?;
-    let racks = racking.racks.as_ref();
-    object.put(
-        "nodes",
-        nodes_value(alloc, ring, &shown, volumes.as_ref(), racks)?,
-    )?;
+    put_nodes(&mut object, alloc, found, &shown, volumes.as_ref(), options)?;
     if let Some(volumes) = &volumes {
         put_volumes(&mut object, alloc, volumes, wish.rate)?;
     }
@@ -281,12 +361,19 @@ fn state_ring(alloc: Global, bytes: &[u8], options: &Options) -> Result<Answer, 
     ensures few { IfOk result (λ answer. answer.status ≤ 3) }
 {
     match read_ring(alloc, bytes) {
-        Ok(ring) => match racks_at_rest(alloc, &ring, options) {
-            Ok(racking) => ring_object(alloc, &ring, racking.racks.as_ref())?.answer(0),
+        Ok(ring) => match ring_stated(alloc, &ring, options) {
+            Ok(object) => object.answer(0),
             Err(refusal) => state_misfit(alloc, bytes, options, &refusal),
         },
         Err(refusal) => state_refusal(alloc, bytes, &refusal),
     }
+}
+
+// The object of a ring alone, by the options.
+fn ring_stated(alloc: Global, ring: &Ring, options: &Options) -> Result<Object, Refusal> {
+    let racking = racks_at_rest(alloc, ring, options)?;
+    let facts = facts_of(alloc, ring, options)?;
+    ring_object(alloc, ring, racking.racks.as_ref(), &facts)
 }
 
 // A plan that the checker accepted.

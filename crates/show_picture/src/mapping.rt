@@ -237,7 +237,13 @@ fn label(sheet: &Sheet, columns: &Columns, column: &Column) -> Words {
             words.text(own);
             words.text(b" ..");
         }
-        _ => words.text(own),
+        _ => {
+            words.text(own);
+            if sheet.is_silent(column.node) {
+                words.byte(b' ');
+                words.text(sheet.present.silence(column.node));
+            }
+        }
     }
     words
 }

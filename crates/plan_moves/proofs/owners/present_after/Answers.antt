@@ -4,7 +4,7 @@ use Rattle.plan_text.specs.Valid.{step_suits}
 use Rattle.plan_cover.specs.Looking.Serving.{serving_at}
 use Rattle.plan_cover.proofs.Served.{serving-first, step-passes, present-next}
 use Rattle.plan_moves.specs.Moves.{served_before}
-use Rattle.plan_moves.proofs.owners.past.Goals as goal
+use Rattle.plan_moves.proofs.owners.present_after.Goals as goal
 
 pub loop-number-init : goal.loop-number-init
 loop-number-init c = record {

@@ -1,0 +1,155 @@
+//! Partitions in which no more moves begin.
+
+use crate::around::{Reach, Search};
+use crate::moving::Move;
+use crate::told::Outcome;
+use helpers::{is_set, put, small};
+use plan_runs::Back;
+use ring_names::{NodeId, Refusal, Slot};
+use ringplan_job::Extent;
+
+impl Search<'_> {
+    /// Leaves out all moves that have not begun, in partitions in which no more begin.
+    pub(crate) fn rest(&mut self) -> Result<(), Refusal> {
+        self.mark_resting();
+        if self.task.extent == Extent::Begun {
+            self.leave_joins();
+        }
+        for partition in 0..self.task.ring.q() {
+            if self.is_resting(partition) {
+                for index in 0..self.task.ring.n() {
+                    self.rest_slot(Slot { partition, index })?;
+                }
+            }
+        }
+        self.make_way()
+    }
+
+    /// Whether no more moves begin in the partition.
+    pub(crate) fn is_resting(&self, partition: u32) -> bool {
+        is_set(self.resting.as_slice(), partition)
+    }
+
+    // Marks the partitions in which no more moves begin.
+    fn mark_resting(&mut self) {
+        if self.task.extent == Extent::Begun {
+            for partition in 0..self.task.ring.q() {
+                put(self.resting.as_mut_slice(), partition, true);
+            }
+        } else if self.reach != Reach::Far {
+            self.mark_touched();
+        }
+    }
+
+    // Marks the partitions in which a slot is left, or a dead node owns a slot, mirrors one, is to own one or keeps a hint.
+    fn mark_touched(&mut self) {
+        for slot in self.task.left {
+            put(self.resting.as_mut_slice(), slot.partition, true);
+        }
+        for place in 0..self.moves.len() {
+            if let Some(it) = self.moves.at(Some(place)) {
+                if !self.has_done(it.switch)
+                    && (self.is_dead(it.source) || self.is_dead(it.target))
+                {
+                    put(self.resting.as_mut_slice(), it.slot.partition, true);
+                }
+            }
+        }
+        for place in 0..self.hints.all().len() {
+            if let Some((slot, node)) = self.hints.all().get(place).copied() {
+                if self.is_dead(node) {
+                    put(self.resting.as_mut_slice(), slot.partition, true);
+                }
+            }
+        }
+        for partition in 0..self.task.ring.q() {
+            for index in 0..self.task.ring.n() {
+                if self.is_dead(self.owner_at(Slot { partition, index }, 0)) {
+                    put(self.resting.as_mut_slice(), partition, true);
+                }
+            }
+        }
+    }
+
+    // No node joins any more, and none retires that was to join.
+    fn leave_joins(&mut self) {
+        let plan = self.task.plan;
+        for node in 0..small(self.task.ring.nodes().len()) {
+            let join = plan.join_of(NodeId(node));
+            if join.is_some() && !self.has_done(join) {
+                self.remove(join);
+                self.remove(plan.retirement_of(NodeId(node)));
+                self.say_of_node(b"@ does not join\n", node);
+            }
+        }
+    }
+
+    // Whether the move's mirror is set, and the move is to be ended. With `--back` a mirror to which nothing was copied is taken back.
+    fn is_to_end(&self, it: &Move) -> bool {
+        let has_chunks = match it.copy {
+            Some(copy) => self.is_done(copy) || self.progress.chunks(copy) > 0,
+            None => false,
+        };
+        let is_kept = self.task.back == Back::Never || self.task.extent == Extent::Whole;
+        self.has_done(it.mirror) && (has_chunks || is_kept)
+    }
+
+    // Leaves out the slot's moves that have not begun.
+    fn rest_slot(&mut self, slot: Slot) -> Result<(), Refusal> {
+        let mut next = self.moves.first(slot);
+        for turn in 0..self.moves.len() {
+            let Some(it) = self.moves.at(next) else {
+                break;
+            };
+            if self.kept(it.mirror).is_none() {
+                break;
+            }
+            if !self.has_done(it.switch) && !self.is_to_end(&it) {
+                return self.rest_from(next, &it);
+            }
+            next = it.next;
+        }
+        Ok(())
+    }
+
+    // Leaves out the slot's moves from that one on.
+    fn rest_from(&mut self, from: Option<usize>, it: &Move) -> Result<(), Refusal> {
+        if self.has_done(it.mirror) {
+            self.take_back(it)?;
+        }
+        self.leave_out_from(from)?;
+        self.note_outcome(it.slot, Outcome::NotBegun)
+    }
+
+    /// Leaves out all steps that are not done.
+    pub(crate) fn keep_done(&mut self) -> Result<(), Refusal> {
+        for place in 0..self.moves.len() {
+            if let Some(it) = self.moves.at(Some(place)) {
+                if self.kept(it.mirror).is_some() && !self.has_done(it.switch) {
+                    self.stop(&it)?;
+                }
+            }
+        }
+        for step in 0..self.task.plan.len() {
+            if !self.is_done(step) {
+                self.remove(Some(step));
+            }
+        }
+        Ok(())
+    }
+
+    // The move stops where it is. A mirror that is dead is taken back if that is allowed.
+    fn stop(&mut self, it: &Move) -> Result<(), Refusal> {
+        if self.saying_of(it.slot).outcome.is_some() {
+            return Ok(());
+        }
+        let is_mirrored = self.has_done(it.mirror);
+        if is_mirrored && (!self.is_dead(it.target) || self.task.back == Back::Never) {
+            return self.note_outcome(it.slot, Outcome::MirroredStill(it.target));
+        }
+        if is_mirrored {
+            self.take_back(it)?;
+        }
+        self.note_outcome(it.slot, Outcome::NotBegun)
+    }
+}
