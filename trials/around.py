@@ -1,25 +1,28 @@
 #!/usr/bin/env python3
 """Tries `ringplan around` from outside; it wants the program as it is built.
 
-    trials/around.py [COUNT] [--first SEED] [--use NAME..]    COUNT changes for each use, else 40
+    trials/around.py [COUNT] [--first SEED] [--use NAME..]    COUNT changes for each use, else 10
     trials/around.py --all                                    600 changes for each use
 
 Changes: rings of 2 to 16 partitions and 1 to 7 slots, joint and split allowances, drawn from fixed seeds. Half of them
-lead to another ring, half are joins and leaves; some plans avoid a dead member from the start. The store is that of
-`machine.py`, which takes no reply from the program. It goes through a part of the plan under random traffic, with puts
-that only one owner has, hints, outages, and copies that have some of their chunks. Then nodes die: a party of a copy, a
-target, a keeper of hints, or another one. `around` prints another plan and history, and the store goes on by that plan
-with the contents that it has. In some uses more nodes die later, up to three times.
+lead to another ring, half are joins and leaves; some plans avoid a dead member from the start, and some are written by
+hand. The store is that of `machine.py`, which takes no reply from the program. It goes through a part of the plan under
+random traffic, with puts that only one owner has, hints, outages, and copies that have some of their chunks. Then nodes
+die: a party of a copy, a target, a keeper of hints, or another one. Or none dies, and the change is to come to rest, or
+slots are to stay. `around` prints another plan and history, and the store goes on by that plan with the contents that it
+has. In some uses this happens up to three times.
 
-Of each answer: the checker says yes to the plan, and `replay` to the history. No step to come asks anything of the
-dead, by a scan of this trial. What clients did is in the history as it was. Only tickets of a slot whose mirror is
-taken back may have lower generations, and in the place of a chunk that is left out there may be writes of its slot.
-Slots and members end where they were to end, as far as no dead node has to do with them. Standard error says at most
-one line of a slot, and that is true. A history that is not a run is refused as `replay` refuses it.
+Of each answer: there is one. The checker says yes to the plan, and `replay` to the history. No step to come asks
+anything of the dead, by a scan of this trial. What clients did is in the history as it was. Only tickets of a slot whose
+mirror is taken back may have lower generations, and in the place of a chunk that is left out there may be writes of its
+slot. The plan has the steps that this trial finds by one walk over the old plan, and no others, as far as no dead node
+has to do with them. Standard error says at most one line of a slot, and that is true; its sums are those of the lines.
+A history that is not a run is refused as `replay` refuses it.
 
 Of each change: it comes to its end, or waits for hints that the dead keep or whose slots they serve. `replay` says yes
 to the history that `around` printed with all that the store did next; at the end each slot of each key is read. It
-says the store's owners. No acknowledged put is lost."""
+says the store's owners. No acknowledged put is lost. If no node is dead, `after` prints a ring from which `goal` finds a
+plan back to the first ring, and one on to the ring to which the first plan was to lead."""
 
 import argparse
 import random
@@ -50,10 +53,8 @@ class Use(NamedTuple):
     is_lossy: bool = False
     # Whether each plan avoids a member that is dead from the start, so that copies list slots. Else one of four does.
     avoids: bool = False
-    # Whether plans are written by hand. Of those there may be none that avoids the dead.
+    # Whether plans are written by hand.
     by_hand: bool = False
-    # Whether the program has it, so that it is tried if no use is named.
-    is_there: bool = True
 
     def words(self, dead: set[str], left: Sequence[Slot]) -> list[str]:
         named = [word for x in sorted(dead) for word in ("--dead", x)]
@@ -70,15 +71,21 @@ USES = [
     Use("three-times-back", times=3, back=True),
     Use("three-losses-back", times=3, back=True, is_lossy=True),
     Use("avoids-back", times=2, back=True, avoids=True),
+    Use("rest", deaths=0, rest=True),
+    Use("rest-back", deaths=0, rest=True, back=True),
+    Use("rest-dies-back", times=2, rest=True, back=True),
+    Use("rest-dies", times=2, rest=True),
+    Use("leave-one", deaths=0, leaves=1),
+    Use("leave-three", times=2, deaths=0, leaves=3),
+    Use("leave-dies", times=2, leaves=1),
+    Use("leave-dies-back", times=2, leaves=1, back=True),
+    Use("leave-rest-back", deaths=0, leaves=1, rest=True, back=True),
+    Use("by-hand", by_hand=True),
     Use("by-hand-back", times=2, back=True, by_hand=True),
-    Use("rest", deaths=0, rest=True, is_there=False),
-    Use("rest-back", deaths=0, rest=True, back=True, is_there=False),
-    Use("rest-dies-back", times=2, rest=True, back=True, is_there=False),
-    Use("leave-one", deaths=0, leaves=1, is_there=False),
-    Use("leave-three", times=2, deaths=0, leaves=3, is_there=False),
-    Use("leave-dies-back", times=2, leaves=1, back=True, is_there=False),
-    Use("by-hand-rest-dies-back", rest=True, back=True, by_hand=True, is_there=False),
-    Use("by-hand-leave", times=2, deaths=0, leaves=2, by_hand=True, is_there=False),
+    Use("by-hand-rest", deaths=0, rest=True, by_hand=True),
+    Use("by-hand-rest-dies-back", rest=True, back=True, by_hand=True),
+    Use("by-hand-leave", times=2, deaths=0, leaves=2, by_hand=True),
+    Use("by-hand-leave-dies-back", times=2, leaves=1, back=True, by_hand=True),
 ]
 
 
@@ -112,10 +119,6 @@ def last_table(ring: Ring, steps: Sequence[texts.Step]) -> Table:
     return table
 
 
-class NoPlan(Exception):
-    """A plan by hand that no other plan may follow."""
-
-
 class Story:
     """A change that goes on by other plans."""
 
@@ -124,6 +127,8 @@ class Story:
         self.machine = Machine(ring, texts.read_plan(bundle)[1].steps)
         self.traffic = Traffic(self.machine, draw, draw.choice([0, 0, 0.5, 0.9]))
         self.ends = Counter[str]()
+        # The table to which the first plan was to lead.
+        self.wished = last_table(ring, self.machine.steps)
         self.die(dead)
 
     def history(self) -> str:
@@ -198,9 +203,7 @@ class Story:
         if len(words) == 1 or self.use.leaves and not left:
             return False
         text = self.bundle + self.history()
-        out, said, status = ask(words, text)
-        if self.use.by_hand and not self.use.rest and said.startswith("no 28"):
-            raise NoPlan
+        out, said, status = ask([*words, "--all"], text)
         if status:
             raise Wrong("no plan: %s" % " ".join([*words, said.strip()]))
         see_refused(words, text)
@@ -209,7 +212,8 @@ class Story:
             raise Wrong("the checker refuses the plan")
         if ask(["replay"], out)[2]:
             raise Wrong("replay refuses the new history")
-        plan = Answer(self, texts.read_plan(bundle)[1].steps, left, history.splitlines()[1:-1])
+        plan = Answer(self, texts.read_plan(bundle)[1].steps, left, history.splitlines()[1:-1], said)
+        plan.see_steps()
         plan.see_ends()
         heed(said, self.ring, plan.steps)
         earlier = machine.steps, machine.entries
@@ -217,7 +221,7 @@ class Story:
         compare(earlier, (plan.steps, plan.entries), set(taken))
         see_spared(machine, self.traffic.dead)
         self.ends[ending(said, sections(bundle)[1] == sections(self.bundle)[1])] += 1
-        if self.use.back and any(machine.table.mirror[slot] in self.traffic.dead for slot in stuck(machine)):
+        if "only has the steps" not in said and self.use.back and any(machine.table.mirror[slot] in self.traffic.dead for slot in stuck(machine)):
             raise Wrong("a slot stays mirrored to a dead node: " + said)
         self.bundle = bundle
         return True
@@ -238,13 +242,18 @@ class Story:
         self.ends["changes that wait for hints of the dead"] += 1
 
     def go_back(self) -> None:
-        """The ring after the change has a plan back to the ring before it."""
+        """The ring after the change has a plan back to the ring before it, and one to the ring to which the change was to lead."""
         after, said, status = ask(["after"], self.bundle + self.history())
         if status:
             raise Wrong("after: " + said)
-        _, said, status = ask(["goal"], after + self.ring.text(self.ring.members, self.ring.rows))
-        if status:
-            raise Wrong("no way back: " + said)
+        rows = [[self.wished.owner[slot] for slot in self.machine.row(p)] for p in range(len(self.ring.rows))]
+        for what, goal in (("back", self.ring.text(self.ring.members, self.ring.rows)), ("on", self.ring.text(self.wished.members, rows))):
+            out, said, status = ask(["goal"], after + goal)
+            if status:
+                raise Wrong("no way %s: %s" % (what, said))
+            self.ends["ways " + what] += 1
+            if ask(["check"], out)[0] != "yes\n":
+                raise Wrong("the checker refuses the way " + what)
 
     def waits_for_dead(self, number: int) -> bool:
         """Whether the step waits for hints that a dead node keeps, or whose slots it serves."""
@@ -269,6 +278,7 @@ class Answer(NamedTuple):
     steps: Sequence[texts.Step]
     left: Sequence[Slot]
     entries: list[str]
+    said: str
 
     def copy_of(self, slot: Slot) -> int:
         """The old plan's copy to the slot's mirror; -1 if the mirror stays without one."""
@@ -277,37 +287,99 @@ class Answer(NamedTuple):
         mirror = max(k for k in moves if machine.steps[k].kind == "mirror" and k in machine.progress.done)
         return min((k for k in moves if machine.steps[k].kind == "copy" and k > mirror), default=-1)
 
-    def may_end(self, slot: Slot, first: Table) -> set[str]:
-        """The nodes that may own the slot in the end, if no dead node has to do with it."""
-        machine, use = self.story.machine, self.story.use
-        owner, *mirrors = machine.table.nodes(slot)
-        copy = self.copy_of(slot) if mirrors else -1
-        is_whole = copy in machine.progress.done or machine.progress.is_whole(copy)
-        if slot in self.left:
-            return set(mirrors) if is_whole else {owner}
-        if not use.rest:
-            return {first.owner[slot]}
-        may_go = mirrors and use.back and not machine.progress.marks[copy]
-        return {owner, *mirrors} if may_go else {*mirrors} or {owner}
+    def may_cancel(self, slot: Slot) -> bool:
+        """Whether the slot's mirror, which is set, is to be taken back though no node is dead."""
+        machine, use, copy = self.story.machine, self.story.use, self.copy_of(slot)
+        if slot in self.left and copy not in machine.progress.done and not machine.progress.is_whole(copy):
+            return True
+        return use.rest and use.back and copy not in machine.progress.done and not machine.progress.marks[copy]
 
-    def touched(self) -> set[int]:
-        """The partitions with which a dead node has to do, or in which a slot is to stay."""
+    def dead_partitions(self) -> set[int]:
+        """The partitions with which a dead node has to do."""
         machine, dead = self.story.machine, self.story.traffic.dead
-        found = {p for p, _ in self.left} | {slot[0] for x, slot in machine.hints() if x in dead}
+        found = {slot[0] for x, slot in machine.hints() if x in dead}
         found |= {slot[0] for slot in machine.table.owner if dead.intersection(machine.table.nodes(slot))}
-        return found | {slot_of(step)[0] for step in machine.steps_left("mirror") if step.node in dead}
+        return found | {slot_of(step)[0] for kind in ("mirror", "drop") for step in machine.steps_left(kind) if step.node in dead}
+
+    def see_steps(self) -> None:
+        """The plan has the steps that are to stay, and no others, as far as no dead node has to do with them."""
+        if "only has the steps" in self.said:
+            return
+        dead, is_near = self.story.traffic.dead, "no better plan" in self.said
+        if is_near and not dead:
+            raise Wrong("no better plan, and no node is dead: " + self.said)
+        but = self.dead_partitions() | ({p for p, _ in self.left} if is_near else set())
+        ours, theirs = Stayers(self).steps(), self.steps
+        kept, found = (Counter(named(step) for step in steps if step.partition not in but) for steps in (ours, theirs))
+        for step in (kept - found) | (found - kept):
+            if step[1] is not None or not dead:
+                raise Wrong("a step is %s: %s" % ("missing" if kept[step] > found[step] else "too much", step))
 
     def see_ends(self) -> None:
-        """Slots end where they were to end, and so do members."""
+        """Members end as they were to end."""
         machine, use, dead = self.story.machine, self.story.use, self.story.traffic.dead
         first, last = (last_table(self.story.ring, steps) for steps in (machine.steps, self.steps))
-        touched = self.touched()
-        for slot in last.owner:
-            if (slot in self.left or slot[0] not in touched) and last.owner[slot] not in self.may_end(slot, first):
-                raise Wrong("a slot ends elsewhere: %d.%d is at %s" % (*slot, last.owner[slot]))
         stay = dead | set(last.owner.values()) | set(last.mirror.values()) | {x for x, _ in machine.hints()}
-        if not use.rest and (first.members ^ last.members) - stay:
+        if not use.rest and "only has the steps" not in self.said and (first.members ^ last.members) - stay:
             raise Wrong("members end otherwise: %s" % sorted((first.members ^ last.members) - stay))
+
+
+def named(step: texts.Step) -> tuple[object, ...]:
+    """The step without its number, and without the steps that it waits for."""
+    return step.kind, step.partition, step.slot, step.node, step.slots
+
+
+class Stayers:
+    """The steps of the old plan that stay if no dead node has to do with them: all that is done, and what `--rest` and `--leave` let."""
+
+    def __init__(self, answer: Answer) -> None:
+        self.answer, self.machine, self.use = answer, answer.story.machine, answer.story.use
+        self.table = Table(self.machine.ring)
+        # Slots that do not move on, and what nodes have of slots.
+        self.cut, self.full = set[Slot](), {(slot, x) for slot, x in self.table.owner.items()}
+
+    def steps(self) -> list[texts.Step]:
+        stay = [(k, step) for k, step in enumerate(self.machine.steps) if step.kind != "retire" and self.stays(k, step)]
+        for k, step in enumerate(self.machine.steps):
+            if step.kind == "retire" and (k in self.machine.progress.done or self.retires(node_of(step))):
+                stay.append((k, step))
+        return [step for _, step in stay]
+
+    def retires(self, node: str) -> bool:
+        return node in self.table.members and all(x != node for _, x in self.full)
+
+    def stays(self, k: int, step: texts.Step) -> bool:
+        """Takes in a step, in the order of the plan."""
+        if step.kind == "join":
+            stays = k in self.machine.progress.done or not self.use.rest
+        elif step.kind == "mirror":
+            stays = self.mirrors(k, step)
+        elif step.kind == "drop":
+            stays = (slot_of(step), step.node) in self.full and self.table.owner[slot_of(step)] != step.node
+        else:
+            stays = slot_of(step) not in self.cut
+        if stays and step.kind != "copy":
+            self.take(step)
+        return stays
+
+    def take(self, step: texts.Step) -> None:
+        self.table.take(step)
+        if step.kind == "mirror":
+            self.full.add((slot_of(step), node_of(step)))
+        if step.kind == "drop":
+            self.full.discard((slot_of(step), node_of(step)))
+
+    def mirrors(self, k: int, step: texts.Step) -> bool:
+        slot, node, done = slot_of(step), node_of(step), self.machine.progress.done
+        is_set = k in done and self.machine.table.mirror.get(slot) == node and not self.is_over(k, slot)
+        others = {x for it in self.machine.row(slot[0]) if it != slot for x in self.table.nodes(it)}
+        if k not in done and (self.use.rest or slot in self.answer.left or node in others) or is_set and self.answer.may_cancel(slot):
+            self.cut.add(slot)
+        return slot not in self.cut
+
+    def is_over(self, k: int, slot: Slot) -> bool:
+        """Whether a later switch of the slot is done."""
+        return any(self.machine.steps[d].kind == "switch" and slot_of(self.machine.steps[d]) == slot and d > k for d in self.machine.progress.done)
 
 
 def see_refused(words: list[str], text: str) -> None:
@@ -374,6 +446,34 @@ def see_spared(machine: Machine, dead: set[str]) -> None:
             raise Wrong("the dead are asked: step %d, %s" % (k, step.line()))
 
 
+# What a line of a slot says, and what a sum of such lines says.
+SAID = [
+    (r"is mirrored to ([a-z0-9]+) no longer", r"slots? (?:is|are) no longer mirrored to (.*?)(?:: |$)"),
+    (r"goes to ([a-z0-9]+)", r"slots? goe?s? to (.*?)(?:: | in place of | all the same|$)"),
+    (r"stays at ([a-z0-9]+)", r"slots? stays? at (.*?)(?:: |, since |, as |$)"),
+    (r"stays mirrored to ([a-z0-9]+)", r"slots? stays? mirrored to (.*?)(?:: |, since |, which |; |$)"),
+    (r"is to be mirrored to ([a-z0-9]+) again", r"slots? (?:is|are) to be mirrored again to (.*?)(?:: |$)"),
+]
+
+
+def see_sums(words: str) -> None:
+    """The sums by node are those of the lines."""
+    lines = [line for line in words.splitlines() if re.match(r"slot \d", line)]
+    sums = [line for line in words.splitlines() if re.match(r"\d+ slots? ", line)]
+    for one, many in SAID:
+        counts = Counter(found[1] for line in lines for found in [re.search(one, line)] if found)
+        told = Counter[str]()
+        for line in sums:
+            found = re.match(r"(\d+) " + many, line)
+            if found:
+                parts = {x: int(count) for x, count in re.findall(r"([a-z0-9]+) \((\d+)\)", found[2])}
+                if sum(parts.values()) != int(found[1]):
+                    raise Wrong("a sum is not that of its nodes: " + line)
+                told.update(parts)
+        if told != counts:
+            raise Wrong("sums are not those of the lines: " + words)
+
+
 def heed(words: str, ring: Ring, steps: Sequence[texts.Step]) -> None:
     """Each slot is spoken of in one line at most. It stays where that says, or goes there.
 
@@ -392,9 +492,17 @@ def heed(words: str, ring: Ring, steps: Sequence[texts.Step]) -> None:
         end, of_slot = re.search(r"(goes to|stays at) ([a-z0-9]+)", text), owners[int(p), int(i)]
         if end and end[2] not in (of_slot if end[1] == "goes to" else of_slot[-1:]):
             raise Wrong("false words: slot %s %s has the owners %s: %s" % (p, i, ", ".join(of_slot), text))
+        mirrored = re.search(r"stays mirrored to ([a-z0-9]+)", text)
+        if mirrored and table.mirror.get((int(p), int(i))) != mirrored[1]:
+            raise Wrong("false words: slot %s %s: %s" % (p, i, text))
+    see_sums(words)
 
 
 def ending(words: str, is_same_plan: bool) -> str:
+    if "only has the steps" in words:
+        return "NO BETTER PLAN than the steps that are done"
+    if "no better plan" in words:
+        return "no better plan than the moves that have begun"
     if "stays mirrored" in words:
         return "a slot stays mirrored"
     if "no longer" in words:
@@ -422,8 +530,6 @@ def attempt(seed: int, use: Use, tally: Counter[str]) -> None:
             tally["uses"] += story.ask_around()
             tally["in the middle of a copy"] += is_begun
         story.finish()
-    except NoPlan:
-        tally["changes by hand without another plan"] += 1
     finally:
         tally.update(story.ends)
 
@@ -447,9 +553,13 @@ def take_back_many(count: int) -> None:
         machine.write(v, 0)
         machine.ack(v)
     history = "\n".join(["history 1", *machine.entries, "end", ""])
-    out, said, status = ask(["around", "--dead", "b", "--back"], bundle + history)
+    words = ["around", "--dead", "b", "--back"]
+    out, said, status = ask([*words, "--all"], bundle + history)
     if status or ask(["replay"], out)[2] or said.count("is mirrored to b no longer") != count:
         raise Wrong("%d mirrors are taken back: %s" % (count, said[:200]))
+    again, said, status = ask(words, bundle + history)
+    if again != out or "%d slots are no longer mirrored to b (%d): " % (count, count) not in said or len(said.splitlines()) > 5:
+        raise Wrong("%d mirrors are taken back, without --all: %s" % (count, said[:500]))
 
 
 def keep_what_the_dead_had() -> None:
@@ -468,6 +578,92 @@ def keep_what_the_dead_had() -> None:
     story.finish()
 
 
+# A node keeps a hint for the very slot that is to go to it.
+HINT = """ring 1
+space 1
+quorum 3 2 2
+node a 4 in
+node b 4 in
+node c 4 in
+node d 4 out
+slots 0 a b c
+end
+plan 1
+join d
+mirror 0 1 d after 0
+copy 0 1 slots 0 2 after 1
+switch 0 1 after 2
+end
+cert 1
+chain a 2
+chain c 2
+chain d 2
+end
+history 1
+do 0 = ok
+down b = ok
+put w k x = put 0
+write 0 0 = ticket 0 0 0
+hint 0 1 d = ticket 0 1 0
+end
+"""
+# A copy reads a slot after its switch, whose target dies with a full copy. It can read the slot before the switch.
+CIRCLE = """ring 1
+space 1
+quorum 3 2 2
+node a 4 in
+node b 4 in
+node c 4 in
+node d 4 in
+node e 4 in
+slots 0 a b c
+end
+plan 1
+mirror 0 2 d
+copy 0 2 owner after 0
+switch 0 2 after 1
+mirror 0 0 e
+copy 0 0 slots 1 2 after 2 3
+switch 0 0 after 4
+end
+cert 1
+fact 1 2 4
+chain b 4
+chain c 1
+chain d 1 4
+chain e 4
+end
+history 1
+do 0 = ok
+open 1 = ok
+%sclose 1 = ok
+end
+""" % "".join("chunk 1 %d = ok\n" % c for c in range(CHUNKS))
+
+
+def see_small_cases() -> None:
+    """Two bundles with a plan that is easily missed."""
+    for dead, text, needed in (("b", HINT, "mirror 0 1 d"), ("d", CIRCLE, "copy 0 0 slots 1 2")):
+        out, said, status = ask(["around", "--dead", dead], text)
+        if status or needed not in out or "no better plan" in said or ask(["replay"], out)[2]:
+            raise Wrong("around --dead %s: %s %s" % (dead, out, said))
+
+
+def see_words_refused() -> None:
+    """Lines that ask for nothing, or for a slot that stays anyway."""
+    for words, owed, needed in (
+        (["around"], 2, "--rest"),
+        (["around", "--back", "--all"], 2, "--leave"),
+        (["around", "--leave", "0"], 2, "--leave <P.I>"),
+        (["around", "--leave", "0.-1"], 2, "--leave <P.I>"),
+        (["around", "--leave", "0.0"], 1, "no 28\nrefused: --leave 0.0: no step that is to come moves this slot\n"),
+        (["around", "--rest", "--leave", "0.7", "--leave", "1.0"], 1, "refused: --leave 1.0: no step"),
+    ):
+        out, said, status = ask(words, HINT)
+        if out or status != owed or needed not in said:
+            raise Wrong("%s: status %d: %s" % (" ".join(words), status, said))
+
+
 def is_right(call: Callable[[], None], what: str, tally: Counter[str]) -> bool:
     try:
         call()
@@ -480,17 +676,19 @@ def is_right(call: Callable[[], None], what: str, tally: Counter[str]) -> bool:
 
 def main() -> int:
     parser = argparse.ArgumentParser(prog="trials/around.py", description="Tries `ringplan around` from outside.")
-    parser.add_argument("count", nargs="?", type=int, default=40, help="changes for each use (default: %(default)s)")
+    parser.add_argument("count", nargs="?", type=int, default=10, help="changes for each use (default: %(default)s)")
     parser.add_argument("--all", action="store_true", help="600 changes for each use")
     parser.add_argument("--first", type=int, default=0, metavar="SEED", help="the seed of the first change")
     names = [use.name for use in USES]
-    parser.add_argument("--use", nargs="+", choices=names, help="these uses only, also those that are not there yet")
+    parser.add_argument("--use", nargs="+", choices=names, help="these uses only")
     words = parser.parse_args()
     total = Counter[str]()
     wrong = int(not is_right(keep_what_the_dead_had, "one put, one chunk", total))
     wrong += not is_right(lambda: take_back_many(4_000), "4,000 mirrors", total)
+    wrong += not is_right(see_small_cases, "small cases", total)
+    wrong += not is_right(see_words_refused, "command lines", total)
     for use in USES:
-        if use.name not in words.use if words.use else not use.is_there:
+        if words.use and use.name not in words.use:
             continue
         tally = Counter[str]()
         for seed in range(words.first, words.first + (600 if words.all else words.count)):

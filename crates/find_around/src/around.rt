@@ -95,6 +95,8 @@ pub(crate) struct Search<'a> {
     pub(crate) fresh: Vec<bool>,
     /// By step, whether it is a mirror that is taken back.
     pub(crate) taken: Vec<bool>,
+    /// By step, whether it is a mirror for which a step of another move waits that has begun.
+    pub(crate) awaited: Vec<bool>,
     /// What steps wait for besides what the plan says.
     pub(crate) more: Needs,
     /// What copies list in place of what the plan says, by copy.
@@ -157,6 +159,7 @@ impl<'a> Search<'a> {
             gone: vec![in alloc; false; steps]?,
             fresh: vec![in alloc; false; steps]?,
             taken: vec![in alloc; false; steps]?,
+            awaited: Vec::new(alloc),
             more: Needs::of(alloc, steps)?,
             listings: BTreeMap::new(alloc),
             load: vec![in alloc; 0u32; nodes]?,

@@ -12,6 +12,7 @@ mod linking;
 mod moving;
 mod needs;
 mod owners;
+mod passing;
 mod resting;
 mod retiring;
 mod settling;

@@ -102,38 +102,6 @@ impl Search<'_> {
         Ok(())
     }
 
-    // By step, whether it comes after a switch before which the step goes now: the step is a copy that reads a slot before that switch, or the mirror of one.
-    fn passed_by(&self, step: u32) -> Result<Vec<bool>, Refusal> {
-        let mut passed = Vec::new(self.task.alloc);
-        let Some(it) = self.moves.at(self.moves.of_step(step)) else {
-            return Ok(passed);
-        };
-        if (it.copy != Some(step) && it.mirror != Some(step)) || self.is_fixed(step) {
-            return Ok(passed);
-        }
-        let switches = self.switches_after(&it)?;
-        if switches.is_empty() {
-            return Ok(passed);
-        }
-        for other in 0..step {
-            let is_passed = switches.binary_search(&other).is_ok()
-                || self.is_after_passed(passed.as_slice(), other);
-            passed.push(is_passed)?;
-        }
-        Ok(passed)
-    }
-
-    // Whether the step waits for one that is marked.
-    fn is_after_passed(&self, passed: &[bool], step: u32) -> bool {
-        step < self.task.plan.len()
-            && self
-                .task
-                .plan
-                .deps(step)
-                .iter()
-                .any(|other| is_set(passed, *other))
-    }
-
     // Each step of a slot that is to come waits for the slot's step before it.
     fn follow_slots(&self, needs: &mut Needs) -> Result<(), Refusal> {
         for partition in 0..self.task.ring.q() {

@@ -3,6 +3,7 @@
 use crate::around::{Reach, Search};
 use crate::moving::{Move, first_owner};
 use crate::told::Outcome;
+use helpers::{is_set, put};
 use plan_runs::Back;
 use ring_names::{NodeId, Refusal, Slot};
 
@@ -132,9 +133,12 @@ impl Search<'_> {
             return Ok(Fate::Stuck);
         }
         self.take_back(it)?;
-        if self.is_resting(it.slot.partition) {
+        let is_resting = self.is_resting(it.slot.partition);
+        if is_resting || it.switch.is_none() {
             self.leave_out_from(Some(place))?;
-            self.note_outcome(it.slot, Outcome::NotBegun)?;
+            if is_resting {
+                self.note_outcome(it.slot, Outcome::NotBegun)?;
+            }
             return Ok(Fate::Stuck);
         }
         if self.retarget(place, it, owner)? {
@@ -184,6 +188,7 @@ impl Search<'_> {
 
     // Gives copies other sources, in the plan's order.
     fn settle_copies(&mut self) -> Result<(), Refusal> {
+        self.awaited = self.find_awaited()?;
         for copy in 0..self.task.plan.len() {
             let place = self.moves.of_step(copy);
             if let (Some(place), Some(it)) = (place, self.moves.at(place)) {
@@ -213,18 +218,28 @@ impl Search<'_> {
         self.has_done(it.mirror) && self.ahead.contains(&it.slot)
     }
 
-    // Whether a step of another move waits for the move's mirror, and has begun.
-    fn is_awaited(&self, it: &Move) -> bool {
-        let Some(mirror) = it.mirror else {
-            return false;
-        };
+    // By step, whether it is a mirror for which a step of another move waits that has begun.
+    fn find_awaited(&self) -> Result<Vec<bool>, Refusal> {
         let plan = self.task.plan;
+        let mut awaited = vec![in self.task.alloc; false; plan.len() as usize]?;
         for step in 0..plan.len() {
-            if it.copy != Some(step) && self.is_fixed(step) && plan.depends(mirror, step) {
-                return true;
+            if self.is_fixed(step) {
+                for other in plan.deps(step) {
+                    if self.moves.of_step(step) != self.moves.of_step(*other) {
+                        put(awaited.as_mut_slice(), *other, true);
+                    }
+                }
             }
         }
-        false
+        Ok(awaited)
+    }
+
+    // Whether a step of another move waits for the move's mirror, and has begun.
+    fn is_awaited(&self, it: &Move) -> bool {
+        match it.mirror {
+            Some(mirror) => is_set(self.awaited.as_slice(), mirror),
+            None => false,
+        }
     }
 
     // The move's copy reads other slots than before, and its mirror has puts that the slot's owner does not have.

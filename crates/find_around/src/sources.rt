@@ -132,42 +132,6 @@ impl Search<'_> {
         Ok(true)
     }
 
-    /// The switches that the move's copy was after, and before which it reads their slots now, ascending.
-    pub(crate) fn switches_after(&self, it: &Move) -> Result<Vec<u32>, Refusal> {
-        let mut switches = Vec::new(self.task.alloc);
-        let Some(copy) = it.copy else {
-            return Ok(switches);
-        };
-        let Some(listing) = self.listings.get(&copy) else {
-            return Ok(switches);
-        };
-        let partition = it.slot.partition;
-        for index in 0..7u32 {
-            if let Some(Some(Way::First)) = listing.ways.get(index as usize) {
-                self.push_switches(&mut switches, Slot { partition, index }, copy)?;
-            }
-        }
-        switches.sort_unstable();
-        Ok(switches)
-    }
-
-    // Adds the slot's switches to come that are before the copy in the old plan.
-    fn push_switches(&self, switches: &mut Vec<u32>, slot: Slot, copy: u32) -> Result<(), Refusal> {
-        let mut next = self.moves.first(slot);
-        for turn in 0..self.moves.len() {
-            let Some(it) = self.moves.at(next) else {
-                break;
-            };
-            if let Some(switch) = self.kept(it.switch) {
-                if switch < copy && !self.is_done(switch) {
-                    switches.push(switch)?;
-                }
-            }
-            next = it.next;
-        }
-        Ok(())
-    }
-
     /// Whether the move's copy reads a slot that cannot be read: its own, if it reads the owner, or one that it lists.
     pub(crate) fn reads_dead(&self, it: &Move) -> bool {
         let Some(copy) = it.copy else {

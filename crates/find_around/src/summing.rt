@@ -110,7 +110,7 @@ fn phrase_of_mirrored(kind: u32) -> Phrase {
             b", since fewer than R slots of the partition can be read; --back takes such mirrors back",
         ),
         11 => phrase_mirrored(
-            b", which has puts that the slot's owner does not have; --back takes such mirrors back",
+            b", which has puts that the slot's owner does not have; --leave takes such mirrors back",
         ),
         12 => phrase_mirrored(b"; --leave takes such mirrors back"),
         _ => Phrase {

@@ -86,6 +86,9 @@ fn find(it: &Begun, reach: Reach) -> Result<Around, Refusal> {
 // Adds which slots are to stay though no step to come moves them. Answers whether there is one.
 fn push_unmoved(it: &Begun, words: &mut Words) -> Result<bool, Refusal> {
     let unmoved = find_unmoved(&task_of(it, &[]))?;
+    if !unmoved.is_empty() {
+        words.clear();
+    }
     for slot in unmoved.iter() {
         words.fill(
             b"refused: --leave #.#: no step that is to come moves this slot\n",
@@ -211,6 +214,7 @@ fn around_read(
     match go_around(&begun, &store, words) {
         Ok(text) => Ok(text),
         Err(refusal) => {
+            words.clear();
             words.text(b"refused: no plan was found by which the history goes on\n");
             Err(cause(refusal))
         }

@@ -115,9 +115,12 @@ windows_app = with_rule (with_rule (known_app (job_app (codes "windows"))) (reco
 abbrev pub goal_app : App
 goal_app = with_rule (with_rule (with_rule (known_app (job_app (codes "goal"))) (flag_option (codes "partial"))) (flag_option (codes "exit-code"))) (text_option (codes "format"))
 
+-- a subcommand that is told what changes in a plan that has begun
+abbrev pub changed_app : App → App
+changed_app app = with_rule (with_rule app (list_option (codes "leave"))) (flag_option (codes "rest"))
+
 abbrev pub around_app : App
-around_app = with_rule (with_rule (with_rule (with_rule (known_app (job_app (codes "around"))) (list_option (codes "leave"))) (flag_option (codes "rest")))
-    (flag_option (codes "back"))) (flag_option (codes "all"))
+around_app = with_rule (with_rule (changed_app (known_app (job_app (codes "around")))) (flag_option (codes "back"))) (flag_option (codes "all"))
 
 -- the program's name, which wants a subcommand, and its version
 abbrev pub top_app : App

@@ -1,6 +1,6 @@
 //! What a line with a command for people asks for.
 
-ghost use Rattle.std.specs.Prelude.{◌≡◌, IfOk, IfSome, MatchOption, Some, codes};
+ghost use Rattle.std.specs.Prelude.{◌≡◌, [], IfOk, IfSome, IsTrue, MatchOption, None, Some, codes};
 ghost use Rattle.change_text.specs.declared.options.RackRule.{RackRule as TheRule};
 ghost use Rattle.clap.specs.Words.{first_of, found_of, rows_of};
 ghost use Rattle.ringplan_command.specs.Command.{IsOfWord, IsTurnedAway};
@@ -279,11 +279,20 @@ fn around_of(alloc: Global, matches: &ArgMatches, options: Options) -> Result<Re
     ensures { IfOk result (IsOfWord Word.Around (rows_of (found_of matches.now))) }
 {
     let detour = detour_of(matches);
-    let is_dead = !options.dead.is_empty() || options.layout_file.is_some();
-    if !is_dead && options.left.is_empty() && detour.extent == Extent::Whole {
+    if names_nothing(&options, detour.extent) {
         return mistaken(alloc, NO_DETOUR);
     }
     Ok(Request::Make(Making::Around(detour), options))
+}
+
+// Whether nothing is to change by the options, and all of the plan is to be done.
+fn names_nothing(options: &Options, extent: Extent) -> bool
+    ensures { IsTrue result → (options.now.dead.items ≡ []) × (options.now.layout_file ≡ None) × (options.now.left.items ≡ []) × (extent ≡ Extent.Whole) }
+{
+    options.dead.is_empty()
+        && options.layout_file.is_none()
+        && options.left.is_empty()
+        && extent == Extent::Whole
 }
 
 // How the plan goes on, by the flags of the line.

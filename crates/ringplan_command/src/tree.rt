@@ -3,7 +3,7 @@
 ghost use Rattle.std.specs.Prelude.{◌≡◌, false, codes, IfOk};
 ghost use Rattle.clap.specs.Words.{App, rule_of, with_rule, with_subcommand};
 ghost use Rattle.ringplan_command.specs.Tree.{IsApp, cut_option, draw_app, drive_app, flag_option, goal_app, job_app, known_app, ringplan, show_app};
-ghost use Rattle.ringplan_command.specs.Tree.{around_app, check_app, file_argument, list_option, output_option, rate_option, steps_app, text_option, top_app};
+ghost use Rattle.ringplan_command.specs.Tree.{around_app, changed_app, check_app, file_argument, list_option, output_option, rate_option, steps_app, text_option, top_app};
 ghost use Rattle.ringplan_command.specs.Tree.{completions_app, guide_app, number_option, part_app, replay_app, shell_argument, why_app, windows_app, words_app, workers_option};
 
 use crate::help::{
@@ -115,6 +115,14 @@ fn file<'a>(alloc: Global) -> Arg<'a>
     Arg::new(alloc, "file").value_name("FILE").help(FILE)
 }
 
+// `--dead NODE`, which may stand several times; the text says what a dead node is.
+fn dead<'a>(alloc: Global, help: &'a str) -> Arg<'a>
+    ensures rule { rule_of result ≡ list_option (codes "dead") }
+    ensures local { result.global ≡ false }
+{
+    option(alloc, "dead", "NODE", help).action(ArgAction::Append)
+}
+
 // `--leave P.I`, which may stand several times.
 fn leave<'a>(alloc: Global) -> Arg<'a>
     ensures rule { rule_of result ≡ list_option (codes "leave") }
@@ -213,12 +221,11 @@ fn words<'a>(alloc: Global, word: &'a str, about: &'a str, streams: &'a str) -> 
 }
 
 // The command, told of nodes and partitions; the text says what a dead node is.
-fn known<'a>(alloc: Global, command: Made<'a>, dead: &'a str) -> Made<'a>
+fn known<'a>(alloc: Global, command: Made<'a>, help: &'a str) -> Made<'a>
     ensures { (app : App) → IfOk command.entry (IsApp app) → IfOk result (IsApp (known_app app)) }
 {
-    let dead = option(alloc, "dead", "NODE", dead).action(ArgAction::Append);
     let command = with_arg(command, option(alloc, "layout", "FILE", LAYOUT));
-    let command = with_arg(command, dead);
+    let command = with_arg(command, dead(alloc, help));
     with_arg(command, option(alloc, "racks-behind", "C", RACKS))
 }
 
@@ -267,13 +274,19 @@ fn goal<'a>(alloc: Global) -> Made<'a>
     with_arg(command, option(alloc, "format", "FORMAT", FORMAT))
 }
 
+// The command, told what changes in a plan that has begun.
+fn changed<'a>(alloc: Global, command: Made<'a>) -> Made<'a>
+    ensures { (app : App) → IfOk command.entry (IsApp app) → IfOk result (IsApp (changed_app app)) }
+{
+    let command = with_arg(command, leave(alloc));
+    with_arg(command, flag(alloc, "rest", REST))
+}
+
 fn around<'a>(alloc: Global) -> Made<'a>
     ensures { IfOk result (IsApp around_app) }
 {
     let command = known(alloc, job(alloc, "around", AROUND, AROUND_STREAMS), GONE);
-    let command = with_arg(command, leave(alloc));
-    let command = with_arg(command, flag(alloc, "rest", REST));
-    let command = with_arg(command, flag(alloc, "back", BACK));
+    let command = with_arg(changed(alloc, command), flag(alloc, "back", BACK));
     with_arg(command, flag(alloc, "all", ALL_SLOTS))
 }
 
