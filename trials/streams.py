@@ -55,8 +55,39 @@ def files(folder):
     with open(large, "wb") as it:
         it.truncate(MOST)
     owes("a file of the most bytes", run("check", large), contains(b"no "), b"", 2)
-    owes("two files", run("check", good, good), b"", contains(b"unexpected argument"), 2)
+    together(folder)
     owes("a file that is only there", run("plan", plan), contains(b"plan 1\n"), b"", 0)
+
+
+def together(folder):
+    """Several files are read as one text, in the order of the line; `-` is standard input."""
+    text = read("plan_replace")
+    whole = run("goal", given=text)[0]
+    # Also where a line is cut in two, and where a part is empty.
+    for cuts in ([text.index(b"change 1")], [0], [len(text)], [3, 100], [7, 7, 50, 120]):
+        ends = [0, *cuts, len(text)]
+        parts, names = [text[a:b] for a, b in zip(ends, ends[1:])], []
+        for number, part in enumerate(parts):
+            names.append(f"{folder}/part{number}")
+            with open(names[-1], "wb") as it:
+                it.write(part)
+        owes(f"{len(parts)} files", run("goal", *names), whole, NO_RACKS, 0)
+        for place in range(len(parts)):
+            dashed = [*names[:place], "-", *names[place + 1 :]]
+            owes(f"{len(parts)} files and standard input", run("goal", *dashed, given=parts[place]), whole, NO_RACKS, 0)
+        owes("a part that is missing", run("goal", *names, f"{folder}/none"), b"", contains(b"none: No such file or directory"), 3)
+    owes("a text twice", run("check", f"{EXAMPLES}/move_one_slot.bundle", f"{EXAMPLES}/move_one_slot.bundle"), lambda it: it.startswith(b"no 1 "), b"", 2)
+    owes("dashes", run("check", "-", "-", given=read("move_one_slot")), b"yes\n", b"", 0)
+    ring, change = text[: text.index(b"change 1")], text[text.index(b"change 1") :]
+    for name, part in (("ring.txt", ring), ("change.txt", change)):
+        with open(f"{folder}/{name}", "wb") as it:
+            it.write(part)
+    owes("options between files", run("goal", f"{folder}/ring.txt", "--exit-code", f"{folder}/change.txt"), whole, NO_RACKS, 4)
+    owes("the change first", run("goal", f"{folder}/change.txt", f"{folder}/ring.txt"), b"", contains(b"the ring comes first"), 2)
+    half = f"{folder}/half"
+    with open(half, "wb") as it:
+        it.truncate(MOST // 2 + 1)
+    owes("files that are too large together", run("check", half, half), b"no 2 0\n", b"", 2)
 
 
 def dead():

@@ -7,6 +7,7 @@ mod files;
 mod layouts;
 mod parting;
 mod program;
+mod several;
 
 pub use driving::drive_bundle;
 pub use program::{end_without_memory, end_without_words, run, run_alone};
