@@ -445,11 +445,11 @@ def statements():
         owes(f"{word} in no form", run(word, "--format", "xml"), b"", contains(b"not text or json"), 2)
 
 
-def at_terminal(*words, **environment):
-    """What the words print on a terminal."""
+def at_terminal(*words, errors=subprocess.PIPE, **environment):
+    """What the words print on a terminal; with `errors=None` also what standard error has."""
     ours, theirs = pty.openpty()
     known = {key: value for key, value in os.environ.items() if key != "NO_COLOR"} | environment
-    with subprocess.Popen([RUN, *words], stdout=theirs, stderr=subprocess.PIPE, env=known) as ran:
+    with subprocess.Popen([RUN, *words], stdout=theirs, stderr=errors or theirs, env=known) as ran:
         os.close(theirs)
         found = b""
         try:
@@ -569,6 +569,18 @@ def first():
     owes("times before all entries", run("show", given=front + b"history 1\n" + b"".join(b"17:05 " + it + b"\n" for it in entries[:-2]) + b"end\n"), b"", contains(b"an entry begins with its event"), 2)
 
 
+def advice():
+    """At a terminal a refusal in one line has a second one, which names the command with words for it."""
+    refused, good = f"{EXAMPLES}/copy_out_of_order.bundle", f"{EXAMPLES}/move_one_slot.bundle"
+    for words, environment in (("check", {}), ("check --workers 2", {}), ("check", {"NO_COLOR": "1"})):
+        shown = at_terminal(*words.split(), refused, errors=None, **environment)
+        owes(f"{words} at a terminal", (shown, b"", 0), lambda it: it.startswith(b"no 22 ") and it.count(b"`ringplan why FILE` says why") == 1, b"", 0)
+    owes("a replay without a history at a terminal", (at_terminal("replay", good, errors=None), b"", 0), contains(b"also wants a history"), b"", 0)
+    for words in (["check", good], ["check", "--format", "json", refused], ["why", refused], ["goal", refused], ["check", "--ded"]):
+        owes(f"{words} at a terminal", (at_terminal(*words, errors=None), b"", 0), lambda it: b"says why" not in it and it != b"", b"", 0)
+    owes("a check elsewhere", run("check", refused), lambda it: it.startswith(b"no 22 "), b"", 1)
+
+
 def terminal():
     """At a terminal with nothing to read the program says that it waits, and its first end of input is the last."""
     for words, name, owed in (("check", "move_one_slot", b"yes\n"), ("part --of 1 --part 0", "replay_a_move", read("replay_a_move"))):
@@ -594,6 +606,7 @@ formats()
 statements()
 colors()
 first()
+advice()
 terminal()
 for fault in faults:
     print(fault)
