@@ -55,8 +55,39 @@ def files(folder):
     with open(large, "wb") as it:
         it.truncate(MOST)
     owes("a file of the most bytes", run("check", large), contains(b"no "), b"", 2)
-    owes("two files", run("check", good, good), b"", contains(b"unexpected argument"), 2)
+    together(folder)
     owes("a file that is only there", run("plan", plan), contains(b"plan 1\n"), b"", 0)
+
+
+def together(folder):
+    """Several files are read as one text, in the order of the line; `-` is standard input."""
+    text = read("plan_replace")
+    whole = run("goal", given=text)[0]
+    # Also where a line is cut in two, and where a part is empty.
+    for cuts in ([text.index(b"change 1")], [0], [len(text)], [3, 100], [7, 7, 50, 120]):
+        ends = [0, *cuts, len(text)]
+        parts, names = [text[a:b] for a, b in zip(ends, ends[1:])], []
+        for number, part in enumerate(parts):
+            names.append(f"{folder}/part{number}")
+            with open(names[-1], "wb") as it:
+                it.write(part)
+        owes(f"{len(parts)} files", run("goal", *names), whole, NO_RACKS, 0)
+        for place in range(len(parts)):
+            dashed = [*names[:place], "-", *names[place + 1 :]]
+            owes(f"{len(parts)} files and standard input", run("goal", *dashed, given=parts[place]), whole, NO_RACKS, 0)
+        owes("a part that is missing", run("goal", *names, f"{folder}/none"), b"", contains(b"none: No such file or directory"), 3)
+    owes("a text twice", run("check", f"{EXAMPLES}/move_one_slot.bundle", f"{EXAMPLES}/move_one_slot.bundle"), lambda it: it.startswith(b"no 1 "), b"", 2)
+    owes("dashes", run("check", "-", "-", given=read("move_one_slot")), b"yes\n", b"", 0)
+    ring, change = text[: text.index(b"change 1")], text[text.index(b"change 1") :]
+    for name, part in (("ring.txt", ring), ("change.txt", change)):
+        with open(f"{folder}/{name}", "wb") as it:
+            it.write(part)
+    owes("options between files", run("goal", f"{folder}/ring.txt", "--exit-code", f"{folder}/change.txt"), whole, NO_RACKS, 4)
+    owes("the change first", run("goal", f"{folder}/change.txt", f"{folder}/ring.txt"), b"", contains(b"the ring comes first"), 2)
+    half = f"{folder}/half"
+    with open(half, "wb") as it:
+        it.truncate(MOST // 2 + 1)
+    owes("files that are too large together", run("check", half, half), b"no 2 0\n", b"", 2)
 
 
 def dead():
@@ -414,11 +445,11 @@ def statements():
         owes(f"{word} in no form", run(word, "--format", "xml"), b"", contains(b"not text or json"), 2)
 
 
-def at_terminal(*words, **environment):
-    """What the words print on a terminal."""
+def at_terminal(*words, errors=subprocess.PIPE, **environment):
+    """What the words print on a terminal; with `errors=None` also what standard error has."""
     ours, theirs = pty.openpty()
     known = {key: value for key, value in os.environ.items() if key != "NO_COLOR"} | environment
-    with subprocess.Popen([RUN, *words], stdout=theirs, stderr=subprocess.PIPE, env=known) as ran:
+    with subprocess.Popen([RUN, *words], stdout=theirs, stderr=errors or theirs, env=known) as ran:
         os.close(theirs)
         found = b""
         try:
@@ -538,6 +569,18 @@ def first():
     owes("times before all entries", run("show", given=front + b"history 1\n" + b"".join(b"17:05 " + it + b"\n" for it in entries[:-2]) + b"end\n"), b"", contains(b"an entry begins with its event"), 2)
 
 
+def advice():
+    """At a terminal a refusal in one line has a second one, which names the command with words for it."""
+    refused, good = f"{EXAMPLES}/copy_out_of_order.bundle", f"{EXAMPLES}/move_one_slot.bundle"
+    for words, environment in (("check", {}), ("check --workers 2", {}), ("check", {"NO_COLOR": "1"})):
+        shown = at_terminal(*words.split(), refused, errors=None, **environment)
+        owes(f"{words} at a terminal", (shown, b"", 0), lambda it: it.startswith(b"no 22 ") and it.count(b"`ringplan why FILE` says why") == 1, b"", 0)
+    owes("a replay without a history at a terminal", (at_terminal("replay", good, errors=None), b"", 0), contains(b"also wants a history"), b"", 0)
+    for words in (["check", good], ["check", "--format", "json", refused], ["why", refused], ["goal", refused], ["check", "--ded"]):
+        owes(f"{words} at a terminal", (at_terminal(*words, errors=None), b"", 0), lambda it: b"says why" not in it and it != b"", b"", 0)
+    owes("a check elsewhere", run("check", refused), lambda it: it.startswith(b"no 22 "), b"", 1)
+
+
 def terminal():
     """At a terminal with nothing to read the program says that it waits, and its first end of input is the last."""
     for words, name, owed in (("check", "move_one_slot", b"yes\n"), ("part --of 1 --part 0", "replay_a_move", read("replay_a_move"))):
@@ -563,6 +606,7 @@ formats()
 statements()
 colors()
 first()
+advice()
 terminal()
 for fault in faults:
     print(fault)
