@@ -167,7 +167,7 @@ fn go_around(it: &Begun, ring: Ring, words: &mut Words) -> Result<Vec<u8>, Refus
     if !is_none(&near) {
         return near;
     }
-    go_so_far(it, ring, Reach::Done, words)
+    go_so_far(it, ring, Reach::Full, words)
 }
 
 // The bundle that goes on from one that was read.
