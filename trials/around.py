@@ -221,7 +221,7 @@ class Story:
         compare(earlier, (plan.steps, plan.entries), set(taken))
         see_spared(machine, self.traffic.dead)
         self.ends[ending(said, sections(bundle)[1] == sections(self.bundle)[1])] += 1
-        if "only has the steps" not in said and self.use.back and any(machine.table.mirror[slot] in self.traffic.dead for slot in stuck(machine)):
+        if "copies have all chunks; plan" not in said and self.use.back and any(machine.table.mirror[slot] in self.traffic.dead for slot in stuck(machine)):
             raise Wrong("a slot stays mirrored to a dead node: " + said)
         self.bundle = bundle
         return True
@@ -303,7 +303,7 @@ class Answer(NamedTuple):
 
     def see_steps(self) -> None:
         """The plan has the steps that are to stay, and no others, as far as no dead node has to do with them."""
-        if "only has the steps" in self.said:
+        if "copies have all chunks; plan" in self.said:
             return
         dead, is_near = self.story.traffic.dead, "no better plan" in self.said
         if is_near and not dead:
@@ -320,7 +320,7 @@ class Answer(NamedTuple):
         machine, use, dead = self.story.machine, self.story.use, self.story.traffic.dead
         first, last = (last_table(self.story.ring, steps) for steps in (machine.steps, self.steps))
         stay = dead | set(last.owner.values()) | set(last.mirror.values()) | {x for x, _ in machine.hints()}
-        if not use.rest and "only has the steps" not in self.said and (first.members ^ last.members) - stay:
+        if not use.rest and "copies have all chunks; plan" not in self.said and (first.members ^ last.members) - stay:
             raise Wrong("members end otherwise: %s" % sorted((first.members ^ last.members) - stay))
 
 
@@ -499,8 +499,8 @@ def heed(words: str, ring: Ring, steps: Sequence[texts.Step]) -> None:
 
 
 def ending(words: str, is_same_plan: bool) -> str:
-    if "only has the steps" in words:
-        return "NO BETTER PLAN than the steps that are done"
+    if "copies have all chunks; plan" in words:
+        return "no better plan than the moves whose copies have all chunks"
     if "no better plan" in words:
         return "no better plan than the moves that have begun"
     if "stays mirrored" in words:
@@ -641,6 +641,45 @@ end
 """ % "".join("chunk 1 %d = ok\n" % c for c in range(CHUNKS))
 
 
+# Two targets die with full copies. Slot 0 is to be read by way of both, and the one switch comes after the other.
+STUCK = """plan 1
+mirror 0 2 d
+copy 0 2 owner after 0
+switch 0 2 after 1
+mirror 0 1 f
+copy 0 1 owner after 3
+switch 0 1 after 2 4
+mirror 0 0 e
+copy 0 0 slots 1 2 after 2 5 6
+switch 0 0 after 7
+end
+"""
+
+
+def see_last_ways() -> None:
+    """If no plan does all, moves that have begun are ended, or at least those whose copies have all chunks."""
+    ring = Ring(1, list("abcdef"), {x: (4,) for x in "abcdef"}, (3, 2, 2), set("abcdef"), [list("abc")])
+    bundle = ask(["cert"], ring.text(ring.members, ring.rows) + STUCK)[0]
+    for is_begun, back, needed in ((False, False, "as by --rest"), (True, False, "copies have all chunks"), (True, True, "copies have all chunks")):
+        machine = Machine(ring, texts.read_plan(bundle)[1].steps)
+        for k in (0, 3, *([6] if is_begun else [])):
+            machine.do(k)
+        for k in (1, 4):
+            machine.open_copy(k)
+            for c in range(CHUNKS):
+                machine.chunk(k, c)
+            machine.close(k)
+        history = "\n".join(["history 1", *machine.entries, "end", ""])
+        out, said, status = ask(["around", "--dead", "b", "--dead", "d", *(["--back"] if back else []), "--all"], bundle + history)
+        if status or needed not in said or ask(["replay"], out)[2] or out.count("\nswitch ") != 2:
+            raise Wrong("around with no good plan: %s%s" % (out, said))
+        heed(said, ring, texts.read_plan("".join(sections(out)[:3]))[1].steps)
+        if is_begun and not back:
+            out, said, status = ask(["around", "--leave", "0.0"], out)
+        if status or ask(["replay"], out)[2] or out.count("\nmirror ") != 2:
+            raise Wrong("the last mirror stays: %s%s" % (out, said))
+
+
 def see_small_cases() -> None:
     """Two bundles with a plan that is easily missed."""
     for dead, text, needed in (("b", HINT, "mirror 0 1 d"), ("d", CIRCLE, "copy 0 0 slots 1 2")):
@@ -686,6 +725,7 @@ def main() -> int:
     wrong = int(not is_right(keep_what_the_dead_had, "one put, one chunk", total))
     wrong += not is_right(lambda: take_back_many(4_000), "4,000 mirrors", total)
     wrong += not is_right(see_small_cases, "small cases", total)
+    wrong += not is_right(see_last_ways, "last ways", total)
     wrong += not is_right(see_words_refused, "command lines", total)
     for use in USES:
         if words.use and use.name not in words.use:

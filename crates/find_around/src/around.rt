@@ -54,8 +54,8 @@ pub enum Reach {
     Far,
     /// Moves that have begun, in partitions with which a dead node has to do, or a slot that is left; in all others all moves.
     Near,
-    /// Only steps that are done.
-    Done,
+    /// Moves whose copies are done, or have all chunks; in all partitions.
+    Full,
 }
 
 /// Another plan, and what became of the steps of the old one.

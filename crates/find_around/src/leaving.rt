@@ -12,15 +12,26 @@ fn has_slot(task: &Task, slot: Slot) -> bool {
     slot.partition < task.ring.q() && slot.index < task.ring.n()
 }
 
-// The place of the slot's first move that is not over: it is to come, or its mirror is set.
+// Whether the step is done, if there is one.
+fn has_done(progress: &Progress, step: Option<u32>) -> bool {
+    match step {
+        Some(step) => progress.is_done(step),
+        None => false,
+    }
+}
+
+// The place of the slot's first move that is not over: a switch of it is to come, or its mirror stays without one and can be taken back.
 fn first_open(moves: &Moves, progress: &Progress, slot: Slot) -> Option<usize> {
     let mut next = moves.first(slot);
     for turn in 0..moves.len() {
         let it = moves.at(next)?;
-        match it.switch {
-            Some(switch) if progress.is_done(switch) => next = it.next,
-            _ => return next,
+        if it.switch.is_none() && has_done(progress, it.copy) {
+            return None;
         }
+        if !has_done(progress, it.switch) {
+            return next;
+        }
+        next = it.next;
     }
     None
 }

@@ -105,9 +105,9 @@ impl Search<'_> {
         false
     }
 
-    /// Whether the move's copy is done, or open with all its chunks.
+    /// Whether the move has a switch, and its copy is done, or open with all its chunks.
     pub(crate) fn is_filled(&self, it: &Move) -> bool {
-        let Some(copy) = it.copy else {
+        let (Some(copy), Some(_)) = (it.copy, it.switch) else {
             return false;
         };
         self.is_done(copy) || (self.progress.is_open(copy) && self.progress.chunks(copy) == 16)

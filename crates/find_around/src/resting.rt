@@ -76,7 +76,7 @@ impl Search<'_> {
         let plan = self.task.plan;
         for node in 0..small(self.task.ring.nodes().len()) {
             let join = plan.join_of(NodeId(node));
-            if join.is_some() && !self.has_done(join) {
+            if self.kept(join).is_some() && !self.has_done(join) {
                 self.remove(join);
                 self.remove(plan.retirement_of(NodeId(node)));
                 self.say_of_node(b"@ does not join\n", node);
@@ -121,35 +121,41 @@ impl Search<'_> {
         self.note_outcome(it.slot, Outcome::NotBegun)
     }
 
-    /// Leaves out all steps that are not done.
-    pub(crate) fn keep_done(&mut self) -> Result<(), Refusal> {
+    /// Leaves out all moves but those whose copies are done, or have all chunks.
+    pub(crate) fn keep_full(&mut self) -> Result<(), Refusal> {
+        self.leave_joins();
         for place in 0..self.moves.len() {
             if let Some(it) = self.moves.at(Some(place)) {
-                if self.kept(it.mirror).is_some() && !self.has_done(it.switch) {
-                    self.stop(&it)?;
+                if self.kept(it.mirror).is_some() {
+                    self.keep_if_full(place, &it)?;
                 }
-            }
-        }
-        for step in 0..self.task.plan.len() {
-            if !self.is_done(step) {
-                self.remove(Some(step));
             }
         }
         Ok(())
     }
 
-    // The move stops where it is. A mirror that is dead is taken back if that is allowed.
-    fn stop(&mut self, it: &Move) -> Result<(), Refusal> {
-        if self.saying_of(it.slot).outcome.is_some() {
+    // Leaves out what is to come of the move, unless its copy is done or has all chunks.
+    fn keep_if_full(&mut self, place: usize, it: &Move) -> Result<(), Refusal> {
+        let is_full = self.is_filled(it);
+        if is_full || self.has_done(it.switch) {
+            if self.is_dead(it.source) && !self.has_done(it.drop) {
+                self.remove(it.drop);
+            }
+            if self.is_dead(it.target) && !self.has_done(it.switch) {
+                self.note_outcome(it.slot, Outcome::Filled(it.target))?;
+            }
             return Ok(());
         }
-        let is_mirrored = self.has_done(it.mirror);
-        if is_mirrored && (!self.is_dead(it.target) || self.task.back == Back::Never) {
-            return self.note_outcome(it.slot, Outcome::MirroredStill(it.target));
+        if !self.has_done(it.mirror) {
+            self.leave_out_from(Some(place))?;
+            return self.note_outcome(it.slot, Outcome::NotBegun);
         }
-        if is_mirrored {
+        if self.task.back == Back::Allowed && !self.has_done(it.copy) {
             self.take_back(it)?;
+            self.leave_out_from(Some(place))?;
+            return self.note_outcome(it.slot, Outcome::NotBegun);
         }
-        self.note_outcome(it.slot, Outcome::NotBegun)
+        self.stick(it)?;
+        self.note_outcome(it.slot, Outcome::MirroredStill(it.target))
     }
 }

@@ -22,10 +22,10 @@ enum Fate {
 pub(crate) fn settle(search: &mut Search) -> Result<(), Refusal> {
     search.leave_named()?;
     search.rest()?;
-    if search.reach == Reach::Done {
-        search.keep_done()?;
+    search.part_from_dead();
+    if search.reach == Reach::Full {
+        search.keep_full()?;
     } else {
-        search.part_from_dead();
         search.settle_slots()?;
         search.settle_copies()?;
     }
@@ -127,7 +127,7 @@ impl Search<'_> {
 
     // Decides what becomes of a move whose mirror is dead: it is taken back if that is allowed, and begins again with another target unless no more moves begin.
     fn settle_dead(&mut self, place: usize, it: &Move, owner: u32) -> Result<Fate, Refusal> {
-        if self.task.back == Back::Never {
+        if self.task.back == Back::Never || self.has_done(it.copy) {
             self.stick(it)?;
             self.note_outcome(it.slot, Outcome::MirroredToDead(it.target))?;
             return Ok(Fate::Stuck);
@@ -177,9 +177,11 @@ impl Search<'_> {
         Ok(true)
     }
 
-    // The slot stays mirrored for good, and both nodes stay with it.
-    fn stick(&mut self, it: &Move) -> Result<(), Refusal> {
-        self.remove(it.copy);
+    /// The slot stays mirrored for good, and both nodes stay with it.
+    pub(crate) fn stick(&mut self, it: &Move) -> Result<(), Refusal> {
+        if !self.has_done(it.copy) {
+            self.remove(it.copy);
+        }
         self.remove(it.switch);
         self.remove(it.drop);
         self.crowd.stay(it.mirror)?;
@@ -202,7 +204,7 @@ impl Search<'_> {
 
     // Gives the move's copy other sources if it needs some.
     fn settle_copy(&mut self, place: usize, it: &Move, copy: u32) -> Result<(), Refusal> {
-        if self.is_filled(it) || !self.reads_dead(it) {
+        if self.is_done(copy) || self.is_filled(it) || !self.reads_dead(it) {
             return Ok(());
         }
         if !self.relist(it, copy)? {

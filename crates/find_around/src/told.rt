@@ -29,7 +29,7 @@ pub(crate) enum Outcome {
     MirroredUnread(u32),
     /// It stays mirrored to the node, which has puts that the slot's owner does not have.
     MirroredAhead(u32),
-    /// It stays mirrored to the node, since only steps that are done stay in the plan.
+    /// It stays mirrored to the node, since the plan only ends moves whose copies have all chunks.
     MirroredStill(u32),
     /// Its mirror at the node is set again.
     Again(u32),
@@ -219,12 +219,12 @@ impl Search<'_> {
         match self.reach {
             Reach::Far => {}
             Reach::Near => self.words.fill(
-                b"no better plan was found: in # partitions with dead nodes, or slots that stay, the plan only ends what has begun, as --rest does; plan the rest by goal\n",
+                b"no better plan was found: partitions with dead nodes, or with slots that stay (#), only end what has begun, as by --rest; plan the rest by goal\n",
                 &[],
                 &[count],
             ),
-            Reach::Done => self.words.text(
-                b"no better plan was found: the plan only has the steps that are done, and --rest finds no other; plan the rest by goal\n",
+            Reach::Full => self.words.text(
+                b"no better plan was found, and none by --rest: the plan only ends moves whose copies have all chunks; plan the rest by goal\n",
             ),
         }
     }

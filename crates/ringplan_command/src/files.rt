@@ -1,6 +1,8 @@
 //! The files that a command line names.
 
 ghost use Rattle.std.specs.Prelude.{◌≡◌, [], IfOk, codes, map, option_map, string_bytes, unwrap_or};
+ghost use Rattle.std.specs.List.{list_all};
+ghost use Rattle.std.specs.Str.{bytes_eq};
 ghost use Rattle.clap.specs.Words.{all_of, first_value, found_of, rows_of, subcommand_rows_of};
 ghost use Rattle.ringplan_command.specs.Files.{are_dashes, but_dash, but_dashes, files_in, files_named, no_files};
 
@@ -53,11 +55,25 @@ fn inputs_of(alloc: Global, options: &ArgMatches) -> Result<Vec<String>, AllocEr
     Ok(texts)
 }
 
-// Whether each of the texts is `-`.
+// Whether the text is `-`.
+fn is_dash(text: &String) -> bool
+    ensures { result ≡ bytes_eq (string_bytes text.now) (codes "-") }
+{
+    text.as_str() == "-"
+}
+
+// Whether each of the texts is.
+fn each_is_dash(texts: &[String]) -> bool
+    ensures { result ≡ list_all (λ text. bytes_eq (string_bytes text) (codes "-")) texts.now }
+{
+    texts.iter().all(|text| is_dash(text))
+}
+
+// Whether the names are all `-`.
 fn are_dashes(texts: &[String]) -> bool
     ensures { result ≡ are_dashes (map string_bytes texts.now) }
 {
-    texts.iter().all(|text| text.as_str() == "-")
+    each_is_dash(texts)
 }
 
 /// The text of an argument; `-` stands for a standard stream, as no text does.
