@@ -176,11 +176,7 @@ fn go_around(it: &Begun, before: &World, words: &mut Words) -> Result<Vec<u8>, R
     if !is_none(&near) {
         return near;
     }
-<<<<<<< HEAD
-    go_so_far(it, before, Reach::Done, words)
-=======
-    go_so_far(it, ring, Reach::Full, words)
->>>>>>> d6b3086c85a0270d789e6fe81954f6693d2ab379
+    go_so_far(it, before, Reach::Full, words)
 }
 
 // The bundle that goes on from one that was read.
