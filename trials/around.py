@@ -186,9 +186,9 @@ class Story:
                 machine.abort(k)
 
     def choose_left(self) -> list[Slot]:
-        """Slots that a step to come moves; of several at least one whose move has begun, if there is one."""
+        """Slots that a step to come moves, or that stay mirrored; of several at least one whose move has begun, if there is one."""
         machine = self.machine
-        left = sorted({slot_of(step) for step in machine.steps_left("switch")})
+        left = sorted({slot_of(step) for step in machine.steps_left("switch")} | set(machine.table.mirror))
         begun = [slot for slot in left if slot in machine.table.mirror]
         chosen = set(self.draw.sample(left, min(len(left), self.use.leaves)))
         if begun and chosen and not chosen.intersection(begun):

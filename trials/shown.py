@@ -4,7 +4,7 @@
 
 The changes are those of `trials/sizes.py`. Of each: the ring alone by a layout with racks, aliases, sizes and dead nodes, as a table and as JSON; the plan with a dead node;
 and the first steps of a run, in which nodes go down and come up again. Counted are slots and sizes by node, the balance of nodes that answer, the partitions that
-still answer if any node fails more, what is left to move and the second in which that can end. In a picture the names of silent nodes are crossed out and say why."""
+still answer if any node fails more, what is left to move and when that can end at the earliest, and the moves that are open after a run, of which `after` names all. In a picture the names of silent nodes are crossed out and say why."""
 import argparse
 import json
 import random
@@ -121,22 +121,59 @@ def waits_of(plan: str) -> list[list[int]]:
     return [[int(k) for part in line.split(" after ")[1:] for k in part.split()] for line in plan.split("plan 1\n")[1].split("end\n")[0].splitlines()]
 
 
-def begun(plan: str, case: Case, pick: random.Random) -> tuple[list[str], set[int], dict[int, int]]:
-    """The events of a run's first steps, those that are done, and the chunks of the copies that are open."""
-    steps, events = steps_of(plan), []
+def begun(plan: str, pick: random.Random) -> tuple[list[str], set[int], dict[int, int]]:
+    """The events of a run's first steps in a random order, those that are done, and the chunks of copies that are not."""
+    steps, waits, events = steps_of(plan), waits_of(plan), []
     done: set[int] = set()
     chunks: dict[int, int] = {}
-    stop = pick.randrange(len(steps) + 1)
-    for number in range(stop):
-        if steps[number][0] == "copy":
-            events += ["open %d" % number, *("chunk %d %d" % (number, c) for c in range(16)), "close %d" % number]
-        else:
+    for _ in range(pick.randrange(len(steps) + 1)):
+        ready = [k for k in range(len(steps)) if k not in done and k not in chunks and done.issuperset(waits[k])]
+        if not ready:
+            break
+        number = pick.choice(ready)
+        if steps[number][0] != "copy":
             events.append("do %d" % number)
-        done.add(number)
-    if stop < len(steps) and steps[stop][0] == "copy":
-        chunks[stop] = pick.randrange(17)
-        events += ["open %d" % stop, *("chunk %d %d" % (stop, c) for c in range(chunks[stop]))]
+            done.add(number)
+            continue
+        given = 16 if pick.random() < 0.9 else pick.randrange(17)
+        events += ["open %d" % number, *("chunk %d %d" % (number, c) for c in range(given))]
+        if given == 16 and pick.random() < 0.95:
+            events.append("close %d" % number)
+            done.add(number)
+        else:
+            chunks[number] = given
+            # The chunks of a copy that is broken off stay given.
+            events += ["abort %d" % number] * (pick.random() < 0.3)
     return events, done, chunks
+
+
+def open_moves(plan: str, done: set[int]) -> list[str]:
+    """The lines of moves that are begun and not switched, in the order of their slots."""
+    steps, found = steps_of(plan), []
+    for number, fields in enumerate(steps):
+        if fields[0] != "mirror" or number not in done:
+            continue
+        later = [k for k in range(number + 1, len(steps)) if steps[k][1:3] == fields[1:3] and steps[k][0] in ("copy", "switch")]
+        ends = next((k for k in later if steps[k][0] == "switch"), len(steps))
+        if ends not in done:
+            left = ", ".join(str(k) for k in later if k <= ends and k not in done)
+            line = "slot %s of partition %s, to %s: begun by step %d; to do: %s" % (fields[2], fields[1], fields[3], number, left)
+            found.append((int(fields[1]), int(fields[2]), number, line))
+    return [line for *_, line in sorted(found)]
+
+
+def after_wrong(judge: Judge, plan: str, history: str, done: set[int], rows: list[list[str]]) -> None:
+    """What `after` says of a run, or the owners that it prints."""
+    ran = subprocess.run([RUN, "after"], input=plan + history, capture_output=True, text=True, timeout=120)
+    lines, found = open_moves(plan, done), ran.stderr.splitlines()
+    if not lines:
+        judge.owes("the owners after a run", [line.split()[2:] for line in ran.stdout.splitlines() if line.startswith("slots ")], rows)
+        return
+    first = min(int(line.split("begun by step ")[1].split(";")[0]) for line in lines)
+    many = "1 move is" if len(lines) == 1 else "%d moves are" % len(lines)
+    judge.owes("the refusal of `after`", (ran.stdout, ran.returncode, found[:2]), ("", 1, ["no 21 %d" % first, "refused: %s open, and a ring cannot say that" % many]))
+    judge.owes("the open moves", [line.strip() for line in found[2:-1]], lines)
+    judge.says("`after`", ran.stderr, "`ringplan around --rest FILE`")
 
 
 def history_of(plan: str, events: list[str]) -> str:
@@ -188,7 +225,7 @@ def plan_wrong(judge: Judge, case: Case, pick: random.Random, folder: str) -> No
     layout = ["--layout", written(case, [], {}, folder)]
     plan = run(["goal", *layout], case.bundle())
     last = now_of(case, plan, set(range(len(steps_of(plan)))))
-    events, done, chunks = begun(plan, case, pick)
+    events, done, chunks = begun(plan, pick)
     dead = pick.sample(case.names, pick.randrange(3))
     joined = {fields[1] for number, fields in enumerate(steps_of(plan)) if fields[0] == "join" and number in done}
     gone = {fields[1] for number, fields in enumerate(steps_of(plan)) if fields[0] == "retire" and number in done}
@@ -201,10 +238,12 @@ def plan_wrong(judge: Judge, case: Case, pick: random.Random, folder: str) -> No
     history = history_of(plan, events)
     dead = [v for v in case.names if v in dead]
     words = [*layout, *(word for v in dead for word in ("--dead", v))]
+    now = now_of(case, plan, done)
+    after_wrong(judge, plan, history, done, now)
     rate = pick.choice([1, 7, 100])
     text = run(["show", "--all", "--rate", str(rate), *words], plan + history)
     stated = json.loads(run(["show", "--format", "json", "--rate", str(rate), *words], plan + history))
-    silent, now = set(dead) | set(down), now_of(case, plan, done)
+    silent = set(dead) | set(down)
     slots, sizes = owned(case, now), stored(case, now)
     for v, node in zip(case.names, stated["nodes"]):
         wanted = (v, v in dead, v in down, slots[v], sizes[v])

@@ -1,7 +1,7 @@
 #!/usr/bin/env python3
 """Tries what the program reads and writes, from outside: files that are named, standard input, output and error, and a terminal. It wants the program as it
 is built."""
-import json, os, pty, re, stat, subprocess, sys, tempfile
+import bz2, gzip, json, lzma, os, pty, random, re, stat, subprocess, sys, tempfile
 
 top = os.path.dirname(os.path.dirname(os.path.abspath(__file__)))
 RUN = f"{top}/crates/ringplan/out/ringplan"
@@ -55,8 +55,39 @@ def files(folder):
     with open(large, "wb") as it:
         it.truncate(MOST)
     owes("a file of the most bytes", run("check", large), contains(b"no "), b"", 2)
-    owes("two files", run("check", good, good), b"", contains(b"unexpected argument"), 2)
+    together(folder)
     owes("a file that is only there", run("plan", plan), contains(b"plan 1\n"), b"", 0)
+
+
+def together(folder):
+    """Several files are read as one text, in the order of the line; `-` is standard input."""
+    text = read("plan_replace")
+    whole = run("goal", given=text)[0]
+    # Also where a line is cut in two, and where a part is empty.
+    for cuts in ([text.index(b"change 1")], [0], [len(text)], [3, 100], [7, 7, 50, 120]):
+        ends = [0, *cuts, len(text)]
+        parts, names = [text[a:b] for a, b in zip(ends, ends[1:])], []
+        for number, part in enumerate(parts):
+            names.append(f"{folder}/part{number}")
+            with open(names[-1], "wb") as it:
+                it.write(part)
+        owes(f"{len(parts)} files", run("goal", *names), whole, NO_RACKS, 0)
+        for place in range(len(parts)):
+            dashed = [*names[:place], "-", *names[place + 1 :]]
+            owes(f"{len(parts)} files and standard input", run("goal", *dashed, given=parts[place]), whole, NO_RACKS, 0)
+        owes("a part that is missing", run("goal", *names, f"{folder}/none"), b"", contains(b"none: No such file or directory"), 3)
+    owes("a text twice", run("check", f"{EXAMPLES}/move_one_slot.bundle", f"{EXAMPLES}/move_one_slot.bundle"), lambda it: it.startswith(b"no 1 "), b"", 2)
+    owes("dashes", run("check", "-", "-", given=read("move_one_slot")), b"yes\n", b"", 0)
+    ring, change = text[: text.index(b"change 1")], text[text.index(b"change 1") :]
+    for name, part in (("ring.txt", ring), ("change.txt", change)):
+        with open(f"{folder}/{name}", "wb") as it:
+            it.write(part)
+    owes("options between files", run("goal", f"{folder}/ring.txt", "--exit-code", f"{folder}/change.txt"), whole, NO_RACKS, 4)
+    owes("the change first", run("goal", f"{folder}/change.txt", f"{folder}/ring.txt"), b"", contains(b"the ring comes first"), 2)
+    half = f"{folder}/half"
+    with open(half, "wb") as it:
+        it.truncate(MOST // 2 + 1)
+    owes("files that are too large together", run("check", half, half), b"no 2 0\n", b"", 2)
 
 
 def dead():
@@ -107,7 +138,7 @@ def layouts(folder):
     owes("a fault before the layout's", run("show", "--layout", plan, given=read("copy_out_of_order")), b"", contains(b"no 2"), 1)
     with open(plan, "wb") as it:
         it.write(b"layout 1\nsize 1 5\nend\n")
-    owes("a rate", run("show", "--layout", plan, "--rate", "2", given=given), lambda it: b"at 2 a second the plan ends in 3 s at the earliest" in b" ".join(it.split()), contains(b"no racks known"), 0)
+    owes("a rate", run("show", "--layout", plan, "--rate", "2", given=given), lambda it: b"at 2 a second the plan ends in 4 s at the earliest" in b" ".join(it.split()), contains(b"no racks known"), 0)
     for form in ("text", "json"):
         owes("a rate without a layout", run("show", "--rate", "2", "--format", form), b"", contains(b"'--rate <N>' wants '--layout <FILE>'"), 2)
     for rate in ("0", "4294967296", "x", ""):
@@ -414,11 +445,11 @@ def statements():
         owes(f"{word} in no form", run(word, "--format", "xml"), b"", contains(b"not text or json"), 2)
 
 
-def at_terminal(*words, **environment):
-    """What the words print on a terminal."""
+def at_terminal(*words, errors=subprocess.PIPE, **environment):
+    """What the words print on a terminal; with `errors=None` also what standard error has."""
     ours, theirs = pty.openpty()
     known = {key: value for key, value in os.environ.items() if key != "NO_COLOR"} | environment
-    with subprocess.Popen([RUN, *words], stdout=theirs, stderr=subprocess.PIPE, env=known) as ran:
+    with subprocess.Popen([RUN, *words], stdout=theirs, stderr=errors or theirs, env=known) as ran:
         os.close(theirs)
         found = b""
         try:
@@ -450,6 +481,106 @@ def colors():
     owes("colours of a check", run("check", "--color", "never"), b"", contains(b"unexpected argument"), 2)
 
 
+def unpacked(said, text, folder):
+    """What the command that is said makes of the text in the file that it calls FILE."""
+    command = re.search(rb"`([^`]* > MENDED)`", said)
+    if not command:
+        return b""
+    with open(f"{folder}/FILE", "wb") as it:
+        it.write(text)
+    subprocess.run(command[1], shell=True, cwd=folder, check=False)
+    with open(f"{folder}/MENDED", "rb") as it:
+        return it.read()
+
+
+def kinds(folder):
+    """Inputs of other kinds: what they are is said, and a command that makes a text of them does."""
+    text = read("plan_replace")
+    plain = text.decode()
+    for what, given in (
+        (b"gzip", gzip.compress(text)),
+        (b"xz", lzma.compress(text)),
+        (b"bzip2", bz2.compress(text)),
+        (b"UTF-16", plain.encode("utf-16")),
+        (b"UTF-16LE", plain.encode("utf-16-le")),
+        (b"UTF-16BE", plain.encode("utf-16-be")),
+    ):
+        for word in ("goal", "why"):
+            output, errors, status = run(word, given=given)
+            owes(f"{word} of {what}", (output + errors, b"", status), lambda it: it.startswith(b"no 1 1\nrefused: the input is ") and what in it and b"mend:" not in it, b"", 2)
+            has_text = unpacked(output + errors, given, folder)
+            owes(f"what the command of {word} makes of {what}", (has_text, b"", 0), text, b"", 0)
+    for seed in range(20):
+        given = random.Random(seed).randbytes(2000)
+        owes(f"random bytes {seed}", run("goal", given=given), b"", lambda it: it.startswith(b"no 1 1\nrefused: the input is"), 2)
+    for number in (4, 17):
+        later = text.replace(b"ring 1", b"ring %d" % number)
+        owes(f"a ring of format {number}", run("goal", given=later), b"", lambda it: b"format %d, and this program reads 1 to 3" % number in it and b"mend" not in it, 2)
+
+
+def faulty_lines(words, given):
+    """The lines at fault that are stated, and the text with the mend that is stated."""
+    stated = json.loads(run(*words, "--format", "json", given=given)[0])
+    return stated["lines"], mended(given, stated["mend"]) if "mend" in stated else given
+
+
+def first():
+    """What people type first, and what they get wrong in a ring."""
+    text = read("plan_replace")
+    ring = text[: text.index(b"change 1")]
+    count = ring.count(b"\n")
+    change = text[len(ring) :]
+    plan = run("goal", given=text)[0]
+    owes("a ring alone", run("goal", given=ring), b"", lambda it: it.startswith(b"no 1 %d\nrefused: a change is missing after the ring\n" % (count + 1)), 2)
+    owes("a plan for a goal", run("goal", given=plan), b"", contains(b"refused: the bundle has a plan already\n"), 2)
+    owes("the change first", run("goal", given=change + ring), b"", contains(b"the ring comes first, and begins in line %d\n" % (change.count(b"\n") + 1)), 2)
+    for given, words in ((plan, b"the bundle has no history"), (text, b"and the bundle has a change"), (ring, b"and the bundle has a ring only")):
+        owes("around without a history", run("around", "--dead", "b", given=given), b"", lambda it: words in it and b"`ringplan goal --dead NODE`" in it and b"mend" not in it, 2)
+    owes("around with a fault in its plan", run("around", "--dead", "b", given=plan.replace(b"mirror", b"mirorr")), b"", lambda it: b"mend: `mirror` was meant?" in it and b"goal --dead" not in it, 2)
+    # The ring has members a, b and c, and d joins.
+    for names, left in (("ab", 2), ("abc", 1), ("abcd", 0)):
+        dead = [f"--dead={name}" for name in names]
+        stays = ring + b"change 1\n" + (b"join d\n" if "d" not in names else b"") + b"end\n"
+        owes(f"{names} dead", run("goal", *dead, given=stays), b"", contains(b"there is no plan: %d member" % left), 1)
+    windows = run("windows", "--rounds", "1", given=text)[0].count(b"ring 1\n")
+    owes("a window that is not there", run("windows", "--rounds", "1", "--only", "99", given=text), b"", contains(b"there %s %d window" % (b"is" if windows == 1 else b"are", windows)), 1)
+    five = text.replace(b"quorum 3 2 2", b"quorum 5 3 3")
+    lines, mend = faulty_lines(["why"], five)
+    owes("a quorum of five over rows of three", (lines, mend, 0), [3], text, 0)
+    wide = text.replace(b"quorum 3 2 2", b"quorum 5 3 4")
+    owes("another quorum of five", (*faulty_lines(["why"], wide), 0), [3], text, 0)
+    high = text.replace(b"quorum 3 2 2", b"quorum 4 1 3")
+    owes("a quorum of four that also serves three", (*faulty_lines(["why"], high), 0), [3], text.replace(b"quorum 3 2 2", b"quorum 3 1 3"), 0)
+    rows = [line for line in text.split(b"\n") if line.startswith(b"slots ")]
+    twice = text.replace(rows[1], rows[1] + b"\n" + rows[1])
+    place = twice.split(b"\n").index(rows[1]) + 2
+    owes("a partition twice", (*faulty_lines(["why"], twice), 0), [place], text, 0)
+    misnamed = text.replace(b"slots 1 ", b"slots 0 ")
+    owes("a partition misnamed", (*faulty_lines(["why"], misnamed), 0), [place - 1], text, 0)
+    for name in (b"riak@10.0.0.1", b"Kv01", b"ip-10-0-12-133.eu-central-1.compute.internal", b"3F2504E0-4F89-11D3-9A0C-0305E82C3301"):
+        named = text.replace(b"node a ", b"node " + name + b" ")
+        owes(f"a node named {name!r}", run("goal", given=named), b"", lambda it: b"1 to 32 of a-z 0-9 _ . : -" in it and b"`alias NAME " + name + b"`" in it, 2)
+    told = read("replay_a_move")
+    front, history = told.split(b"history 1\n")
+    entries = history.split(b"\n")
+    place = front.count(b"\n") + 2
+    timed = front + b"history 1\n" + b"\n".join([b"2026-11-30T05:00:00Z " + entries[0], *entries[1:]])
+    owes("a time before an entry", (*faulty_lines(["why"], timed), 0), [place], told, 0)
+    owes("times before all entries", run("show", given=front + b"history 1\n" + b"".join(b"17:05 " + it + b"\n" for it in entries[:-2]) + b"end\n"), b"", contains(b"an entry begins with its event"), 2)
+
+
+def advice():
+    """At a terminal a refusal in one line has a second one, which names the command with words for it."""
+    refused, good = f"{EXAMPLES}/copy_out_of_order.bundle", f"{EXAMPLES}/move_one_slot.bundle"
+    for words, environment in (("check", {}), ("check --workers 2", {}), ("check", {"NO_COLOR": "1"})):
+        shown = at_terminal(*words.split(), refused, errors=None, **environment)
+        owes(f"{words} at a terminal", (shown, b"", 0), lambda it: it.startswith(b"no 22 ") and it.count(b"`ringplan why FILE` says why") == 1, b"", 0)
+    owes("a replay without a history at a terminal", (at_terminal("replay", good, errors=None), b"", 0), contains(b"also wants a history"), b"", 0)
+    for words in (["check", good], ["check", "--format", "json", refused], ["why", refused], ["goal", refused], ["check", "--ded"]):
+        owes(f"{words} at a terminal", (at_terminal(*words, errors=None), b"", 0), lambda it: b"says why" not in it and it != b"", b"", 0)
+    owes("a check elsewhere", run("check", refused), lambda it: it.startswith(b"no 22 "), b"", 1)
+
+
 def terminal():
     """At a terminal with nothing to read the program says that it waits, and its first end of input is the last."""
     for words, name, owed in (("check", "move_one_slot", b"yes\n"), ("part --of 1 --part 0", "replay_a_move", read("replay_a_move"))):
@@ -467,12 +598,15 @@ with tempfile.TemporaryDirectory() as scratch:
     outputs(scratch)
     layouts(scratch)
     parts(scratch)
+    kinds(scratch)
 dead()
 streams()
 escapes()
 formats()
 statements()
 colors()
+first()
+advice()
 terminal()
 for fault in faults:
     print(fault)

@@ -44,15 +44,24 @@ fn add_dead_name(alloc: Global, fact: &Fact, names: &mut Vec<Vec<u8>>) -> Result
     Ok(())
 }
 
+// A copy of the names.
+fn copy_names(alloc: Global, names: &[Vec<u8>]) -> Result<Vec<Vec<u8>>, Refusal>
+    ensures { IfOk result (λ copies. map (λ name. name.items) copies.items ≡ map (λ name. name.items) names.now) }
+{
+    let mut copies = Vec::new(alloc);
+    for name in names {
+        copies.push(Vec::from_slice(alloc, name.as_slice())?)?;
+    }
+    Ok(copies)
+}
+
 /// The names of the nodes that are dead by the options: those of the line, and then those of the layout.
 pub fn dead_by(alloc: Global, options: &Options) -> Result<Vec<Vec<u8>>, Refusal>
     ensures { IfOk result (λ names. map (λ name. name.items) names.items ≡ dead_names options.now) }
 {
-    let mut names = Vec::new(alloc);
-    for name in options.dead.as_slice() {
-        names.push(Vec::from_slice(alloc, name.as_slice())?)?;
-    }
-    for entry in options.layout.entries.as_slice() {
+    let mut names = copy_names(alloc, options.dead.as_slice())?;
+    let entries = options.layout.entries.as_slice();
+    for entry in entries {
         add_dead_name(alloc, &entry.fact, &mut names)?;
     }
     Ok(names)

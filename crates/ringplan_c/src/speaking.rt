@@ -48,7 +48,7 @@ fn report_making(
 ) -> Result<Report, Refusal>
     ensures { IfOk result (λ r. Reports (files_in files.now) making options.now input.now r.output.items r.status) }
 {
-    if files.input.is_some() || files.output.is_some() || options.layout_file.is_some() {
+    if !files.inputs.is_empty() || files.output.is_some() || options.layout_file.is_some() {
         return turned_away(alloc, NO_FILES);
     }
     if input.len() > MAX_INPUT {

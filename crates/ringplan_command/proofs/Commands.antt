@@ -1,8 +1,9 @@
 -- What `clap` makes of the program's command lines.
 use Rattle.std.proofs.Common.{◌≡◌, ◌≢◌, ◌⊎◌, MatchOption, ℕ, [], ◌∷◌, List, Result, Ok, Err, Option, Some, None, IfOk, true, false, codes, option_map, refl, sym, ap, ◌∙◌, subst, drop, inl, inr}
+use Rattle.std.specs.Prelude.{unwrap_or}
 use Rattle.std.specs.Str.{bytes_eq}
 use Rattle.std.specs.Str.Parse.{ParsesUnsigned}
-use Rattle.clap.specs.Words.{App, FailsBy, IsAmong, Kinds, Row, TriesOne, fault_of, is_simple, is_simple_and_free, built, first_of, first_value, one_of, one_text, rows_of, subcommand_of, subcommand_rows_of, HasMatchesOf}
+use Rattle.clap.specs.Words.{App, FailsBy, IsAmong, Kinds, Row, TriesOne, all_of, fault_of, is_simple, is_simple_and_free, built, first_of, first_value, one_of, one_text, rows_of, subcommand_of, subcommand_rows_of, HasMatchesOf}
 use Rattle.clap.specs.Simple.{names_of, entered}
 use Rattle.clap.specs.Walk.{stop_after}
 use Rattle.clap.specs.Faults.{built_fault}
@@ -17,7 +18,7 @@ use Rattle.clap.proofs.WalkLemmas.{first_value-rows, one_text-rows}
 use Rattle.clap.proofs.OnLiterals.{clap_on_literals}
 use Rattle.ring_names.proofs.AtBytes.{same_bytes}
 use Rattle.ringplan_command.specs.Tree.{ringplan, word_of}
-use Rattle.ringplan_command.specs.Files.{IsJob, Names, files_named, files_of, no_files, text_named}
+use Rattle.ringplan_command.specs.Files.{IsJob, Names, files_named, files_of, no_files, text_named, texts_named}
 use Rattle.ringplan_command.specs.declared.word.Guide.{Guide}
 use Rattle.ringplan_command.specs.declared.word.Word.{Word}
 use Rattle.ringplan_command.specs.declared.command.Format.{Format}
@@ -92,6 +93,11 @@ named_there (Some x) rows id e = let same : rows ≡ x.1 = cc in rw same refl
 pub text_there : (sub : Option (List ℕ × List Row)) (rows : List Row) (id : List ℕ) → Some rows ≡ option_map (λ p. p.1) sub → text_named id sub ≡ first_of id rows
 text_there None rows id e = absurd cc
 text_there (Some x) rows id e = let same : rows ≡ x.1 = cc in rw same refl
+
+-- the texts of an argument likewise
+pub texts_there : (sub : Option (List ℕ × List Row)) (rows : List Row) (id : List ℕ) → Some rows ≡ option_map (λ p. p.1) sub → texts_named id sub ≡ unwrap_or (all_of id rows) []
+texts_there None rows id e = absurd cc
+texts_there (Some x) rows id e = let same : rows ≡ x.1 = cc in rw same refl
 
 -- one without the option names none
 pub none_given : (sub : Option (List ℕ × List Row)) → task_named sub ≡ to_do Check → option_named (codes "workers") sub ≡ None → format_named sub ≡ None → asked_by [] sub ≡ only Check

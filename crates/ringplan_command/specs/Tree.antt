@@ -53,9 +53,9 @@ cut_option word = number_option word 1 1000000
 abbrev pub rate_option : Rule
 rate_option = number_option (codes "rate") 1 4294967295
 
--- the file that is read
+-- the files that are read, one after the other
 abbrev pub file_argument : Rule
-file_argument = record (new_rule (codes "file")) { value_names = 1 }
+file_argument = record (new_rule (codes "file")) { value_names = 1; action = Some Append }
 
 -- `-o FILE`, the file that is written
 abbrev pub output_option : Rule

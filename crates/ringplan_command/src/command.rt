@@ -108,18 +108,18 @@ pub fn parse<S: AsStr>(alloc: Global, words: &[S]) -> CommandLine
 {
     match try_parse(alloc, words) {
         Ok(line) => line,
-        Err(_) => alone(Request::OutOfMemory),
+        Err(_) => alone(alloc, Request::OutOfMemory),
     }
 }
 
 // A line that names no files.
-fn alone(request: Request) -> CommandLine
+fn alone(alloc: Global, request: Request) -> CommandLine
     ensures request { result.request ≡ request }
     ensures files { files_in result.files ≡ no_files }
 {
     CommandLine {
         request,
-        files: Files::none(),
+        files: Files::none(alloc),
     }
 }
 
@@ -133,11 +133,12 @@ fn try_parse<S: AsStr>(alloc: Global, words: &[S]) -> Result<CommandLine, AllocE
         Err(error) => {
             let text = with_successor(format!(in alloc; "{error}")?)?;
             match error.kind() {
-                ErrorKind::OutOfMemory => Ok(alone(Request::OutOfMemory)),
-                ErrorKind::DisplayHelp | ErrorKind::DisplayVersion => Ok(alone(Request::Help(
-                    text,
-                ))),
-                _ => Ok(alone(Request::Mistaken(text))),
+                ErrorKind::OutOfMemory => Ok(alone(alloc, Request::OutOfMemory)),
+                ErrorKind::DisplayHelp | ErrorKind::DisplayVersion => Ok(alone(
+                    alloc,
+                    Request::Help(text),
+                )),
+                _ => Ok(alone(alloc, Request::Mistaken(text))),
             }
         }
     }
@@ -162,7 +163,7 @@ fn line_of(alloc: Global, matches: &ArgMatches) -> Result<CommandLine, AllocErro
 {
     let request = request_of(alloc, matches)?;
     if !request.is_job() {
-        return Ok(alone(request));
+        return Ok(alone(alloc, request));
     }
     let files = Files::of(alloc, matches)?;
     Ok(CommandLine { request, files })

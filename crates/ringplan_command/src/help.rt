@@ -8,7 +8,8 @@ pub(crate) const ABOUT: &str =
 
 pub(crate) const MORE: &str = "With --help: the formats, an example and the exit statuses.";
 
-pub(crate) const FILE: &str = "The bundle; with `-` or without it standard input is read";
+pub(crate) const FILE: &str =
+    "The bundle; several files are read one after the other, as one text; with `-` or without it standard input is read";
 
 pub(crate) const OUTPUT: &str =
     "Writes to FILE in place of standard output: all of the text, or with another exit status than 0 and 4 nothing; links and permissions stay";

@@ -1,6 +1,6 @@
-//! What is said of nodes on a command line.
+//! What is said several times on a command line.
 
-ghost use Rattle.std.specs.Prelude.{◌≡◌, [], IfOk, map, unwrap_or};
+ghost use Rattle.std.specs.Prelude.{◌≡◌, [], IfOk, map, string_bytes, unwrap_or};
 ghost use Rattle.clap.specs.Words.{all_of, found_of, rows_of};
 
 use clap::ArgMatches;
@@ -22,4 +22,22 @@ pub(crate) fn names_of(
         names.push(Vec::from_slice(alloc, text.as_bytes())?)?;
     }
     Ok(names)
+}
+
+/// The texts of an argument that may stand several times, in their order, as strings.
+pub(crate) fn texts_of(
+    alloc: Global,
+    matches: &ArgMatches,
+    word: &str,
+) -> Result<Vec<String>, AllocError>
+    ensures { IfOk result (λ texts. map string_bytes texts.items ≡ unwrap_or (all_of word.now (rows_of (found_of matches.now))) []) }
+{
+    let mut texts = Vec::new(alloc);
+    let Some(found) = matches.get_strs(word) else {
+        return Ok(texts);
+    };
+    for text in found {
+        texts.push(String::from_str(alloc, text)?)?;
+    }
+    Ok(texts)
 }

@@ -107,12 +107,15 @@ fn number<'a>(alloc: Global, word: &'a str, value: &'a str, help: &'a str) -> Ar
     option(alloc, word, value, help).value_parser(value_parser!(u32).range(1..=1_000_000))
 }
 
-// The bundle's file.
+// The bundle's files.
 fn file<'a>(alloc: Global) -> Arg<'a>
     ensures rule { rule_of result ≡ file_argument }
     ensures local { result.global ≡ false }
 {
-    Arg::new(alloc, "file").value_name("FILE").help(FILE)
+    Arg::new(alloc, "file")
+        .value_name("FILE")
+        .help(FILE)
+        .action(ArgAction::Append)
 }
 
 // `--dead NODE`, which may stand several times; the text says what a dead node is.

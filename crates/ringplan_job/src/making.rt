@@ -9,6 +9,8 @@ use plan_runs::Back;
 pub enum Screen {
     /// To a terminal whose user wants colours.
     Colored,
+    /// To a terminal whose user wants none.
+    Bare,
     /// To anything else.
     Plain,
 }
@@ -16,7 +18,7 @@ pub enum Screen {
 /// Whether a text for people has colours.
 #[derive(Clone, Copy, Debug, PartialEq, Eq)]
 pub enum Color {
-    /// Where the screen has them; nowhere where no screen is known.
+    /// Where the screen has them; nowhere if no screen is known.
     Auto,
     /// Wherever it goes.
     Always,
@@ -31,7 +33,7 @@ impl Color {
     {
         match (self, screen) {
             (Color::Always, _) | (Color::Auto, Screen::Colored) => Color::Always,
-            (Color::Never, _) | (Color::Auto, Screen::Plain) => Color::Never,
+            (Color::Never, _) | (Color::Auto, Screen::Bare | Screen::Plain) => Color::Never,
         }
     }
 }

@@ -1,11 +1,12 @@
 //! Why no plan leads to the ring that is wished for, in words.
 
-use crate::why::push_words_of;
+use crate::history_words::unless_memory;
+use crate::why::{push_few, push_words_of};
 use change_text::{Options, Unreadable, Wanted, read_wanted};
 use helpers::Words;
 use plan_bundles::{Kind, dead_by, front, goal_of, kind_of, nodes_of};
 use plan_goal::{Aim, Goal, Unfit, is_among, why_unfit};
-use ring_names::Refusal;
+use ring_names::{NodeId, Refusal};
 use ring_table::Ring;
 use show_why::{Page, Said, push_printed, tell_text};
 use std::alloc::Global;
@@ -102,6 +103,14 @@ fn behind(refusal: &Refusal, lines: u32) -> Option<Refusal> {
     }
 }
 
+// What is said of a ring alone.
+const NO_CHANGE: &[u8; 160] =
+    b"refused: a change is missing after the ring\n  A change is `change 1`, lines `join <node>`, then lines `leave <node>`, and `end`. Or the goal ring stands there.\n";
+
+// What is said of a bundle with a plan.
+const HAS_PLAN: &[u8; 141] =
+    b"refused: the bundle has a plan already\n  `ringplan show` says what the plan does. For another plan put a change or a goal ring in its place.\n";
+
 // Whether the text begins as one of a ring.
 fn begins_a_ring(text: &[u8]) -> bool {
     let line = &text[..text.len().min(7)];
@@ -121,6 +130,14 @@ fn push_fault(
     let second = &bytes[front(bytes, 1)..];
     let lines = Page { bytes: first }.count();
     match behind(refusal, lines) {
+        Some(Refusal::BadLine(1)) if second.is_empty() && !first.is_empty() => {
+            out.text(NO_CHANGE);
+            Ok(())
+        }
+        Some(Refusal::BadLine(1)) if second.starts_with(b"plan ") => {
+            out.text(HAS_PLAN);
+            Ok(())
+        }
         Some(Refusal::BadLine(1)) if begins_a_ring(second) => {
             out.text(b"refused: behind the ring stands another one, and a change is wanted\n");
             Ok(())
@@ -162,11 +179,45 @@ fn push_by_goal(
     options: &Options,
     refusal: &Refusal,
 ) -> Result<(), Refusal> {
+    if push_few_left(alloc, out, bytes, options)? {
+        return Ok(());
+    }
     match goal_of(alloc, bytes, options) {
         Ok((goal, unread)) => push_no_plan(alloc, out, &goal, unread.as_slice(), options),
         Err(Refusal::OutOfMemory) => Err(Refusal::OutOfMemory),
         Err(_) => push_words_of(alloc, out, bytes, refusal),
     }
+}
+
+// Says that too few members would be left, and whether that is so.
+fn push_few_left(
+    alloc: Global,
+    out: &mut Words,
+    bytes: &[u8],
+    options: &Options,
+) -> Result<bool, Refusal> {
+    if kind_of(bytes) != Kind::Change {
+        return Ok(false);
+    }
+    match wanted_with(alloc, bytes, options) {
+        Ok((wanted, dead)) => push_few(alloc, out, &wanted, dead.as_slice()),
+        Err(refusal) => {
+            unless_memory(refusal)?;
+            Ok(false)
+        }
+    }
+}
+
+// What a change asks for, and the nodes that are named dead.
+fn wanted_with(
+    alloc: Global,
+    bytes: &[u8],
+    options: &Options,
+) -> Result<(Wanted, Vec<NodeId>), Refusal> {
+    let wanted = read_wanted(alloc, bytes)?;
+    let names = dead_by(alloc, options)?;
+    let dead = nodes_of(alloc, &wanted.ring, names.as_slice())?;
+    Ok((wanted, dead))
 }
 
 /// Adds which of the nodes that are named dead leave though the change does not say so.

@@ -17,10 +17,11 @@ use crate::windows::{push_windows_words, windows_bundle};
 use change_text::Options;
 use helpers::Words;
 use plan_around::around_bundle;
-use plan_bundles::led_bundle;
+use plan_bundles::{Kind, front, kind_of, led_bundle};
 use ring_names::Refusal;
 use ringplan_job::{Color, Exit, Making, Statement};
 use ringplan_jobs::{Answer, answer_of};
+use show_why::Page;
 use std::alloc::Global;
 
 /// What is printed on standard output and on standard error, and the exit status.
@@ -153,8 +154,9 @@ pub(crate) fn push_said(
         (_, Refusal::OutOfMemory) => Err(Refusal::OutOfMemory),
         (Making::Cert, _) => push_why_none(alloc, out, bytes, refusal),
         (Making::After, Refusal::WrongStage(step)) => push_open(alloc, out, bytes, *step),
-        (Making::Windows(_), _) => push_windows_words(alloc, out, bytes, options, refusal),
+        (Making::Windows(cut), _) => push_windows_words(alloc, out, bytes, cut, options, refusal),
         (Making::Goal(_), _) => push_goal_words(alloc, out, bytes, options, refusal),
+        (Making::Around(_), Refusal::BadLine(line)) => push_unbegun(alloc, out, bytes, *line),
         // `around_bundle` has said it.
         (Making::Around(_), Refusal::NoPlan) => Ok(()),
         _ => push_words_of(alloc, out, bytes, refusal),
@@ -168,6 +170,31 @@ fn said_before(alloc: Global, making: Making, refusal: &Refusal, notes: Notes) -
         (Making::Around(_), Refusal::NoPlan) => words,
         _ => Words::new(alloc),
     }
+}
+
+// What goes around dead nodes before the first step.
+const GOAL_DEAD: &[u8; 76] =
+    b"  Before the first step `ringplan goal --dead NODE` goes around dead nodes.\n";
+
+// Says why the line of a bundle is refused where a history should go on, and what to do if there is none.
+fn push_unbegun(alloc: Global, out: &mut Words, bytes: &[u8], line: u32) -> Result<(), Refusal> {
+    let is_over = line > Page { bytes }.count();
+    if kind_of(bytes) == Kind::Change {
+        out.text(
+            b"refused: `around` goes on from a plan and its history, and the bundle has a change\n",
+        );
+    } else if is_over && !bytes.is_empty() && front(bytes, 1) == bytes.len() {
+        out.text(
+            b"refused: `around` goes on from a plan and its history, and the bundle has a ring only\n",
+        );
+    } else {
+        push_words_of(alloc, out, bytes, &Refusal::BadLine(line))?;
+        if !is_over || kind_of(bytes) == Kind::History {
+            return Ok(());
+        }
+    }
+    out.text(GOAL_DEAD);
+    Ok(())
 }
 
 // The report of what is made of the bundle, or of why nothing is.

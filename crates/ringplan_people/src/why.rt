@@ -14,11 +14,12 @@ use crate::history_words::{tell_history, unless_memory};
 use crate::painting::painted;
 use crate::study::{Study, studied, study_change};
 use change_text::{Options, Wanted, read_wanted};
-use helpers::Words;
+use helpers::{Words, small};
 use plan_bundles::{Kind, cert_bundle, front, kind_of};
 use plan_cert::Cert;
 use plan_check::{Turned, check};
-use ring_names::Refusal;
+use plan_goal::is_among;
+use ring_names::{NodeId, Refusal};
 use ring_script::Bundle;
 use ringplan_job::Color;
 use ringplan_jobs::{Answer, Kind as Sections, answer_of, check_bundle, read_bundle};
@@ -186,6 +187,29 @@ fn members_left(wanted: &Wanted) -> u32 {
         members = members.saturating_sub(u32::from(wanted.ring.is_member(*node)));
     }
     members
+}
+
+/// Says that too few members would be left that are not dead, and whether that is so.
+pub(crate) fn push_few(
+    alloc: Global,
+    out: &mut Words,
+    wanted: &Wanted,
+    dead: &[NodeId],
+) -> Result<bool, Refusal> {
+    let mut members = members_left(wanted);
+    let leaves = wanted.change.leaves.as_slice();
+    for node in 0..small(wanted.ring.nodes().len()) {
+        let node = NodeId(node);
+        let stays = wanted.ring.is_member(node) && !is_among(leaves, node);
+        members = members.saturating_sub(u32::from(stays && is_among(dead, node)));
+    }
+    if members >= wanted.ring.n() {
+        return Ok(false);
+    }
+    let mut said = Said::new(alloc);
+    tell_few(&mut said, members, wanted.ring.n());
+    said.push(out, Page { bytes: b"" });
+    Ok(true)
 }
 
 // Says why there is no plan for a change.

@@ -8,7 +8,7 @@ ghost use Rattle.plan_bundles.specs.Windows.{AreAskedOf};
 ghost use Rattle.ringplan_people.specs.Studies.{IsStudyOf};
 
 use crate::racks::push_racks;
-use crate::study::studied;
+use crate::study::{Study, studied};
 use crate::why::push_words_of;
 use change_text::Options;
 use helpers::Words;
@@ -43,6 +43,7 @@ pub fn push_windows_words(
     alloc: Global,
     out: &mut Words,
     bytes: &[u8],
+    cut: Cut,
     options: &Options,
     refusal: &Refusal,
 ) -> Result<(), Refusal> {
@@ -51,7 +52,7 @@ pub fn push_windows_words(
             out.text(TOO_MANY);
             Ok(())
         }
-        Refusal::NoPlan => push_no_window(alloc, out, bytes, options),
+        Refusal::NoPlan => push_no_window(alloc, out, bytes, cut, options),
         _ => push_words_of(alloc, out, bytes, refusal),
     }
 }
@@ -61,16 +62,46 @@ fn push_no_window(
     alloc: Global,
     out: &mut Words,
     bytes: &[u8],
+    cut: Cut,
     options: &Options,
 ) -> Result<(), Refusal> {
     match studied(alloc, bytes, options) {
-        Ok(_) => {
-            out.text(
-                b"refused: the plan has no window of that number, or no ring can say what one of its windows leaves\n",
-            );
-            Ok(())
-        }
+        Ok(found) => push_count(alloc, out, &found, cut),
         Err(Refusal::OutOfMemory) => Err(Refusal::OutOfMemory),
         Err(_) => push_words_of(alloc, out, bytes, &Refusal::NoPlan),
     }
+}
+
+// Says how many windows there are, or that no ring can say what one of them leaves.
+fn push_count(alloc: Global, out: &mut Words, found: &Study, cut: Cut) -> Result<(), Refusal> {
+    match cut_plan(alloc, &found.approved, cut.rounds, None) {
+        Ok(text) => {
+            let windows = count_rings(text.as_slice());
+            out.fill(
+                if windows == 1 {
+                    b"refused: there is # window, and none of number #\n"
+                } else {
+                    b"refused: there are # windows, and none of number #\n"
+                },
+                &[],
+                &[windows, cut.only.unwrap_or(0)],
+            );
+        }
+        Err(Refusal::OutOfMemory) => return Err(Refusal::OutOfMemory),
+        Err(_) => out.text(
+            b"refused: the plan has no window of that number, or no ring can say what one of its windows leaves\n",
+        ),
+    }
+    Ok(())
+}
+
+// How many rings begin in the text.
+fn count_rings(text: &[u8]) -> u32 {
+    let mut count = 0u32;
+    for line in text.split(|byte| *byte == b'\n') {
+        if line.starts_with(b"ring ") {
+            count = count.saturating_add(1);
+        }
+    }
+    count
 }

@@ -1,5 +1,5 @@
 -- How a run of the program ends.
-use Rattle.std.specs.Prelude.{◌≡◌, ◌≢◌, ◌⊎◌, ⊤, ℕ, ◌<◌, ◌≤◌, List, [], Option, None, IsSome, MatchOption, is_some, Result, Ok, Err, length, if◌then◌else◌}
+use Rattle.std.specs.Prelude.{◌≡◌, ◌≢◌, ◌⊎◌, ⊤, ℕ, ◌<◌, ◌≤◌, List, [], ◌∷◌, Option, None, IsSome, MatchOption, Result, Ok, Err, length, if◌then◌else◌}
 use Rattle.ring_names.specs.declared.refusal.Refusal.{Refusal}
 use Rattle.ring_names.specs.declared.refusal.Refusal.TheVariants.{TooLarge, OutOfMemory, ReadFailed}
 use Rattle.ring_names.specs.Refusals.{line_of}
@@ -87,16 +87,21 @@ abbrev pub RunsTo : Asked → Option (List ℕ) → List ℕ → Option (List �
 RunsTo asked target bytes old new result = (text : List ℕ) × (status : ℕ) × Says asked bytes text status × Delivers target old new text status result
 
 -- nothing is printed, since a file that is named could not be read
-abbrev pub IsUnopened : Option (List ℕ) → Option (List ℕ) → Option (List ℕ) → ℕ → Type 0
-IsUnopened source old new result = IsSome source × (new ≡ old) × ((result ≡ 2) ⊎ (result ≡ 3))
+abbrev pub IsUnopened : List (List ℕ) → Option (List ℕ) → Option (List ℕ) → ℕ → Type 0
+IsUnopened sources old new result = (sources ≢ []) × (new ≡ old) × ((result ≡ 2) ⊎ (result ≡ 3))
 
--- a run says something and prints it, or writes it to the file that its line names; or it could not read a file
+-- a run says something and prints it, or writes it to the file that its line names; or it could not read one of the files
 abbrev pub Runs : Asked → Names → List ℕ → Option (List ℕ) → Option (List ℕ) → ℕ → Type 0
-Runs asked files bytes old new result = RunsTo asked files.output bytes old new result ⊎ IsUnopened files.input old new result
+Runs asked files bytes old new result = RunsTo asked files.output bytes old new result ⊎ IsUnopened files.inputs old new result
 
--- the bytes that are told of what is read: none are where a file is named
+-- what is told, and nothing if a file is named
+pub told_unless : List (List ℕ) → Option (List ℕ) → Option (List ℕ)
+told_unless [] told = told
+told_unless (name ∷ more) told = None
+
+-- the bytes that are told of what is read: those of the input, and nothing if a file is named
 abbrev pub told_by : Names → Option (List ℕ) → Option (List ℕ)
-told_by files told = if is_some files.input then None else told
+told_by files told = told_unless files.inputs told
 
 -- what was found is printed with its status, or that memory was refused is
 abbrev pub PrintsFound : Option (List ℕ) → Option (List ℕ) → Result (List ℕ) Refusal → ℕ → Type 0

@@ -15,9 +15,10 @@ ghost use Rattle.ringplan_job.specs.declared.making.Making.{Making};
 ghost use Rattle.ringplan_job.specs.declared.job.Job.TheVariants.{Check};
 
 use crate::driving::drive_bundle;
-use crate::files::{Limit, open, save, say};
+use crate::files::{Limit, save, say};
 use crate::layouts::with_layout;
 use crate::parting::print_part;
+use crate::several::open_all;
 use change_text::Options;
 use ring_names::Refusal;
 use ringplan_command::{CommandLine, Files as Named, Form, NO_WORDS, Request, parse};
@@ -48,7 +49,7 @@ const STEPS: u8 = 4;
 /// refused, 3 where memory, an input or an output failed, and 4 for a plan with steps where `goal --exit-code` asks for that. `plan`, `check`, `play`, `drive`,
 /// `replay` and `migrate` print refusals of a bundle on the output, the other commands on standard error. What is wrong with a command line goes to standard error.
 ///
-/// Words for people have colours where the screen has them, or the line says so. Where the line names a file, that is read in place of the input; where it names one with `-o`, what would be printed with status 0 or 4 is written there. It
+/// Words for people have colours where the screen has them, or the line says so. If the line names files, these are read one after the other in place of the input, which `-` names among them; if it names one with `-o`, what would be printed with status 0 or 4 is written there. It
 /// waits for the threads that `drive` and `check --workers` ask for; every other line that names a job is done by `run_alone`.
 pub fn run<
     RT: AllocGlobal + Files + Eprint + Threads + Wait + Sync,
@@ -65,16 +66,16 @@ pub fn run<
 {
     let CommandLine { request, files } = parse(rt.alloc(), words);
     let Named {
-        input: source,
+        inputs,
         output: target,
     } = files;
     let request = request.on(seen_on(screen, &target));
-    match source {
-        None => run_to(rt, request, target, input, output),
-        Some(name) => match open(rt, name.as_str(), limit_of(&request)) {
-            Ok(mut file) => run_to(rt, request, target, &mut file, output),
-            Err(status) => status,
-        },
+    if inputs.is_empty() {
+        return run_to(rt, request, target, input, output);
+    }
+    match open_all(rt, inputs.as_slice(), limit_of(&request), input) {
+        Ok(mut files) => run_to(rt, request, target, &mut files, output),
+        Err(status) => status,
     }
 }
 

@@ -13,7 +13,7 @@ use std::alloc::Global;
 /// How much a history leaves to be moved.
 #[derive(Clone, Copy, Debug)]
 pub struct Left {
-    /// What copies that are not done have to move. Of an open copy the chunks that are copied do not count.
+    /// What copies that are not done have to move. Chunks that are copied do not count.
     pub moved: u64,
     /// The most that such copies have of which each waits for the one before.
     pub longest: u64,
@@ -102,16 +102,13 @@ fn add(words: &mut [u64], place: usize, size: u64) {
     set_word(words, place, sum);
 }
 
-// What is left of a copy of that size: all, nothing if it is done, and of an open one the chunks that are not copied.
+// What is left of a copy of that size: nothing if it is done, and otherwise the chunks that are not copied, also if it was broken off.
 fn rest_of(size: u64, number: u32, progress: Option<&Progress>) -> u64 {
     let Some(progress) = progress else {
         return size;
     };
     if progress.is_done(number) {
         return 0;
-    }
-    if !progress.is_open(number) {
-        return size;
     }
     let chunks = u64::from(16u32.saturating_sub(progress.chunks(number)));
     size.saturating_mul(chunks).saturating_add(15) / 16

@@ -2,8 +2,10 @@
 //! lines that mend it, or a command. Nothing is promised of the words; whether a mend mends, the checker is asked.
 #![tactic(auto)]
 
+mod events;
 mod faults;
 mod fields;
+mod foreign;
 mod forms;
 mod habit;
 mod limits;
