@@ -43,10 +43,10 @@ pub record GoesOn (ring : RingValue) (dead : List NodeId) (writers : List (List 
   pub text : bytes ≡ ring_text ring ++ (plan_text ring plan ++ (cert_text ring cert ++ history_text ring writers history))
 
 -- the store is in a world to which the history leads by the plan
-pub record IsAfter (ring : RingValue) (plan : List Planned) (history : List Entry) (store : Store) : Type 0 where
-  pub ring : ring_of store ≡ ring
-  pub plan : plan_of store ≡ plan
-  pub replays : Replays ring plan store history
+pub record IsAfter (start : RingValue) (steps : List Planned) (history : List Entry) (store : Store) : Type 0 where
+  pub ring : ring_of store ≡ start
+  pub plan : plan_of store ≡ steps
+  pub replays : Replays start steps store history
 
 -- whatever history led to the store, it and this one, which is a run of the new plan, lead to worlds that are alike
 abbrev pub LeadsOn : RingValue → Store → List Planned → List Entry → Type 0
