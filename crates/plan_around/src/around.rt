@@ -187,7 +187,7 @@ fn around_read(
     words: &mut Words,
 ) -> Result<Vec<u8>, Refusal>
     requires { IsReplay read }
-    ensures { IfOk result (λ v. GoesAround asked.detour.extent asked.back read.ring asked.dead.now asked.left.now read.writers read.plan read.history.items v.items
+    ensures { IfOk result (λ v. GoesAround asked.entry.detour.extent asked.entry.back read.ring asked.entry.dead.now asked.entry.left.now read.writers read.plan read.history.items v.items
         × IsHistory read.ring read.plan read.history.items) }
 {
     let ReplayBundle {
