@@ -105,7 +105,7 @@ impl Search<'_> {
             let Some(it) = self.moves.at(next) else {
                 break;
             };
-            if it.mirror >= Some(old) {
+            if it.mirror == Some(old) {
                 break;
             }
             self.leave_out(&it);

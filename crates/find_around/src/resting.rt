@@ -34,38 +34,57 @@ impl Search<'_> {
     fn mark_resting(&mut self) {
         if self.task.extent == Extent::Begun {
             for partition in 0..self.task.ring.q() {
-                put(self.resting.as_mut_slice(), partition, true);
+                self.touch(partition);
             }
         } else if self.reach != Reach::Far {
             self.mark_touched();
         }
     }
 
+    // Marks the partition as one in which no more moves begin.
+    fn touch(&mut self, partition: u32) {
+        put(self.resting.as_mut_slice(), partition, true);
+    }
+
     // Marks the partitions in which a slot is left, or a dead node owns a slot, mirrors one, is to own one or keeps a hint.
     fn mark_touched(&mut self) {
         for slot in self.task.left {
-            put(self.resting.as_mut_slice(), slot.partition, true);
+            self.touch(slot.partition);
         }
+        self.touch_moved();
+        self.touch_hinted();
+        self.touch_owned();
+    }
+
+    // Marks the partitions in which a slot is to go from a dead node, or to one.
+    fn touch_moved(&mut self) {
         for place in 0..self.moves.len() {
             if let Some(it) = self.moves.at(Some(place)) {
-                if !self.has_done(it.switch)
-                    && (self.is_dead(it.source) || self.is_dead(it.target))
-                {
-                    put(self.resting.as_mut_slice(), it.slot.partition, true);
+                let is_dead = self.is_dead(it.source) || self.is_dead(it.target);
+                if is_dead && !self.has_done(it.switch) {
+                    self.touch(it.slot.partition);
                 }
             }
         }
+    }
+
+    // Marks the partitions for whose slots a dead node keeps hints.
+    fn touch_hinted(&mut self) {
         for place in 0..self.hints.all().len() {
             if let Some((slot, node)) = self.hints.all().get(place).copied() {
                 if self.is_dead(node) {
-                    put(self.resting.as_mut_slice(), slot.partition, true);
+                    self.touch(slot.partition);
                 }
             }
         }
+    }
+
+    // Marks the partitions of which a dead node owns a slot.
+    fn touch_owned(&mut self) {
         for partition in 0..self.task.ring.q() {
             for index in 0..self.task.ring.n() {
                 if self.is_dead(self.owner_at(Slot { partition, index }, 0)) {
-                    put(self.resting.as_mut_slice(), partition, true);
+                    self.touch(partition);
                 }
             }
         }

@@ -106,7 +106,7 @@ impl Search<'_> {
         raise(self.owned.as_mut_slice(), node as usize);
     }
 
-    /// Whether the node shall leave: it retires in the plan that was, or it is dead.
+    /// Whether the node is to leave: it retires in the plan that was, or it is dead.
     pub(crate) fn leaves(&self, node: u32) -> bool {
         self.is_dead(node) || self.task.plan.retirement_of(NodeId(node)).is_some()
     }
