@@ -206,11 +206,11 @@ fn slice_of(words: &Option<Vec<u64>>) -> Option<&[u64]> {
 }
 
 // The nodes of a ring alone.
-fn ring_object(
+fn ring_object<'a>(
     alloc: Global,
-    ring: &Ring,
-    racks: Option<&Labels>,
-    facts: &Facts,
+    ring: &'a Ring,
+    racks: Option<&'a Labels>,
+    facts: &'a Facts,
 ) -> Result<Object, Refusal> {
     let present = Present::at_rest(alloc, ring, facts.dead.as_slice())?;
     let stored = stored_by(alloc, &present, facts.sizes())?;
@@ -290,11 +290,11 @@ fn put_volumes(
 }
 
 // Puts the nodes of a ring with a plan.
-fn put_nodes(
+fn put_nodes<'a>(
     object: &mut Object,
     alloc: Global,
-    found: &Study,
-    shown: &Shown,
+    found: &'a Study,
+    shown: &'a Shown,
     volumes: Option<&Volumes>,
     options: &Options,
 ) -> Result<(), Refusal> {

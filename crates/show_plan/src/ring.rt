@@ -259,11 +259,11 @@ pub fn stored_by(
 /// The summary of a ring alone: who is dead, its balance, racks and failures, and a line for each node with its alias and its rack if such are known, whether it is a
 /// member, `in`, or not, `out`, and whether it is `dead`, its slots, how much it stores if partitions have sizes, and how many transfers it bears. Its only refusal is
 /// `OutOfMemory`.
-pub fn ring_summary(
+pub fn ring_summary<'a>(
     alloc: Global,
-    ring: &Ring,
-    racks: Option<&Labels>,
-    facts: &Facts,
+    ring: &'a Ring,
+    racks: Option<&'a Labels>,
+    facts: &'a Facts,
 ) -> Result<Vec<u8>, Refusal> {
     let present = Present::at_rest(alloc, ring, facts.dead.as_slice())?;
     let stored = stored_by(alloc, &present, facts.sizes())?;
