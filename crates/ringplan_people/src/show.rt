@@ -104,9 +104,15 @@ pub(crate) fn racks_at_rest(
     racks_of(alloc, ring, members.as_slice(), options)
 }
 
-/// What the options say of a ring's nodes and partitions. Refused is a name that the ring does not declare, and a partition that it does not have.
-pub(crate) fn facts_of(alloc: Global, ring: &Ring, options: &Options) -> Result<Facts, Refusal> {
+/// What the options say of a ring's nodes and partitions, with these racks. Refused is a name that the ring does not declare, and a partition that it does not have.
+pub(crate) fn facts_of(
+    alloc: Global,
+    ring: &Ring,
+    racks: Option<Labels>,
+    options: &Options,
+) -> Result<Facts, Refusal> {
     Ok(Facts {
+        racks,
         aliases: aliases_of(alloc, ring, &options.layout)?,
         sizes: sizes_by(alloc, ring, options)?,
         dead: dead_of(alloc, ring, options)?,
@@ -118,9 +124,9 @@ fn show_ring(alloc: Global, bytes: &[u8], options: &Options) -> Result<Vec<u8>, 
     ensures shown { OnOk result (IsShown bytes.now) }
 {
     let ring = read_ring(alloc, bytes)?;
-    let racking = racks_at_rest(alloc, &ring, options)?;
-    let facts = facts_of(alloc, &ring, options)?;
-    ring_summary(alloc, &ring, racking.racks.as_ref(), &facts)
+    let Racking { racks, .. } = racks_at_rest(alloc, &ring, options)?;
+    let facts = facts_of(alloc, &ring, racks, options)?;
+    ring_summary(alloc, &ring, &facts)
 }
 
 // The summary of a bundle without colours.

@@ -15,7 +15,7 @@ use crate::study::{Study, studied};
 use crate::why::{Outcome, push_accepted, push_why};
 use change_text::Options;
 use helpers::{Labels, Words, at, small, word};
-use plan_bundles::{ask_layout, front, led_bundle};
+use plan_bundles::{Racking, ask_layout, front, led_bundle};
 use plan_goal::Proposed;
 use ring_names::Refusal;
 use ring_table::{Allowance, Ring, read_ring};
@@ -145,10 +145,9 @@ struct Nodes<'a> {
     alloc: Global,
     ring: &'a Ring,
     present: &'a Present,
-    racks: Option<&'a Labels>,
-    aliases: Option<&'a Labels>,
-    // how much each node stores
-    stored: Option<&'a [u64]>,
+    facts: &'a Facts,
+    // how much each node stores, if that is known
+    stored: &'a Option<Vec<u64>>,
 }
 
 impl<'a> Nodes<'a> {
@@ -157,13 +156,13 @@ impl<'a> Nodes<'a> {
         let present = self.present;
         let mut object = Object::new(self.alloc);
         object.text("name", self.ring.name(node))?;
-        put_label(&mut object, "rack", self.racks, node)?;
-        put_label(&mut object, "alias", self.aliases, node)?;
+        put_label(&mut object, "rack", self.facts.racks.as_ref(), node)?;
+        put_label(&mut object, "alias", self.facts.aliases.as_ref(), node)?;
         object.put("is_member", Value::from(present.is_member(node)))?;
         object.put("is_dead", Value::from(present.is_dead(node)))?;
         object.number("slots", at(present.owned.as_slice(), node as usize))?;
         if let Some(stored) = self.stored {
-            object.long("stored_size", word(stored, node as usize))?;
+            object.long("stored_size", word(stored.as_slice(), node as usize))?;
         }
         put_allowance(&mut object, self.ring, node)?;
         Ok(object)
@@ -197,30 +196,16 @@ fn put_allowance(object: &mut Object, ring: &Ring, node: u32) -> Result<(), Refu
     }
 }
 
-// The words of a list, if there is one.
-fn slice_of(words: &Option<Vec<u64>>) -> Option<&[u64]> {
-    match words {
-        Some(words) => Some(words.as_slice()),
-        None => None,
-    }
-}
-
 // The nodes of a ring alone.
-fn ring_object<'a>(
-    alloc: Global,
-    ring: &'a Ring,
-    racks: Option<&'a Labels>,
-    facts: &'a Facts,
-) -> Result<Object, Refusal> {
+fn ring_object(alloc: Global, ring: &Ring, facts: &Facts) -> Result<Object, Refusal> {
     let present = Present::at_rest(alloc, ring, facts.dead.as_slice())?;
     let stored = stored_by(alloc, &present, facts.sizes())?;
     let stated = Nodes {
         alloc,
         ring,
         present: &present,
-        racks,
-        aliases: facts.aliases.as_ref(),
-        stored: slice_of(&stored),
+        facts,
+        stored: &stored,
     };
     let mut nodes = Vec::new(alloc);
     for node in 0..small(ring.nodes().len()) {
@@ -299,16 +284,15 @@ fn put_nodes<'a>(
     options: &Options,
 ) -> Result<(), Refusal> {
     let ring = found.approved.ring();
-    let racking = racking_of(alloc, &found.approved, options)?;
-    let facts = facts_of(alloc, ring, options)?;
+    let Racking { racks, .. } = racking_of(alloc, &found.approved, options)?;
+    let facts = facts_of(alloc, ring, racks, options)?;
     let stored = stored_by(alloc, &shown.present, facts.sizes())?;
     let stated = Nodes {
         alloc,
         ring,
         present: &shown.present,
-        racks: racking.racks.as_ref(),
-        aliases: facts.aliases.as_ref(),
-        stored: slice_of(&stored),
+        facts: &facts,
+        stored: &stored,
     };
     object.put("nodes", nodes_value(&stated, shown, volumes)?)
 }
@@ -371,9 +355,9 @@ fn state_ring(alloc: Global, bytes: &[u8], options: &Options) -> Result<Answer, 
 
 // The object of a ring alone, by the options.
 fn ring_stated(alloc: Global, ring: &Ring, options: &Options) -> Result<Object, Refusal> {
-    let racking = racks_at_rest(alloc, ring, options)?;
-    let facts = facts_of(alloc, ring, options)?;
-    ring_object(alloc, ring, racking.racks.as_ref(), &facts)
+    let Racking { racks, .. } = racks_at_rest(alloc, ring, options)?;
+    let facts = facts_of(alloc, ring, racks, options)?;
+    ring_object(alloc, ring, &facts)
 }
 
 // A plan that the checker accepted.

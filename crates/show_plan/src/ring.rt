@@ -22,6 +22,7 @@ const INDENT: usize = 12;
 /// What is known of the nodes and partitions of a ring, beside its text.
 #[derive(Drop)]
 pub struct Facts {
+    pub racks: Option<Labels>,
     pub aliases: Option<Labels>,
     /// How much each partition stores.
     pub sizes: Option<Vec<u64>>,
@@ -44,10 +45,9 @@ struct Rest<'a> {
     alloc: Global,
     ring: &'a Ring,
     present: &'a Present,
-    racks: Option<&'a Labels>,
-    aliases: Option<&'a Labels>,
-    // how much each node stores
-    stored: Option<&'a [u64]>,
+    facts: &'a Facts,
+    // how much each node stores, if that is known
+    stored: &'a Option<Vec<u64>>,
 }
 
 // How wide the columns of names, aliases, racks, states and sizes are.
@@ -127,7 +127,7 @@ fn push_whole(rest: &Rest, out: &mut Words, line: &mut Words) -> Result<(), Refu
     }
     tell_balance(rest, line);
     end_line(out, line, INDENT);
-    if let Some(racks) = rest.racks {
+    if let Some(racks) = &rest.facts.racks {
         tell_racks(rest, line, racks);
         end_line(out, line, INDENT);
     }
@@ -171,7 +171,7 @@ impl Widths {
             racks: 4,
             states: 5,
             sizes: match rest.stored {
-                Some(stored) => width_of(stored, 4),
+                Some(stored) => width_of(stored.as_slice(), 4),
                 None => 0,
             },
         };
@@ -179,10 +179,10 @@ impl Widths {
         for node in rest.ring.nodes() {
             widths.names = widths.names.max(node.name.as_slice().len());
             widths.states = widths.states.max(state_of(rest, number).len());
-            if let Some(aliases) = rest.aliases {
+            if let Some(aliases) = &rest.facts.aliases {
                 widths.aliases = widths.aliases.max(aliases.name(number).len());
             }
-            if let Some(racks) = rest.racks {
+            if let Some(racks) = &rest.facts.racks {
                 widths.racks = widths.racks.max(racks.name(number).len());
             }
             number = number.saturating_add(1);
@@ -194,11 +194,11 @@ impl Widths {
     fn push_head(&self, rest: &Rest, out: &mut Words) {
         push_spaces(out, 4);
         push_left(out, b"node", self.names);
-        if rest.aliases.is_some() {
+        if rest.facts.aliases.is_some() {
             push_spaces(out, 2);
             push_left(out, b"alias", self.aliases);
         }
-        if rest.racks.is_some() {
+        if rest.facts.racks.is_some() {
             push_spaces(out, 2);
             push_left(out, b"rack", self.racks);
         }
@@ -217,11 +217,11 @@ impl Widths {
         let (node, number) = row;
         push_spaces(out, 4);
         push_left(out, node.name.as_slice(), self.names);
-        if let Some(aliases) = rest.aliases {
+        if let Some(aliases) = &rest.facts.aliases {
             push_spaces(out, 2);
             push_left(out, aliases.name(number), self.aliases);
         }
-        if let Some(racks) = rest.racks {
+        if let Some(racks) = &rest.facts.racks {
             push_spaces(out, 2);
             push_left(out, racks.name(number), self.racks);
         }
@@ -232,7 +232,7 @@ impl Widths {
         push_number_right(out, slots, 5);
         if let Some(stored) = rest.stored {
             push_spaces(out, 2);
-            push_long_right(out, word(stored, number as usize), self.sizes);
+            push_long_right(out, word(stored.as_slice(), number as usize), self.sizes);
         }
         push_spaces(out, 2);
         push_bears(out, node.allowance);
@@ -259,24 +259,15 @@ pub fn stored_by(
 /// The summary of a ring alone: who is dead, its balance, racks and failures, and a line for each node with its alias and its rack if such are known, whether it is a
 /// member, `in`, or not, `out`, and whether it is `dead`, its slots, how much it stores if partitions have sizes, and how many transfers it bears. Its only refusal is
 /// `OutOfMemory`.
-pub fn ring_summary<'a>(
-    alloc: Global,
-    ring: &'a Ring,
-    racks: Option<&'a Labels>,
-    facts: &'a Facts,
-) -> Result<Vec<u8>, Refusal> {
+pub fn ring_summary(alloc: Global, ring: &Ring, facts: &Facts) -> Result<Vec<u8>, Refusal> {
     let present = Present::at_rest(alloc, ring, facts.dead.as_slice())?;
     let stored = stored_by(alloc, &present, facts.sizes())?;
     let rest = Rest {
         alloc,
         ring,
         present: &present,
-        racks,
-        aliases: facts.aliases.as_ref(),
-        stored: match &stored {
-            Some(stored) => Some(stored.as_slice()),
-            None => None,
-        },
+        facts,
+        stored: &stored,
     };
     let mut out = Words::new(alloc);
     let mut line = Words::new(alloc);
