@@ -32,11 +32,21 @@ same_bit m n i a b x y e la lb f g =
     let second : (bit_at n i == 1) ≡ y = g ∙ ap (λ (t : Bool). t && y) (lt-ltb i b lb) in
     sym second ∙ sym (ap (λ (k : ℕ). bit_at k i == 1) e) ∙ first
 
+-- nothing is something
+pub not_some : {A : Type 0} (o : Option A) (x : A) → None ≡ o → o ≡ Some x → ⊥
+not_some o x e f = let h : ◌≡◌ {A = Option _} None (Some x) = e ∙ f in cc
+
+-- something is one thing
+pub same_some : {A : Type 0} (x y : A) → ◌≡◌ {A = Option A} (Some x) (Some y) → x ≡ y
+same_some x y e = cc
+
+-- a test has one answer
+pub not_both : (b : Bool) → b ≡ true → b ≡ false → ⊥
+not_both b e f = let h : true ≡ false = sym e ∙ f in cc
+
 -- the mirror that is found
-pub mirror_is : (found : Option (NodeId × Option NodeId)) (o x owner : NodeId) (mirror : Option NodeId) → found ≡ Some (o, Some x) → found ≡ Some (owner, mirror) → mirror ≡ Some x
-mirror_is found o x owner mirror e f =
-    let g : ◌≡◌ {A = Option (NodeId × Option NodeId)} (Some (owner, mirror)) (Some (o, Some x)) = sym f ∙ e in
-    second (owner, mirror) (o, Some x) g
+pub mirror_is : (found : Option (NodeId × Option NodeId)) (owner : NodeId) (mirror : Option NodeId) (now : NodeId × Option NodeId) → found ≡ Some (owner, mirror) → found ≡ Some now → mirror ≡ now.1
+mirror_is found owner mirror now e f = second (owner, mirror) now (sym e ∙ f)
   where
     second : (y z : NodeId × Option NodeId) → ◌≡◌ {A = Option (NodeId × Option NodeId)} (Some y) (Some z) → y.1 ≡ z.1
     second y z h = (let k : y ≡ z = cc in ap (λ (v : NodeId × Option NodeId). v.1) k)

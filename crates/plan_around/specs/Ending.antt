@@ -2,6 +2,7 @@
 use Rattle.std.specs.Prelude.{◌≡◌, ◌⊎◌, ℕ, Bool, true, List}
 use Rattle.ring_names.specs.Lists.{has}
 use Rattle.ring_names.specs.declared.ids.NodeId.{NodeId}
+use Rattle.ring_names.specs.declared.ids.Slot.{Slot}
 use Rattle.plan_text.specs.Changes.{numbers}
 use Rattle.plan_text.specs.declared.step.Step.{Step}
 use Rattle.plan_text.specs.declared.step.Step.TheVariants.{Mirror}
@@ -26,6 +27,10 @@ HintsIn store dead marks = (p : ℕ) → is_flagged marks p ≡ true → KeepsIn
 -- the step mirrors a slot of the partition at one of these nodes
 abbrev pub MirrorsIn : Step → List NodeId → ℕ → Type 0
 MirrorsIn step dead p = (i : ℕ) × (x : NodeId) × (step ≡ Mirror (slot_at p i) x) × (has x.0 (numbers dead) ≡ true)
+
+-- the step mirrors a slot at that node
+abbrev pub MirrorsAt : Step → ℕ → Type 0
+MirrorsAt step x = (s : Slot) × (y : NodeId) × (step ≡ Mirror s y) × (y.0 ≡ x)
 
 -- in each world that the store may be in, each node that is marked may hold something once the new plan is done
 abbrev pub HoldsIn : Endings → List Bool → Type 0

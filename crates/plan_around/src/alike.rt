@@ -7,6 +7,7 @@ ghost use Rattle.ring_core.specs.World.{ring_of, plan_of, put_count, Meets};
 ghost use Rattle.plan_around.specs.Alike.{last_step, AreAlike, HeldAlike, InBoth, MirroredAlike, OwnerAlike, PutAlike, StoredAlike};
 
 use crate::over::is_step_done;
+use crate::storing::mirror_of;
 use plan_text::Plan;
 use ring_core::World;
 use ring_names::{NodeId, Slot};
@@ -71,10 +72,17 @@ fn is_last_done(store: &World, plan: &Plan, slot: Slot) -> bool
     ensures { IsTrue result → (u : TheWorld) → Meets store.now u → (n : ℕ) → last_step plan.now slot ≡ Some n → u.done n ≡ true }
 {
     let steps = plan.slot_steps(slot);
-    let Some(number) = steps.last() else {
-        return true;
-    };
-    is_step_done(store, plan, *number)
+    match steps.last() {
+        Some(number) => is_step_done(store, plan, *number),
+        None => true,
+    }
+}
+
+// Whether both hold or neither.
+fn is_same(one: bool, other: bool) -> bool
+    ensures { IsTrue result → one ≡ other }
+{
+    if one { other } else { !other }
 }
 
 // Whether the node stores the put in both or in neither, if it mirrors the slot of that index in the first.
@@ -85,12 +93,17 @@ fn is_stored_alike(a: &World, b: &World, node: NodeId, put: u32, index: u32) -> 
     ensures { IsTrue result → InBoth a.now b.now (λ r old w s new u. StoredAlike r old w s u put index node) }
 {
     let slot = a.put_slot(put, index);
-    let Some((_, Some(mirror))) = a.nodes_of(slot) else {
-        return false;
-    };
-    let mine = a.is_stored(node, put, index);
-    let theirs = b.is_stored(node, put, index);
-    mirror.0 == node.0 && mine == theirs
+    match mirror_of(a, slot) {
+        Some(mirror) => {
+            if mirror.0 != node.0 {
+                return false;
+            }
+            let mine = a.is_stored(node, put, index);
+            let theirs = b.is_stored(node, put, index);
+            is_same(mine, theirs)
+        }
+        None => false,
+    }
 }
 
 // Whether the mirror of the slot of that index of the put's partition stores the put in both or in neither, if the slot is mirrored in the second and its last step is to come.
@@ -103,10 +116,15 @@ fn is_mirrored_alike(a: &World, b: &World, plan: &Plan, put: u32, index: u32) ->
     ensures { IsTrue result → InBoth a.now b.now (λ r old w s new u. MirroredAlike r old w s new u put index) }
 {
     let slot = b.put_slot(put, index);
-    let Some((_, Some(node))) = b.nodes_of(slot) else {
-        return true;
-    };
-    is_last_done(b, plan, slot) || is_stored_alike(a, b, node, put, index)
+    match mirror_of(b, slot) {
+        Some(node) => {
+            if is_last_done(b, plan, slot) {
+                return true;
+            }
+            is_stored_alike(a, b, node, put, index)
+        }
+        None => true,
+    }
 }
 
 // Whether the slots of the put's partition are alike in both, as far as the put is concerned.
@@ -154,5 +172,11 @@ pub(crate) fn are_alike(ring: &Ring, plan: &Plan, a: &World, b: &World) -> bool
     requires plan { plan_of b.now ≡ plan.now }
     ensures { IsTrue result → InBoth a.now b.now AreAlike }
 {
-    a.puts() == b.puts() && are_owners_alike(ring, a, b) && are_puts_alike(ring, plan, a, b)
+    if a.puts() != b.puts() {
+        return false;
+    }
+    if !are_owners_alike(ring, a, b) {
+        return false;
+    }
+    are_puts_alike(ring, plan, a, b)
 }

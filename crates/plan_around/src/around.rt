@@ -251,9 +251,10 @@ pub fn around_bundle(
     let nodes = nodes_of(alloc, &read.ring, names.as_slice())?;
     let members = members_by(alloc, &read.ring, &read.plan)?;
     let racking = racks_of(alloc, &read.ring, members.as_slice(), options)?;
+    let racks = racking.racks.as_ref();
     let asked = Asked {
         dead: nodes.as_slice(),
-        racks: racking.racks.as_ref(),
+        racks,
         left: options.left.as_slice(),
         detour,
         back: back_with(options.left.as_slice(), detour.back),

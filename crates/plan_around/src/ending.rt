@@ -12,7 +12,7 @@ ghost use Rattle.plan_moves.specs.Owners.{IsPast};
 ghost use Rattle.plan_bundles.specs.Sized.{is_flagged, row_at};
 ghost use Rattle.ring_core.specs.World.{ring_of, plan_of, Meets};
 ghost use Rattle.plan_around.specs.Ends.{EndsWell, IsExcused, IsTouched, ShouldOwn};
-ghost use Rattle.plan_around.specs.Ending.{AreEnds, HintsIn, HoldsIn, MirrorsIn, NodeEnds, SlotEnds};
+ghost use Rattle.plan_around.specs.Ending.{AreEnds, HintsIn, HoldsIn, MirrorsAt, MirrorsIn, NodeEnds, SlotEnds};
 
 use plan_bundles::{is_flagged, row_at};
 use plan_cover::Present;
@@ -49,6 +49,16 @@ fn mark(marks: &mut Vec<bool>, place: u32)
     }
 }
 
+// Marks the place if the node is dead.
+fn mark_if_dead(marks: &mut Vec<bool>, dead: &Dead, node: NodeId, place: u32)
+    ensures { (p : ℕ) → is_flagged marks.new.items p ≡ true
+        → ((p ≡ place) × (has node.0 (numbers dead.now.nodes.now) ≡ true)) ⊎ (is_flagged marks.old.items p ≡ true) }
+{
+    if dead.has(node) {
+        mark(marks, place);
+    }
+}
+
 // Marks the partitions for which dead nodes keep hints.
 fn hinted(alloc: Global, it: &Endings, dead: &Dead) -> Result<Vec<bool>, Refusal>
     ensures { IfOk result (λ marks. HintsIn it.now.before.now dead.now.nodes.now marks.items) }
@@ -58,9 +68,7 @@ fn hinted(alloc: Global, it: &Endings, dead: &Dead) -> Result<Vec<bool>, Refusal
         let Some((node, slot)) = it.before.hint_at(number) else {
             break;
         };
-        if dead.has(node) {
-            mark(&mut marks, slot.partition);
-        }
+        mark_if_dead(&mut marks, dead, node, slot.partition);
     }
     Ok(marks)
 }
@@ -84,12 +92,22 @@ fn is_mirror_at_dead(step: &Step, dead: &Dead, partition: u32) -> bool
     }
 }
 
+// Whether the step of that number mirrors a slot of the partition at a dead node.
+fn is_dead_target(plan: &Plan, dead: &Dead, number: u32, partition: u32) -> bool
+    ensures { IsTrue result → (ring : RingValue) (w : TheWorld) → IsTouched ring plan.now w dead.now.nodes.now partition }
+{
+    if number >= plan.len() {
+        return false;
+    }
+    is_mirror_at_dead(plan.step(number), dead, partition)
+}
+
 // Whether the plan mirrors the slot at a dead node.
 fn has_dead_target(plan: &Plan, dead: &Dead, slot: Slot) -> bool
     ensures { IsTrue result → (ring : RingValue) (w : TheWorld) → IsTouched ring plan.now w dead.now.nodes.now slot.partition }
 {
     for number in plan.slot_steps(slot) {
-        if *number < plan.len() && is_mirror_at_dead(plan.step(*number), dead, slot.partition) {
+        if is_dead_target(plan, dead, *number, slot.partition) {
             return true;
         }
     }
@@ -122,10 +140,16 @@ fn is_excused(it: &Endings, dead: &Dead, hinted: &[bool], partition: u32) -> boo
     ensures { IsTrue result → (w : TheWorld) → Meets it.now.before.now w
         → IsExcused it.now.ring.now it.now.old.now w dead.now.nodes.now it.now.left.now partition }
 {
-    has_dead_owner(it.ring, dead, partition)
-        || is_flagged(hinted, partition as usize)
-        || has_dead_targets(it, dead, partition)
-        || is_left(it.left, partition)
+    if has_dead_owner(it.ring, dead, partition) {
+        return true;
+    }
+    if is_flagged(hinted, partition as usize) {
+        return true;
+    }
+    if has_dead_targets(it, dead, partition) {
+        return true;
+    }
+    is_left(it.left, partition)
 }
 
 // Whether the node mirrors the slot now, or owns it and may stay its owner.
@@ -225,15 +249,23 @@ fn mark_owners(it: &Endings, ended: &Ended, partition: u32, marks: &mut Vec<bool
     }
 }
 
+// Marks the node at which the step mirrors a slot.
+fn mark_target(marks: &mut Vec<bool>, step: &Step)
+    ensures { (x : ℕ) → is_flagged marks.new.items x ≡ true → MirrorsAt step.now x ⊎ (is_flagged marks.old.items x ≡ true) }
+{
+    match step {
+        Step::Mirror(_, node) => mark(marks, node.0),
+        _ => {}
+    }
+}
+
 // Marks the nodes at which the new plan mirrors slots.
 fn mark_targets(it: &Endings, marks: &mut Vec<bool>)
     requires { HoldsIn it.now marks.old.items }
     ensures { HoldsIn it.now marks.new.items }
 {
     for number in 0..it.new.len() {
-        if let Step::Mirror(_, node) = it.new.step(number) {
-            mark(marks, node.0);
-        }
+        mark_target(marks, it.new.step(number));
     }
 }
 
@@ -278,10 +310,16 @@ fn node_ends(it: &Endings, ended: &Ended, holders: &[bool], node: NodeId) -> boo
     requires holders { HoldsIn it.now holders.now }
     ensures { IsTrue result → NodeEnds it.now node.0 }
 {
-    is_member_after(it.ring, it.new, node) == is_member_after(it.ring, it.old, node)
-        || it.extent == Extent::Begun
-        || ended.dead.has(node)
-        || is_flagged(holders, node.0 as usize)
+    if is_member_after(it.ring, it.new, node) == is_member_after(it.ring, it.old, node) {
+        return true;
+    }
+    if it.extent == Extent::Begun {
+        return true;
+    }
+    if ended.dead.has(node) {
+        return true;
+    }
+    is_flagged(holders, node.0 as usize)
 }
 
 // Whether all nodes do.
@@ -318,5 +356,8 @@ pub(crate) fn ends_well(alloc: Global, it: &Endings) -> Result<bool, Refusal>
         hinted,
     };
     let holders = holders(alloc, it, &ended)?;
-    Ok(slots_end(it, &ended) && nodes_end(it, &ended, holders.as_slice()))
+    if !slots_end(it, &ended) {
+        return Ok(false);
+    }
+    Ok(nodes_end(it, &ended, holders.as_slice()))
 }

@@ -1,5 +1,10 @@
 //! What is asked of a store in the middle of a history.
 
+ghost use Rattle.std.specs.Prelude.{◌≡◌, true};
+ghost use Rattle.plan_text.specs.Valid.{is_ring_slot};
+ghost use Rattle.plan_runs.specs.World.{World as TheWorld, stage_now};
+ghost use Rattle.ring_core.specs.World.{ring_of, plan_of, Meets};
+
 use plan_runs::{Event, Reply};
 use ring_core::World;
 use ring_names::{NodeId, Refusal, Slot};
@@ -21,6 +26,17 @@ pub(crate) fn mirrored_slot(store: &World, slot: Slot) -> Option<Mirrored> {
             mirror,
         }),
         _ => None,
+    }
+}
+
+/// The slot's mirror now, if it has one.
+pub(crate) fn mirror_of(store: &World, slot: Slot) -> Option<NodeId>
+    ensures { (w : TheWorld) → Meets store.now w → is_ring_slot (ring_of store.now) slot ≡ true
+        → result ≡ (stage_now (ring_of store.now) (plan_of store.now) w slot).mirror }
+{
+    match store.nodes_of(slot) {
+        Some((_, mirror)) => mirror,
+        None => None,
     }
 }
 

@@ -21,10 +21,10 @@ use Rattle.plan_around.proofs.Again.{four}
 use Rattle.plan_around.proofs.going.go_on.Goals as goal
 
 pub ask_ends-requires-clause-same : goal.ask_ends-requires-clause-same
-ask_ends-requires-clause-same c = c.in_ok-approved.ensures.same.0 ∙ c.in_ok-ring.ensures.ok
+ask_ends-requires-clause-same c = c.in_ok-approved.ensures.same.0 ∙ (c.in_ok-ring.ensures.ok ∙ c.ring.ensures.value)
 
 pub history_on-requires : goal.history_on-requires
-history_on-requires c = c.requires.ring ∙ sym (c.in_ok-approved.ensures.same.0 ∙ c.in_ok-ring.ensures.ok)
+history_on-requires c = c.requires.ring ∙ sym (c.in_ok-approved.ensures.same.0 ∙ (c.in_ok-ring.ensures.ok ∙ c.ring.ensures.value))
 
 pub returns : goal.returns
 returns c =
@@ -33,18 +33,19 @@ returns c =
     let ring = it.old.now.ring in
     let before = c.args.before.now in
     let approved = c.in_ok-approved.approved in
-    let same = (c.in_ok-approved.ensures.same.0 ∙ c.in_ok-ring.ensures.ok, c.in_ok-approved.ensures.same.1) in
+    let of-ring = c.in_ok-approved.ensures.same.0 ∙ (c.in_ok-ring.ensures.ok ∙ c.ring.ensures.value) in
+    let of-plan = c.in_ok-approved.ensures.same.1 in
     let entries = c.as_slice.result.now in
     let past = subst (λ (h : List Entry). IsSamePast it.back it.old.now.plan plan it.history.now h) (sym c.as_slice.ensures.value)
-    (subst (λ (p : List Planned). IsSamePast it.back it.old.now.plan p it.history.now c.in_ok-entries.entries.items) same.1 c.in_ok-entries.ensures) in
-    let run = subst (λ (r : RingValue). RunsApart r plan it.dead.now entries) same.0 (subst (λ (p : List Planned). RunsApart approved.ring p it.dead.now entries) same.1 c.in_ok-history.ensures.run) in
+    (subst (λ (p : List Planned). IsSamePast it.back it.old.now.plan p it.history.now c.in_ok-entries.entries.items) of-plan c.in_ok-entries.ensures) in
+    let run = subst (λ (r : RingValue). RunsApart r plan it.dead.now entries) of-ring (subst (λ (p : List Planned). RunsApart approved.ring p it.dead.now entries) of-plan c.in_ok-history.ensures.run) in
     let first = subst (λ (p : List Planned). Replays ring p before it.history.now) (sym c.requires.plan) c.requires.replays in
-    let on = subst (λ (r : RingValue). LeadsOn r before plan entries) same.0 (subst (λ (p : List Planned). LeadsOn approved.ring before p entries) same.1 c.in_ok-history.ensures.alike) in
-    let well = subst (λ (p : List Planned). (w : TheWorld) → Meets before w → EndsWell it.extent it.back ring it.old.now.plan w p it.dead.now it.left.now) same.1 c.in_ok-ask_ends.ensures in
-    let more = c.as_slice-2.ensures.value ∙ c.in_ok-history.ensures.text ∙ ap (λ (r : RingValue). history_text r it.writers.now entries) same.0 in
-    let certified = subst (λ (r : RingValue). IsCertified r plan it.cert.now) c.in_ok-ring.ensures.ok c.in_ok-approved.ensures.certified in
-    let keeps = subst (λ (r : RingValue). KeepsPromises r plan) c.in_ok-ring.ensures.ok c.in_ok-approved.ensures.keeps in
-    let front = c.in_ok-text.ensures.text ∙ ap (λ (r : RingValue). ring_text r ++ (plan_text r plan ++ cert_text r it.cert.now)) c.in_ok-ring.ensures.ok in
+    let on = subst (λ (r : RingValue). LeadsOn r before plan entries) of-ring (subst (λ (p : List Planned). LeadsOn approved.ring before p entries) of-plan c.in_ok-history.ensures.alike) in
+    let well = subst (λ (p : List Planned). (w : TheWorld) → Meets before w → EndsWell it.extent it.back ring it.old.now.plan w p it.dead.now it.left.now) of-plan c.in_ok-ask_ends.ensures in
+    let more = c.as_slice-2.ensures.value ∙ c.in_ok-history.ensures.text ∙ ap (λ (r : RingValue). history_text r it.writers.now entries) of-ring in
+    let certified = subst (λ (r : RingValue). IsCertified r plan it.cert.now) (c.in_ok-ring.ensures.ok ∙ c.ring.ensures.value) c.in_ok-approved.ensures.certified in
+    let keeps = subst (λ (r : RingValue). KeepsPromises r plan) (c.in_ok-ring.ensures.ok ∙ c.ring.ensures.value) c.in_ok-approved.ensures.keeps in
+    let front = c.in_ok-text.ensures.text ∙ ap (λ (r : RingValue). ring_text r ++ (plan_text r plan ++ cert_text r it.cert.now)) (c.in_ok-ring.ensures.ok ∙ c.ring.ensures.value) in
     IfOk-weaker c.followed.result _ _
     (λ v is. record {
       plan = plan;
