@@ -12,7 +12,7 @@ use find_around::{Around, Reach, Task, find_around, find_unmoved};
 use find_chains::certificate;
 use helpers::{Labels, Words};
 use history_text::{ReplayBundle, read_replay};
-use plan_bundles::{ask_layout, dead_by, members_by, nodes_of, racks_of};
+use plan_bundles::{Racking, ask_layout, dead_by, members_by, nodes_of, racks_of};
 use plan_cert::Cert;
 use plan_check::Approved;
 use plan_runs::{Back, Entry};
@@ -228,6 +228,29 @@ fn back_with(left: &[Slot], back: Back) -> Back
     if left.is_empty() { back } else { Back::Allowed }
 }
 
+// What the options and the detour ask for, around these nodes and by these racks.
+fn asked_for<'a>(
+    dead: &'a [NodeId],
+    racking: &'a Racking,
+    options: &'a Options,
+    detour: Detour,
+) -> Asked<'a>
+    ensures dead { result.dead.now ≡ dead.now }
+    ensures left { result.left.now ≡ options.now.left.items }
+    ensures extent { result.detour.extent ≡ detour.extent }
+    ensures back { result.back ≡ back_with options.now.left.items detour.back }
+{
+    let racks = racking.racks.as_ref();
+    let left = options.left.as_slice();
+    Asked {
+        dead,
+        racks,
+        left,
+        detour,
+        back: back_with(left, detour.back),
+    }
+}
+
 /// Makes the bundle that goes on where one stopped, around the nodes that are dead by the options: its ring, another plan, a certificate, and the history by that plan. An
 /// executor goes on with it: what it holds of a step it finds by the step's kind, partition, slot and node. Slots that the options name stay with their owners; a mirror of
 /// such a slot is taken back in any case. Adds line by line to `words` what becomes of slots and nodes that do not go where they were to go, or at `NoPlan` why.
@@ -251,14 +274,7 @@ pub fn around_bundle(
     let nodes = nodes_of(alloc, &read.ring, names.as_slice())?;
     let members = members_by(alloc, &read.ring, &read.plan)?;
     let racking = racks_of(alloc, &read.ring, members.as_slice(), options)?;
-    let racks = racking.racks.as_ref();
-    let asked = Asked {
-        dead: nodes.as_slice(),
-        racks,
-        left: options.left.as_slice(),
-        detour,
-        back: back_with(options.left.as_slice(), detour.back),
-    };
+    let asked = asked_for(nodes.as_slice(), &racking, options, detour);
     racking.push(words);
     around_read(alloc, read, asked, words)
 }
