@@ -19,8 +19,12 @@ pub(crate) struct Several<'a, F, R> {
 }
 
 impl<'a, F: Read + Drop, R: Read + Drop> Several<'a, F, R> {
+    ghost use Rattle.std.specs.Io.{ReadsAtMost};
+
     // Reads from the part of that place.
-    fn read_part(&mut self, place: usize, buf: &mut [u8]) -> io::Result<usize> {
+    fn read_part(&mut self, place: usize, buf: &mut [u8]) -> io::Result<usize>
+        ensures { ReadsAtMost result buf.new }
+    {
         match self.parts.get_mut(place) {
             Some(Some(file)) => file.read(buf),
             _ => self.input.read(buf),
