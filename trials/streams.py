@@ -549,8 +549,8 @@ def first():
     owes("a quorum of five over rows of three", (lines, mend, 0), [3], text, 0)
     wide = text.replace(b"quorum 3 2 2", b"quorum 5 3 4")
     owes("another quorum of five", (*faulty_lines(["why"], wide), 0), [3], text, 0)
-    high = text.replace(b"quorum 3 2 2", b"quorum 4 1 3")
-    owes("a quorum of four that also serves three", (*faulty_lines(["why"], high), 0), [3], text.replace(b"quorum 3 2 2", b"quorum 3 1 3"), 0)
+    high = text.replace(b"quorum 3 2 2", b"quorum 4 2 3")
+    owes("a quorum of four that also serves three", (*faulty_lines(["why"], high), 0), [3], text.replace(b"quorum 3 2 2", b"quorum 3 2 3"), 0)
     rows = [line for line in text.split(b"\n") if line.startswith(b"slots ")]
     twice = text.replace(rows[1], rows[1] + b"\n" + rows[1])
     place = twice.split(b"\n").index(rows[1]) + 2
