@@ -1,6 +1,6 @@
 //! The racks that are known, and what of the options does not fit a bundle, in words.
 
-use change_text::{Options, Wanted, read_wanted};
+use change_text::{Options, read_wanted};
 use helpers::Words;
 use layout_text::{Entry, Fact};
 use plan_bundles::{
@@ -85,9 +85,13 @@ fn push_unracked(
     options: &Options,
 ) -> Result<bool, Refusal> {
     let members = match read_wanted(alloc, bytes) {
-        Ok(Wanted { ring: _, change }) => members_with(alloc, ring, change.joins.as_slice())?,
-        Err(Refusal::OutOfMemory) => return Err(Refusal::OutOfMemory),
-        Err(_) => members_with(alloc, ring, &[])?,
+        Ok(wanted) => members_with(alloc, ring, wanted.change.joins.as_slice())?,
+        Err(refusal) => {
+            if let Refusal::OutOfMemory = refusal {
+                return Err(refusal);
+            }
+            members_with(alloc, ring, &[])?
+        }
     };
     let Some(node) = unracked(alloc, ring, members.as_slice(), options)? else {
         return Ok(false);

@@ -150,15 +150,42 @@ pub(crate) fn push_said(
     if is_of_options(refusal) && push_misfits(alloc, out, bytes, options)? {
         return Ok(());
     }
-    match (making, refusal) {
-        (_, Refusal::OutOfMemory) => Err(Refusal::OutOfMemory),
-        (Making::Cert, _) => push_why_none(alloc, out, bytes, refusal),
-        (Making::After, Refusal::WrongStage(step)) => push_open(alloc, out, bytes, *step),
-        (Making::Windows(cut), _) => push_windows_words(alloc, out, bytes, cut, options, refusal),
-        (Making::Goal(_), _) => push_goal_words(alloc, out, bytes, options, refusal),
-        (Making::Around(_), Refusal::BadLine(line)) => push_unbegun(alloc, out, bytes, *line),
-        // `around_bundle` has said it.
-        (Making::Around(_), Refusal::NoPlan) => Ok(()),
+    if let Refusal::OutOfMemory = refusal {
+        return Err(Refusal::OutOfMemory);
+    }
+    match making {
+        Making::Cert => push_why_none(alloc, out, bytes, refusal),
+        Making::After => push_unmade(alloc, out, bytes, refusal),
+        Making::Windows(cut) => push_windows_words(alloc, out, bytes, cut, options, refusal),
+        Making::Goal(_) => push_goal_words(alloc, out, bytes, options, refusal),
+        Making::Around(_) => push_unturned(alloc, out, bytes, refusal),
+        _ => push_words_of(alloc, out, bytes, refusal),
+    }
+}
+
+// Says why `after` has no ring.
+fn push_unmade(
+    alloc: Global,
+    out: &mut Words,
+    bytes: &[u8],
+    refusal: &Refusal,
+) -> Result<(), Refusal> {
+    match refusal {
+        Refusal::WrongStage(step) => push_open(alloc, out, bytes, *step),
+        _ => push_words_of(alloc, out, bytes, refusal),
+    }
+}
+
+// Says why `around` has no other plan, if `around_bundle` has not said it.
+fn push_unturned(
+    alloc: Global,
+    out: &mut Words,
+    bytes: &[u8],
+    refusal: &Refusal,
+) -> Result<(), Refusal> {
+    match refusal {
+        Refusal::BadLine(line) => push_unbegun(alloc, out, bytes, *line),
+        Refusal::NoPlan => Ok(()),
         _ => push_words_of(alloc, out, bytes, refusal),
     }
 }

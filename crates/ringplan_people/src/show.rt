@@ -201,12 +201,17 @@ fn show_plan(
     let found = studied(alloc, bytes, options)?;
     let racks = racks_shown(alloc, bytes, &found, options, words)?;
     let shown = shown_by(alloc, &found, options)?;
-    let run = shown.progress.as_ref();
-    let volumes = volumes_of(alloc, &found, &shown.scene, run, options)?;
+    let volumes = volumes_of(
+        alloc,
+        &found,
+        &shown.scene,
+        shown.progress.as_ref(),
+        options,
+    )?;
     let sized = sized(volumes.as_ref(), wish.rate);
     let (ring, plan) = (found.approved.ring(), found.approved.plan());
     let (scene, present) = (&shown.scene, &shown.present);
-    let (progress, racks) = (run, racks.as_ref());
+    let (progress, racks) = (shown.progress.as_ref(), racks.as_ref());
     let shape = shape_of(wish.shape);
     let view = View {
         alloc,
@@ -241,16 +246,16 @@ pub fn draw_bundle(
         progress,
         present,
     } = shown_by(alloc, &found, options)?;
-    let run = progress.as_ref();
-    let volumes = volumes_of(alloc, &found, &scene, run, options)?;
+    let moved = volumes_of(alloc, &found, &scene, progress.as_ref(), options)?;
+    let (progress, volumes) = (progress.as_ref(), moved.as_ref());
     let sheet = Sheet {
         alloc,
         ring: found.approved.ring(),
         plan: found.approved.plan(),
         scene: &scene,
         present: &present,
-        progress: run,
-        volumes: volumes.as_ref(),
+        progress,
+        volumes,
     };
     drawn(&sheet, kind, racks.as_ref())
 }
