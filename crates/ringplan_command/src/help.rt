@@ -111,7 +111,7 @@ pub(crate) const RATE: &str =
     "Says when the plan can end at the earliest, if one transfer copies N of a size in a second, 1 to 4294967295; wants --layout";
 
 pub(crate) const DEAD: &str =
-    "A node that is dead for good: it leaves, its slots are read from others, and it does not join, drop or retire; write a name that begins with - as --dead=-NAME";
+    "A node that is dead for good: a plan that is made asks nothing of it and lets it leave, and what is shown counts it as dead; write a name that begins with - as --dead=-NAME";
 
 pub(crate) const GONE: &str =
     "A node that is dead from here on: no step that is to come asks anything of it; write a name that begins with - as --dead=-NAME";
@@ -327,8 +327,9 @@ pub(crate) const CERT_STREAMS: &str = "\
 Example: ringplan cert examples/no_certificate.bundle -o certified.bundle
 
 Input: a bundle: a ring with a change, or with a plan. What follows the plan, as a certificate, is not read.
-Standard output: the texts of the ring, the plan and a certificate for it, which `ringplan check` accepts. Standard error: else what `why` prints of
-the bundle with the best certificate that was found. Chains are as few as the plan's order allows: where a node has too many, no certificate exists.
+Standard output: the texts of the ring, the plan and a certificate for it, which `ringplan check` accepts. If none is printed, standard error has what
+`why` prints of the bundle with the best certificate that was found. Chains are as few as the plan's order allows: where a node has too many, no
+certificate exists.
 
 Exit status: 0 printed, 1 no plan or one that is refused, 2 a text or the command line is refused, 3 memory, input or output";
 
@@ -383,8 +384,8 @@ Input: the text of a ring, and then that of the goal ring, with the same nodes, 
 is made: no slot moves without need, and what moves goes where it keeps racks apart and slots even by weight.
 If the layout has sizes, a slot moves if it is a leaver's, or if it goes to a node that joins and stores no more than its share.
 Standard output: the texts of the first ring, a plan that leads to the goal ring, and its certificate, which `ringplan check` accepts. Standard error:
-else what `why` prints. The slots of a partition are compared as sets. A dead node that shall leave keeps its line `in`: it cannot take part in its
-own retirement.
+by which racks a change was planned, and which slots stay; or why there is no plan. The slots of a partition are compared as sets. A dead node that is
+to leave keeps its line `in`: it cannot take part in its own retirement.
 
 Exit status: 0 printed, with `--exit-code` 4 if the plan has steps, 1 no plan, 2 a text or the command line is refused, 3 memory, input or output";
 
@@ -393,10 +394,10 @@ Example: ringplan around --dead b begun.bundle -o on.bundle
 
 Input: a ring, a plan, its certificate and a history, which is a run of the plan that stopped or goes on. At least one of --dead, a layout that names a
 dead node, --leave and --rest.
-Standard output: the ring, another plan, its certificate and the history by that plan: `check` accepts the plan, and `replay` the history. Steps that
-are done are in both plans, with other numbers: a program that does the plan hands out no step while it changes bundles, and finds what it holds of a
-step by the step's kind, partition, slot and node. Standard error: how many slots do not go where they were to go, by node, and with --all each of them;
-or why there is no such plan.
+Standard output: the ring, another plan, its certificate and the history by that plan: `check` accepts the plan, and `replay` the history, which takes
+the place of the old one from here on. Steps that are done are in both plans, with other numbers: a program that does the plan hands out no step while
+it changes bundles, and finds what it holds of a step by the step's kind, partition, slot and node. Standard error: how many slots do not go where
+they were to go, by node, and with --all each of them; or why there is no such plan.
 
 Exit status: 0 printed, 1 no plan, or one that is refused, or no run of it, 2 a text or the command line is refused, 3 memory, input or output";
 
