@@ -200,25 +200,22 @@ fn show_plan(
 {
     let found = studied(alloc, bytes, options)?;
     let racks = racks_shown(alloc, bytes, &found, options, words)?;
-    let shown = shown_by(alloc, &found, options)?;
-    let volumes = volumes_of(
-        alloc,
-        &found,
-        &shown.scene,
-        shown.progress.as_ref(),
-        options,
-    )?;
+    let Shown {
+        scene,
+        progress,
+        present,
+    } = shown_by(alloc, &found, options)?;
+    let volumes = volumes_of(alloc, &found, &scene, progress.as_ref(), options)?;
     let sized = sized(volumes.as_ref(), wish.rate);
     let (ring, plan) = (found.approved.ring(), found.approved.plan());
-    let (scene, present) = (&shown.scene, &shown.present);
-    let (progress, racks) = (shown.progress.as_ref(), racks.as_ref());
+    let (progress, racks) = (progress.as_ref(), racks.as_ref());
     let shape = shape_of(wish.shape);
     let view = View {
         alloc,
         ring,
         plan,
-        scene,
-        present,
+        scene: &scene,
+        present: &present,
         progress,
         shape,
         sized,
