@@ -74,7 +74,7 @@ uint8_t ringplan_replay(const uint8_t *input, size_t input_length, uint8_t *outp
  * The text is what the program prints on standard output and then what it prints on standard error. `*length` is the length of
  * both, and `*errors` how many bytes at the end are of standard error: those are text for people. The result is as above, but:
  *   2 also says that the line is refused, in words at the end, as the program refuses it. Refused too are options that name a file
- *   (`-o`, the bundle's, `--sizes`), bytes that are not UTF-8, and a command that is not for people: `check`, `drive`, `man`.
+ *   (`-o`, the bundle's, `--layout`), bytes that are not UTF-8, and a command that is not for people: `check`, `drive`, `man`.
  *   4 of `goal` is also the program's status at a plan with steps, where an option is --exit-code. `*length` is at most `room`
  *   then, and greater where the room is too small.
  *   3 has the text `no 60` and `*errors` 0.

@@ -111,7 +111,8 @@ for bundle in "$top"/crates/tests_cases/data/*.bundle "$top"/examples/*.bundle; 
     node=${node:-n}
     compare goal
     compare goal --dead "$node" --exit-code
-    compare goal --weight "$node=2" --racks-behind .
+    compare goal --racks-behind .
+    compare goal --racks-behind none
     compare goal --exit-code --format json
     compare goal --none
     compare around --dead "$node" --back

@@ -1,382 +1,508 @@
 #!/usr/bin/env python3
-"""Tries `ringplan around` from outside; it wants the program as it is built. `trials/around.py` tries 40 random changes of each kind, and with `--all` 600.
+"""Tries `ringplan around` from outside; it wants the program as it is built.
 
-Changes: rings of 2 to 16 partitions and 1 to 7 slots, joint and split allowances, drawn from fixed seeds; half of them lead to another ring, half are joins and leaves. Each is begun by `play`,
-with puts and hints between, and cut at a random place by the death of a node: a source of a copy, a target, a bystander, or a keeper of hints. Open copies are aborted or left open.
-The kinds: one node dies, without and with `--back`; two die; and one on a ring that may lose stores, with losses between, with `--back`.
+    trials/around.py [COUNT] [--first SEED] [--use NAME..]    COUNT changes for each use, else 10
+    trials/around.py --all                                    600 changes for each use
 
-Of each answer: the checker says yes to the plan, and `replay` to the history. What clients did stands in the history as it did, but for generations of tickets. No step that is to come asks
-anything of the dead, by a scan of its own. A history that is not a run is refused as `replay` refuses it. Then the plan is played to its last step with the dead down, in random
-order with puts between: no event is refused, no step is left, and each put that was acknowledged is found, or a later one of its writer. There is always an answer, and with `--back` no slot is
-left mirrored to a dead node. Words on standard error speak of a slot in one line at most, and that is true."""
-import hashlib
+Changes: rings of 2 to 16 partitions and 1 to 7 slots, joint and split allowances, drawn from fixed seeds. Half of them
+lead to another ring, half are joins and leaves; some plans avoid a dead member from the start, and some are written by
+hand. The store is that of `machine.py`, which takes no reply from the program. It goes through a part of the plan under
+random traffic, with puts that only one owner has, hints, outages, and copies that have some of their chunks. Then nodes
+die: a party of a copy, a target, a keeper of hints, or another one. Or none dies, and the change is to come to rest, or
+slots are to stay. `around` prints another plan and history, and the store goes on by that plan with the contents that it
+has. In some uses this happens up to three times.
+
+Of each answer: there is one. The checker says yes to the plan, and `replay` to the history. No step to come asks
+anything of the dead, by a scan of this trial. What clients did is in the history as it was. Only tickets of a slot whose
+mirror is taken back may have lower generations, and in the place of a chunk that is left out there may be writes of its
+slot. The plan has the steps that this trial finds by one walk over the old plan, and no others, as far as no dead node
+has to do with them. Standard error says at most one line of a slot, and that is true; its sums are those of the lines.
+A history that is not a run is refused as `replay` refuses it.
+
+Of each change: it comes to its end, or waits for hints that the dead keep or whose slots they serve. `replay` says yes
+to the history that `around` printed with all that the store did next; at the end each slot of each key is read. It
+says the store's owners. No acknowledged put is lost. If no node is dead, `after` prints a ring from which `goal` finds a
+plan back to the first ring, and one on to the ring to which the first plan was to lead."""
+
+import argparse
 import random
 import re
-import subprocess
 import sys
 from collections import Counter
+from collections.abc import Callable, Iterator, Sequence
 from typing import NamedTuple
 
-from measured import RUN
+from changes import Ring, Slot, Wrong, ask, place, sections, to_a_ring, to_members, write_by_hand
+from machine import CHUNKS, Machine, Table, node_of, slot_of
+from ringplan import texts
+from traffic import Traffic
 
-Step = tuple[list[str], list[int]]
-Slot = tuple[int, int]
-STEPS = ("do", "open", "chunk", "close", "abort")
+STEPPED = ("do", "open", "chunk", "close", "abort")
 
 
-class Kind(NamedTuple):
-    """What is drawn: how many die, whether mirrors may be taken back, and whether stores may be lost."""
+class Use(NamedTuple):
+    """How the program is asked: how often, one after the other, and how many nodes die each time."""
 
     name: str
-    deaths: int
-    back: bool
-    lossy: bool
+    times: int = 1
+    deaths: int = 1
+    back: bool = False
+    rest: bool = False
+    # How many slots are to stay with their owners.
+    leaves: int = 0
+    is_lossy: bool = False
+    # Whether each plan avoids a member that is dead from the start, so that copies list slots. Else one of four does.
+    avoids: bool = False
+    # Whether plans are written by hand.
+    by_hand: bool = False
+
+    def words(self, dead: set[str], left: Sequence[Slot]) -> list[str]:
+        named = [word for x in sorted(dead) for word in ("--dead", x)]
+        named += [word for slot in left for word in ("--leave", "%d.%d" % slot)]
+        return ["around", *named, *(["--rest"] if self.rest else []), *(["--back"] if self.back else [])]
 
 
-KINDS = [Kind("one dies", 1, False, False), Kind("one dies, --back", 1, True, False), Kind("two die, --back", 2, True, False), Kind("stores are lost, --back", 1, True, True)]
+USES = [
+    Use("one-dies"),
+    Use("one-dies-back", back=True),
+    Use("two-die-back", deaths=2, back=True),
+    Use("losses-back", back=True, is_lossy=True),
+    Use("three-times", times=3),
+    Use("three-times-back", times=3, back=True),
+    Use("three-losses-back", times=3, back=True, is_lossy=True),
+    Use("avoids-back", times=2, back=True, avoids=True),
+    Use("rest", deaths=0, rest=True),
+    Use("rest-back", deaths=0, rest=True, back=True),
+    Use("rest-dies-back", times=2, rest=True, back=True),
+    Use("rest-dies", times=2, rest=True),
+    Use("leave-one", deaths=0, leaves=1),
+    Use("leave-three", times=2, deaths=0, leaves=3),
+    Use("leave-dies", times=2, leaves=1),
+    Use("leave-dies-back", times=2, leaves=1, back=True),
+    Use("leave-rest-back", deaths=0, leaves=1, rest=True, back=True),
+    Use("by-hand", by_hand=True),
+    Use("by-hand-back", times=2, back=True, by_hand=True),
+    Use("by-hand-rest", deaths=0, rest=True, by_hand=True),
+    Use("by-hand-rest-dies-back", rest=True, back=True, by_hand=True),
+    Use("by-hand-leave", times=2, deaths=0, leaves=2, by_hand=True),
+    Use("by-hand-leave-dies-back", times=2, leaves=1, back=True, by_hand=True),
+]
 
 
-class Wrong(Exception):
-    """An answer that is wrong."""
+def make_change(draw: random.Random, use: Use) -> tuple[Ring, str]:
+    """A ring, and the text of it and of a change. If a dead member is avoided, a read misses two slots or more."""
+    while True:
+        ring, text = to_a_ring(draw, use.is_lossy) if use.is_lossy or draw.random() < 0.5 else to_members(draw)
+        if not use.avoids or ring.quorum[0] - ring.quorum[1] > 1:
+            return ring, text
 
 
-def ask(words: list[str], text: str) -> tuple[str, str, int]:
-    ran = subprocess.run([RUN, *words], input=text.encode(), capture_output=True, timeout=300)
-    return ran.stdout.decode(), ran.stderr.decode(), ran.returncode
+def make_plan(draw: random.Random, use: Use) -> tuple[Ring, str, set[str]] | None:
+    """A ring, the bundle of a plan with copies, and the nodes that are dead from the start."""
+    dead = set[str]()
+    if use.by_hand:
+        ring, bundle = write_by_hand(draw)
+    else:
+        ring, text = make_change(draw, use)
+        if use.avoids or draw.random() < 0.25:
+            dead = {draw.choice(sorted(ring.members))}
+        bundle = ask(["goal", *(word for x in dead for word in ("--dead", x))], text)[0]
+    return (ring, bundle, dead) if "\ncopy " in bundle else None
 
 
-def sections(text: str) -> list[str]:
-    return [part + "end\n" for part in text.split("end\n")[:-1]]
+def last_table(ring: Ring, steps: Sequence[texts.Step]) -> Table:
+    """The table after all steps."""
+    table = Table(ring)
+    for step in steps:
+        if step.kind != "copy":
+            table.take(step)
+    return table
 
 
-class Ring(NamedTuple):
-    form: int
-    names: list[str]
-    allow: dict[str, tuple[int, ...]]
-    quorum: tuple[int, ...]
-    members: set[str]
-    rows: list[list[str]]
+class Story:
+    """A change that goes on by other plans."""
 
-    def text(self, members: set[str], rows: list[list[str]]) -> str:
-        lines = ["ring %d" % self.form, "space %d" % len(rows), "quorum " + " ".join(map(str, self.quorum))]
-        lines += ["node %s %s %s" % (x, " ".join(map(str, self.allow[x])), "in" if x in members else "out") for x in self.names]
-        return "\n".join(lines + ["slots %d %s" % (p, " ".join(row)) for p, row in enumerate(rows)] + ["end"]) + "\n"
+    def __init__(self, ring: Ring, bundle: str, dead: set[str], use: Use, draw: random.Random) -> None:
+        self.ring, self.bundle, self.use, self.draw = ring, bundle, use, draw
+        self.machine = Machine(ring, texts.read_plan(bundle)[1].steps)
+        self.traffic = Traffic(self.machine, draw, draw.choice([0, 0, 0.5, 0.9]))
+        self.ends = Counter[str]()
+        # The table to which the first plan was to lead.
+        self.wished = last_table(ring, self.machine.steps)
+        self.die(dead)
 
+    def history(self) -> str:
+        return "\n".join(["history 1", *self.machine.entries, "end"]) + "\n"
 
-def read_steps(text: str) -> list[Step]:
-    steps = []
-    for line in text.splitlines()[1:-1]:
-        fields = line.split()
-        cut = fields.index("after") if "after" in fields else len(fields)
-        steps.append((fields[:cut], [int(x) for x in fields[cut + 1 :]]))
-    return steps
+    def judge(self) -> None:
+        """What the store did is a run, and it leads to the store's owners."""
+        first, *rest = ask(["replay"], self.bundle + self.history())[0].splitlines()
+        if first != "yes":
+            entry = self.machine.entries[int(first.split()[2])] if first.startswith("no 70") else ""
+            raise Wrong("a right store is refused: %s: %s" % (first, entry))
+        rows = [map(self.machine.table.owner.__getitem__, self.machine.row(p)) for p in range(len(self.ring.rows))]
+        if rest[:-1] != ["slots %d %s" % (p, " ".join(row)) for p, row in enumerate(rows)]:
+            raise Wrong("owners: replay says others than the store's")
+        if self.machine.lost():
+            raise Wrong("puts are lost: %s" % self.machine.lost())
 
+    # What happens before the program is asked.
+    def die(self, dead: set[str]) -> None:
+        self.traffic.dead |= dead
+        for x in sorted(dead):
+            self.machine.go_down(x)
 
-def to_a_ring(draw: random.Random, lossy: bool) -> tuple[Ring, str]:
-    """A ring, and the text of it and of a goal ring."""
-    bearing = [(3, 2, 3, 1), (4, 3, 3, 1), (5, 3, 4, 1), (5, 3, 5, 2)]
-    plain = [(1, 1, 1), (2, 1, 2), (2, 2, 1), (3, 2, 2), (3, 2, 2), (3, 1, 3), (4, 2, 3), (5, 2, 4), (5, 3, 3), (7, 3, 5)]
-    quorum: tuple[int, ...] = draw.choice(bearing) if lossy else draw.choice(plain)
-    n, q = quorum[0], draw.choice([2, 4, 8, 16])
-    count = draw.randrange(n + 2, n + 7)
-    names = ["n%d" % k for k in range(count)]
-    split = draw.random() < 0.3
-    allow: dict[str, tuple[int, ...]] = {x: (draw.randrange(1, 4), draw.randrange(1, 4)) if split and draw.random() < 0.6 else (draw.randrange(1, 5),) for x in names}
-    before, after = draw.sample(names, draw.randrange(n, count + 1)), draw.sample(names, draw.randrange(n, count + 1))
-    rows, wished = [draw.sample(before, n) for _ in range(q)], []
-    for row in rows:
-        keeps = [x for x in row if x in after and draw.random() < 0.6]
-        new = keeps + draw.sample([x for x in after if x not in keeps], n - len(keeps))
-        draw.shuffle(new)
-        wished.append(new)
-    ring = Ring(3 if lossy else 2 if split else 1, names, allow, quorum, set(before), rows)
-    return ring, ring.text(ring.members, rows) + ring.text(set(after), wished)
+    def go_on(self) -> None:
+        """A part of the plan is done; most often a copy is left in its middle."""
+        for _ in range(self.draw.randrange(8)):
+            self.traffic.put()
+        total = sum(CHUNKS // 2 if step.kind == "copy" else 1 for step in self.machine.steps)
+        self.traffic.run(self.draw.randrange(1, total // 2 + 3))
+        for _ in range(40 if self.draw.random() < 0.7 else 0):
+            if self.begun():
+                break
+            self.traffic.run(1)
+        for k in self.begun():
+            for c in self.draw.sample(range(CHUNKS), self.draw.randrange(CHUNKS)):
+                self.machine.chunk(k, c)
 
+    def begun(self) -> list[int]:
+        """The copies that have a chunk and are not done."""
+        progress = self.machine.progress
+        return [k for k in progress.marks if progress.marks[k] and k not in progress.done]
 
-def to_members(draw: random.Random) -> tuple[Ring, str]:
-    """A ring, and the text of it and of a change."""
-    quorum = draw.choice([(2, 1, 2), (3, 2, 2), (3, 2, 2), (5, 3, 3), (3, 1, 3)])
-    n, q = quorum[0], draw.choice([4, 8, 16])
-    count, out = draw.randrange(n + 3, n + 8), draw.randrange(3)
-    names = ["n%d" % k for k in range(count)]
-    members = names[: count - out]
-    ring = Ring(1, names, {x: (draw.randrange(1, 4),) for x in names}, quorum, set(members), [draw.sample(members, n) for _ in range(q)])
-    leaves = draw.sample(members, draw.randrange(max(1, min(3, count - n))))
-    return ring, ring.text(ring.members, ring.rows) + "\n".join(["change 1", *["join " + x for x in names[count - out :]], *["leave " + x for x in leaves], "end", ""])
+    def strike(self) -> None:
+        """Nodes die. Copies that need them are broken off, or stay open."""
+        machine, draw = self.machine, self.draw
+        copies = [machine.steps[k] for k in self.begun()] or machine.steps_left("copy")
+        sources = {machine.table.owner[it] for step in copies for it in machine.sources(step)}
+        targets = {*map(node_of, machine.steps_left("mirror")), *machine.table.mirror.values()}
+        groups = [sources, sources, sources, targets, {x for x, _ in machine.hints()}, machine.table.members]
+        for _ in range(self.use.deaths):
+            some = draw.choice(groups) - self.traffic.dead or set(self.ring.names) - self.traffic.dead
+            self.die({draw.choice(sorted(some))})
+        for k in sorted(machine.progress.open):
+            if self.traffic.dead.intersection(machine.parties(machine.steps[k])) and draw.random() < 0.6:
+                machine.abort(k)
 
+    def choose_left(self) -> list[Slot]:
+        """Slots that a step to come moves, or that stay mirrored; of several at least one whose move has begun, if there is one."""
+        machine = self.machine
+        left = sorted({slot_of(step) for step in machine.steps_left("switch")} | set(machine.table.mirror))
+        begun = [slot for slot in left if slot in machine.table.mirror]
+        chosen = set(self.draw.sample(left, min(len(left), self.use.leaves)))
+        if begun and chosen and not chosen.intersection(begun):
+            chosen = {*sorted(chosen)[1:], self.draw.choice(begun)}
+        return sorted(chosen)
 
-class Store:
-    """What an executor and its clients may do next, as far as guards tell. The judge is `play` of its script."""
-
-    def __init__(self, ring: Ring, steps: list[Step], draw: random.Random) -> None:
-        self.ring, self.steps, self.draw = ring, steps, draw
-        self.script: list[str] = []
-        self.done: set[int] = set()
-        self.open: set[int] = set()
-        self.marks: dict[int, set[int]] = {}
-        self.down: set[str] = set()
-        self.hints: set[tuple[str, int, int]] = set()
-        self.puts: list[tuple[str, str]] = []
-        self.acked: list[int] = []
-        self.members = set(ring.members)
-        self.owner = {(p, i): v for p, row in enumerate(ring.rows) for i, v in enumerate(row)}
-        self.mirror: dict[Slot, str] = {}
-        self.bits = len(ring.rows).bit_length() - 1
-
-    def nodes_of(self, k: int) -> set[str]:
-        """The nodes that copy k needs: its parties, and the keepers of hints for slots that it lists."""
-        fields, slot = self.steps[k][0], self.slot_of(k)
-        listed = fields[3] == "slots"
-        reads = [(slot[0], int(i)) for i in fields[4:]] if listed else [slot]
-        keepers = {x for x, p, i in self.hints if listed and (p, i) in reads}
-        return {self.owner[s] for s in reads} | keepers | ({self.mirror[slot]} if slot in self.mirror else set())
-
-    def slot_of(self, k: int) -> Slot:
-        return int(self.steps[k][0][1]), int(self.steps[k][0][2])
-
-    def can(self, k: int) -> bool:
-        fields, waits = self.steps[k]
-        if k in self.done or not self.done.issuperset(waits):
+    # The question.
+    def ask_around(self) -> bool:
+        """Asks for another plan, and goes on by it. Returns whether there was anything to ask for."""
+        left, machine = self.choose_left(), self.machine
+        words = self.use.words(self.traffic.dead, left)
+        if len(words) == 1 or self.use.leaves and not left:
             return False
-        if fields[0] == "copy":
-            return not self.nodes_of(k) & self.down
-        if fields[0] == "mirror":
-            return fields[3] not in self.down and not any(x == fields[3] and p == int(fields[1]) and i != int(fields[2]) for x, p, i in self.hints)
-        if fields[0] == "drop":
-            return fields[3] not in self.down
-        return fields[0] != "retire" or not any(x == fields[1] for x, _, _ in self.hints)
-
-    def act(self, k: int) -> None:
-        """Step k, which is no copy, is done."""
-        fields = self.steps[k][0]
-        self.done.add(k)
-        if fields[0] == "join":
-            self.members.add(fields[1])
-        elif fields[0] == "retire":
-            self.members.discard(fields[1])
-        elif fields[0] == "mirror":
-            self.mirror[self.slot_of(k)] = fields[3]
-        elif fields[0] == "switch":
-            self.owner[self.slot_of(k)] = self.mirror.pop(self.slot_of(k))
-
-    def note(self, event: str) -> None:
-        """An event of a step happens."""
-        word, k = event.split()[0], int(event.split()[1])
-        if word == "do":
-            self.act(k)
-        elif word == "open":
-            self.open.add(k)
-            self.marks.setdefault(k, set())
-        elif word == "chunk":
-            self.marks[k].add(int(event.split()[2]))
-        elif word == "abort":
-            self.open.discard(k)
-        elif word == "close":
-            self.open.discard(k)
-            self.done.add(k)
-
-    def add(self, event: str) -> None:
-        self.script.append(event)
-        self.note(event)
-
-    def work(self) -> bool:
-        """One event of a step or a few, if one can be."""
-        able = [k for k in range(len(self.steps)) if self.can(k)][:8]
-        if not able:
-            return False
-        k = self.draw.choice(able)
-        if self.steps[k][0][0] != "copy":
-            self.add("do %d" % k)
-        elif k not in self.open:
-            self.add("open %d" % k)
-        elif len(self.marks[k]) < 16:
-            left = [c for c in range(16) if c not in self.marks[k]]
-            for c in self.draw.sample(left, min(len(left), self.draw.choice([1, 4, 16]))):
-                self.add("chunk %d %d" % (k, c))
-        else:
-            self.add("close %d" % k)
+        text = self.bundle + self.history()
+        out, said, status = ask([*words, "--all"], text)
+        if status:
+            raise Wrong("no plan: %s" % " ".join([*words, said.strip()]))
+        see_refused(words, text)
+        bundle, history = "".join(sections(out)[:3]), sections(out)[3]
+        if ask(["check"], bundle)[0] != "yes\n":
+            raise Wrong("the checker refuses the plan")
+        if ask(["replay"], out)[2]:
+            raise Wrong("replay refuses the new history")
+        plan = Answer(self, texts.read_plan(bundle)[1].steps, left, history.splitlines()[1:-1], said)
+        plan.see_steps()
+        plan.see_ends()
+        heed(said, self.ring, plan.steps)
+        earlier = machine.steps, machine.entries
+        taken = machine.go_over(plan.steps, plan.entries)
+        compare(earlier, (plan.steps, plan.entries), set(taken))
+        see_spared(machine, self.traffic.dead)
+        self.ends[ending(said, sections(bundle)[1] == sections(self.bundle)[1])] += 1
+        if "copies have all chunks; plan" not in said and self.use.back and any(machine.table.mirror[slot] in self.traffic.dead for slot in stuck(machine)):
+            raise Wrong("a slot stays mirrored to a dead node: " + said)
+        self.bundle = bundle
         return True
 
-    def client(self, hints: float) -> None:
-        """A put, with hints for some slots that it is not written to."""
-        key, writer, number, taken = "k%d" % self.draw.randrange(12), "w%d" % self.draw.randrange(2), len(self.puts), 0
-        p = int(hashlib.md5(key.encode()).hexdigest(), 16) >> (128 - self.bits) if self.bits else 0
-        self.script.append("put %s %s x%02x" % (writer, key, number % 256))
-        self.puts.append((writer, key))
-        for i in range(self.ring.quorum[0]):
-            who = {self.owner[p, i], self.mirror.get((p, i), self.owner[p, i])}
-            if not who & self.down and self.draw.random() < 0.85:
-                self.script.append("write %d %d" % (number, i))
-                taken += 1
-            elif self.draw.random() < hints:
-                busy = {v for (q, _), v in [*self.owner.items(), *self.mirror.items()] if q == p}
-                able = [x for x in self.members - self.down - busy if not any(y == x and q == p and j != i for y, q, j in self.hints)]
-                if able:
-                    x = self.draw.choice(sorted(able))
-                    self.script.append("hint %d %d %s" % (number, i, x))
-                    self.hints.add((x, p, i))
-                    taken += 1
-        if taken >= self.ring.quorum[2]:
-            self.script.append("ack %d" % number)
-            self.acked.append(number)
+    # The end.
+    def finish(self) -> None:
+        has_ended = self.traffic.finish()
+        self.traffic.read_all()
+        self.judge()
+        if has_ended:
+            self.ends["changes that come to their end"] += 1
+            if not self.traffic.dead:
+                self.go_back()
+            return
+        for k in filter(self.machine.is_ready, range(len(self.machine.steps))):
+            if not self.waits_for_dead(k):
+                raise Wrong("a step is left: %d, %s" % (k, self.machine.steps[k].line()))
+        self.ends["changes that wait for hints of the dead"] += 1
 
-    def lose(self) -> None:
-        x = self.draw.choice(sorted(set(self.mirror.values()) & self.members or self.members))
-        self.script.append("lose " + x)
-        self.hints = {h for h in self.hints if h[0] != x}
+    def go_back(self) -> None:
+        """The ring after the change has a plan back to the ring before it, and one to the ring to which the change was to lead."""
+        after, said, status = ask(["after"], self.bundle + self.history())
+        if status:
+            raise Wrong("after: " + said)
+        rows = [[self.wished.owner[slot] for slot in self.machine.row(p)] for p in range(len(self.ring.rows))]
+        for what, goal in (("back", self.ring.text(self.ring.members, self.ring.rows)), ("on", self.ring.text(self.wished.members, rows))):
+            out, said, status = ask(["goal"], after + goal)
+            if status:
+                raise Wrong("no way %s: %s" % (what, said))
+            self.ends["ways " + what] += 1
+            if ask(["check"], out)[0] != "yes\n":
+                raise Wrong("the checker refuses the way " + what)
 
-    def hand_off(self) -> bool:
-        for x, p, i in sorted(self.hints):
-            if not {x, self.owner[p, i], self.mirror.get((p, i), x)} & self.down:
-                self.script.append("handoff %s %d %d" % (x, p, i))
-                self.hints.discard((x, p, i))
-                return True
-        return False
-
-
-def play(bundle: str, script: list[str]) -> list[str]:
-    """The replies to a script."""
-    out, _, _ = ask(["play"], bundle + "\n".join(["script 1", *script, "end"]) + "\n")
-    lines = out.splitlines()
-    if lines[:1] != ["yes"]:
-        raise Wrong("play: " + out[:200])
-    return [line.split(" ", 1)[1] for line in lines[1 : 1 + len(script)]]
+    def waits_for_dead(self, number: int) -> bool:
+        """Whether the step waits for hints that a dead node keeps, or whose slots it serves."""
+        machine, step, dead = self.machine, self.machine.steps[number], self.traffic.dead
+        hints = [(x, slot) for x, slot in machine.hints() if dead.intersection([x, *machine.table.nodes(slot)])]
+        if step.kind == "copy":
+            return any(slot in machine.sources(step) and x in dead for x, slot in hints)
+        if step.kind == "mirror":
+            return any(x == step.node and slot[0] == step.partition and slot != slot_of(step) for x, slot in hints)
+        return step.kind == "retire" and any(x == step.node for x, _ in hints)
 
 
-def begin(store: Store, hints: float, lossy: bool) -> None:
-    """Some of the change happens."""
-    draw, losses = store.draw, store.ring.quorum[3] if lossy else 0
-    total = sum(18 if fields[0] == "copy" else 1 for fields, _ in store.steps)
-    for _ in range(draw.randrange(1, total // 3 + 3)):
-        if draw.random() < 0.15:
-            store.client(hints)
-        elif draw.random() < 0.05:
-            store.hand_off()
-        elif losses and draw.random() < 0.03:
-            store.lose()
-            losses -= 1
-        elif not store.work():
-            store.hand_off()
+def stuck(machine: Machine) -> list[Slot]:
+    """The slots whose mirrors no step to come makes their owners."""
+    return sorted(set(machine.table.mirror) - {slot_of(step) for step in machine.steps_left("switch")})
 
 
-def kill(store: Store, deaths: int) -> set[str]:
-    """Some nodes die. Copies that need them are aborted, or left open."""
-    draw, steps = store.draw, store.steps
-    sources = {store.owner[store.slot_of(k)] for k, (fields, _) in enumerate(steps) if fields[0] == "copy" and k not in store.done}
-    targets = {fields[3] for fields, _ in steps if fields[0] == "mirror"}
-    some = draw.choice([sources, targets, store.members - sources - targets]) or store.members
-    keepers = {x for x, _, _ in store.hints} & store.members
-    if keepers and draw.random() < 0.5:
-        some = keepers
-    dead = {draw.choice(sorted(some))}
-    dead |= set(draw.sample(sorted(set(store.ring.names) - dead), deaths - 1))
-    store.script += ["down " + x for x in sorted(dead & store.members)]
-    store.down |= dead
-    for k in sorted(store.open):
-        if dead & store.nodes_of(k) and draw.random() < 0.6:
-            store.add("abort %d" % k)
-    return dead
+class Answer(NamedTuple):
+    """What was printed, before the store goes on by it."""
+
+    story: Story
+    steps: Sequence[texts.Step]
+    left: Sequence[Slot]
+    entries: list[str]
+    said: str
+
+    def copy_of(self, slot: Slot) -> int:
+        """The old plan's copy to the slot's mirror; -1 if the mirror stays without one."""
+        machine = self.story.machine
+        moves = [k for k, step in enumerate(machine.steps) if (step.partition, step.slot) == slot]
+        mirror = max(k for k in moves if machine.steps[k].kind == "mirror" and k in machine.progress.done)
+        return min((k for k in moves if machine.steps[k].kind == "copy" and k > mirror), default=-1)
+
+    def may_cancel(self, slot: Slot) -> bool:
+        """Whether the slot's mirror, which is set, is to be taken back though no node is dead."""
+        machine, use, copy = self.story.machine, self.story.use, self.copy_of(slot)
+        if slot in self.left and copy not in machine.progress.done and not machine.progress.is_whole(copy):
+            return True
+        return use.rest and use.back and copy not in machine.progress.done and not machine.progress.marks[copy]
+
+    def dead_partitions(self) -> set[int]:
+        """The partitions with which a dead node has to do."""
+        machine, dead = self.story.machine, self.story.traffic.dead
+        found = {slot[0] for x, slot in machine.hints() if x in dead}
+        found |= {slot[0] for slot in machine.table.owner if dead.intersection(machine.table.nodes(slot))}
+        return found | {slot_of(step)[0] for kind in ("mirror", "drop") for step in machine.steps_left(kind) if step.node in dead}
+
+    def see_steps(self) -> None:
+        """The plan has the steps that are to stay, and no others, as far as no dead node has to do with them."""
+        if "copies have all chunks; plan" in self.said:
+            return
+        dead, is_near = self.story.traffic.dead, "no better plan" in self.said
+        if is_near and not dead:
+            raise Wrong("no better plan, and no node is dead: " + self.said)
+        but = self.dead_partitions() | ({p for p, _ in self.left} if is_near else set())
+        ours, theirs = Stayers(self).steps(), self.steps
+        kept, found = (Counter(named(step) for step in steps if step.partition not in but) for steps in (ours, theirs))
+        for step in (kept - found) | (found - kept):
+            if step[1] is not None or not dead:
+                raise Wrong("a step is %s: %s" % ("missing" if kept[step] > found[step] else "too much", step))
+
+    def see_ends(self) -> None:
+        """Members end as they were to end."""
+        machine, use, dead = self.story.machine, self.story.use, self.story.traffic.dead
+        first, last = (last_table(self.story.ring, steps) for steps in (machine.steps, self.steps))
+        stay = dead | set(last.owner.values()) | set(last.mirror.values()) | {x for x, _ in machine.hints()}
+        if not use.rest and "copies have all chunks; plan" not in self.said and (first.members ^ last.members) - stay:
+            raise Wrong("members end otherwise: %s" % sorted((first.members ^ last.members) - stay))
 
 
-def is_client(line: str) -> bool:
-    return line.split()[0] not in STEPS
+def named(step: texts.Step) -> tuple[object, ...]:
+    """The step without its number, and without the steps that it waits for."""
+    return step.kind, step.partition, step.slot, step.node, step.slots
 
 
-def compare(earlier: str, later: str, back: bool) -> None:
-    """What clients did stands as it did; only generations of tickets may be lower, where mirrors are taken back."""
-    old, new = [[line for line in text.splitlines()[1:-1] if is_client(line)] for text in (earlier, later)]
-    if len(old) != len(new):
-        raise Wrong("entries of clients are gone")
-    for one, other in zip(old, new):
-        if one != other and not (back and "= ticket" in one and one.rsplit(" ", 1)[0] == other.rsplit(" ", 1)[0] and int(one.rsplit(" ", 1)[1]) > int(other.rsplit(" ", 1)[1])):
-            raise Wrong("%s became %s" % (one, other))
+class Stayers:
+    """The steps of the old plan that stay if no dead node has to do with them: all that is done, and what `--rest` and `--leave` let."""
+
+    def __init__(self, answer: Answer) -> None:
+        self.answer, self.machine, self.use = answer, answer.story.machine, answer.story.use
+        self.table = Table(self.machine.ring)
+        # Slots that do not move on, and what nodes have of slots.
+        self.cut, self.full = set[Slot](), {(slot, x) for slot, x in self.table.owner.items()}
+
+    def steps(self) -> list[texts.Step]:
+        stay = [(k, step) for k, step in enumerate(self.machine.steps) if step.kind != "retire" and self.stays(k, step)]
+        for k, step in enumerate(self.machine.steps):
+            if step.kind == "retire" and (k in self.machine.progress.done or self.retires(node_of(step))):
+                stay.append((k, step))
+        return [step for _, step in stay]
+
+    def retires(self, node: str) -> bool:
+        return node in self.table.members and all(x != node for _, x in self.full)
+
+    def stays(self, k: int, step: texts.Step) -> bool:
+        """Takes in a step, in the order of the plan."""
+        if step.kind == "join":
+            stays = k in self.machine.progress.done or not self.use.rest
+        elif step.kind == "mirror":
+            stays = self.mirrors(k, step)
+        elif step.kind == "drop":
+            stays = (slot_of(step), step.node) in self.full and self.table.owner[slot_of(step)] != step.node
+        else:
+            stays = slot_of(step) not in self.cut
+        if stays and step.kind != "copy":
+            self.take(step)
+        return stays
+
+    def take(self, step: texts.Step) -> None:
+        self.table.take(step)
+        if step.kind == "mirror":
+            self.full.add((slot_of(step), node_of(step)))
+        if step.kind == "drop":
+            self.full.discard((slot_of(step), node_of(step)))
+
+    def mirrors(self, k: int, step: texts.Step) -> bool:
+        slot, node, done = slot_of(step), node_of(step), self.machine.progress.done
+        is_set = k in done and self.machine.table.mirror.get(slot) == node and not self.is_over(k, slot)
+        others = {x for it in self.machine.row(slot[0]) if it != slot for x in self.table.nodes(it)}
+        if k not in done and (self.use.rest or slot in self.answer.left or node in others) or is_set and self.answer.may_cancel(slot):
+            self.cut.add(slot)
+        return slot not in self.cut
+
+    def is_over(self, k: int, slot: Slot) -> bool:
+        """Whether a later switch of the slot is done."""
+        return any(self.machine.steps[d].kind == "switch" and slot_of(self.machine.steps[d]) == slot and d > k for d in self.machine.progress.done)
 
 
-def scan(store: Store, dead: set[str]) -> None:
-    """No step that is to come asks anything of the dead, where all are done in the order of the plan."""
-    owner = {(p, i): v for p, row in enumerate(store.ring.rows) for i, v in enumerate(row)}
-    mirror: dict[Slot, str] = {}
-    for k, (fields, _) in enumerate(store.steps):
-        named = {fields[-1]} if fields[0] in ("join", "retire", "mirror", "drop") else set()
-        if fields[0] == "mirror":
-            mirror[store.slot_of(k)] = fields[3]
-        if fields[0] == "copy":
-            p, i = store.slot_of(k)
-            named = {mirror[p, i]} | ({owner[p, int(j)] for j in fields[4:]} if fields[3] == "slots" else {owner[p, i]})
-        if fields[0] == "switch":
-            owner[store.slot_of(k)] = mirror[store.slot_of(k)]
-        if named & dead and k not in store.done and not (k in store.open and len(store.marks[k]) == 16):
-            raise Wrong("step %d is to come, %s" % (k, " ".join(fields)))
+def see_refused(words: list[str], text: str) -> None:
+    """A history that is not a run is refused as `replay` refuses it."""
+    wrong = text[: -len("end\n")] + "ack 99999 = ok\nend\n"
+    line, _, owed = ask(["replay"], wrong)
+    out, said, status = ask(words, wrong)
+    if (out, said[: len(line)], status) != ("", line, owed):
+        raise Wrong("a history that is not a run: %s, replay: %s" % (said, line))
 
 
-def run_on(old: Store, bundle: str, events: list[str], dead: set[str], tally: Counter[str]) -> str:
-    """Plays the plan to its end. Answers what is left."""
-    store = Store(old.ring, read_steps(sections(bundle)[1]), old.draw)
-    for event in events:
-        if not is_client(event):
-            store.note(event)
-    store.script, store.hints, store.puts, store.acked, store.down = list(events), set(old.hints), list(old.puts), list(old.acked), set(dead)
-    scan(store, dead)
-    idle = 0
-    while len(store.done) < len(store.steps) and idle < 3:
-        for k in sorted(store.open):  # a copy that has all its chunks can be closed whoever is down
-            if len(store.marks[k]) == 16:
-                store.add("close %d" % k)
-        if store.draw.random() < 0.1:
-            store.client(0)
-        idle = 0 if store.work() or store.hand_off() else idle + 1
-    count = len(store.script)
-    keys = sorted({store.puts[v][1] for v in store.acked})
-    for g, key in enumerate(keys):
-        store.script += ["get " + key, *["read %d %d" % (g, i) for i in range(store.ring.quorum[0])], "endget %d" % g]
-    replies = play(bundle, store.script)
-    for event, reply in list(zip(store.script, replies))[len(events) : count]:
-        if reply.startswith("no"):
-            raise Wrong("%s: %s" % (event, reply))
-    find(store, keys, dict(zip(store.script[count:], replies[count:])), tally)
-    if len(store.done) == len(store.steps):
-        return ""
-    if not store.hints:
-        raise Wrong("steps are left")
-    return ", some steps wait for hints that the dead keep or whose slots the dead own"
+def chunks_of(steps: Sequence[texts.Step], entries: Sequence[str]) -> Iterator[tuple[Slot, str]]:
+    """The slot and the chunk of each entry of a chunk."""
+    for entry in entries:
+        word, *fields = entry.split()
+        if word == "chunk":
+            yield slot_of(steps[int(fields[0])]), fields[1]
 
 
-def find(store: Store, keys: list[str], replies: dict[str, str], tally: Counter[str]) -> None:
-    """Each acknowledged put is found, or a later one of its writer."""
-    for g, key in enumerate(keys):
-        reply = replies["endget %d" % g]
-        if not reply.startswith("reply"):
-            tally["gets with fewer than R slots"] += 1
-            continue
-        tally["gets"] += 1
-        found = set(map(int, reply.split()[1:]))
-        for v in sorted(set(store.acked)):
-            if store.puts[v][1] == key:
-                tally["acknowledged puts"] += 1
-                if not any(u == v or (u > v and store.puts[u] == store.puts[v]) for u in found):
-                    raise Wrong("put %d is lost" % v)
+def is_same(one: str, other: str, taken: set[Slot]) -> bool:
+    """Whether an entry of a client is as it was; of these slots the generation may be lower."""
+    ours, theirs = one.split(), other.split()
+    if one == other or "ticket" not in ours or ours[:-1] != theirs[:-1]:
+        return one == other
+    return (int(ours[-3]), int(ours[-2])) in taken and int(theirs[-1]) < int(ours[-1])
 
 
-def heed(words: str, ring: Ring, plan: str) -> None:
-    """Each slot is spoken of in one line at most, and goes or stays where that says."""
-    owner, mirror = {(p, i): x for p, row in enumerate(ring.rows) for i, x in enumerate(row)}, {}
-    for fields, _ in read_steps(plan):
-        if fields[0] in ("mirror", "switch"):
-            slot = int(fields[1]), int(fields[2])
-            if fields[0] == "mirror":
-                mirror[slot] = fields[3]
-            else:
-                owner[slot] = mirror[slot]
+Told = tuple[Sequence[texts.Step], Sequence[str]]
+
+
+def compare(earlier: Told, later: Told, taken: set[Slot]) -> None:
+    """What clients did is in the later history as it was, but for what the head of this file says."""
+    gone = Counter(chunks_of(*earlier)) - Counter(chunks_of(*later))
+    chunks, others = chunks_of(*earlier), [entry for entry in later[1] if entry.split()[0] not in STEPPED]
+    # How many entries of the later history may be compared already.
+    counts = {0}
+    for entry in earlier[1]:
+        word = entry.split()[0]
+        if word == "chunk":
+            slot, chunk = next(chunks)
+            ticket = "= ticket %d %d " % slot
+            for count in sorted(counts) if (slot, chunk) in gone else ():
+                while count < len(others) and others[count].startswith("write ") and ticket in others[count]:
+                    count += 1
+                    counts.add(count)
+        elif word not in STEPPED:
+            counts = {it + 1 for it in counts if it < len(others) and is_same(entry, others[it], taken)}
+            if not counts:
+                raise Wrong("an entry of clients is gone, or another one: %s" % entry)
+    if len(others) not in counts:
+        raise Wrong("entries of clients are added")
+
+
+def see_spared(machine: Machine, dead: set[str]) -> None:
+    """No step to come asks anything of the dead, if all are done in the order of the plan."""
+    table = Table(machine.ring)
+    for k, step in enumerate(machine.steps):
+        asked = {step.node}
+        if step.kind == "copy":
+            asked = {table.mirror[slot_of(step)], *(table.owner[it] for it in machine.sources(step))}
+        else:
+            table.take(step)
+        if asked & dead and k not in machine.progress.done and not machine.progress.is_whole(k):
+            raise Wrong("the dead are asked: step %d, %s" % (k, step.line()))
+
+
+# What a line of a slot says, and what a sum of such lines says.
+SAID = [
+    (r"is mirrored to ([a-z0-9]+) no longer", r"slots? (?:is|are) no longer mirrored to (.*?)(?:: |$)"),
+    (r"goes to ([a-z0-9]+)", r"slots? goe?s? to (.*?)(?:: | in place of | all the same|$)"),
+    (r"stays at ([a-z0-9]+)", r"slots? stays? at (.*?)(?:: |, since |, as |$)"),
+    (r"stays mirrored to ([a-z0-9]+)", r"slots? stays? mirrored to (.*?)(?:: |, since |, which |; |$)"),
+    (r"is to be mirrored to ([a-z0-9]+) again", r"slots? (?:is|are) to be mirrored again to (.*?)(?:: |$)"),
+]
+
+
+def see_sums(words: str) -> None:
+    """The sums by node are those of the lines."""
+    lines = [line for line in words.splitlines() if re.match(r"slot \d", line)]
+    sums = [line for line in words.splitlines() if re.match(r"\d+ slots? ", line)]
+    for one, many in SAID:
+        counts = Counter(found[1] for line in lines for found in [re.search(one, line)] if found)
+        told = Counter[str]()
+        for line in sums:
+            found = re.match(r"(\d+) " + many, line)
+            if found:
+                parts = {x: int(count) for x, count in re.findall(r"([a-z0-9]+) \((\d+)\)", found[2])}
+                if sum(parts.values()) != int(found[1]):
+                    raise Wrong("a sum is not that of its nodes: " + line)
+                told.update(parts)
+        if told != counts:
+            raise Wrong("sums are not those of the lines: " + words)
+
+
+def heed(words: str, ring: Ring, steps: Sequence[texts.Step]) -> None:
+    """Each slot is spoken of in one line at most. It stays where that says, or goes there.
+
+    A plan by hand may move it on from there."""
+    table = Table(ring)
+    owners = {slot: [owner] for slot, owner in table.owner.items()}
+    for step in steps:
+        if step.kind != "copy":
+            table.take(step)
+        if step.kind == "switch":
+            owners[slot_of(step)].append(table.owner[slot_of(step)])
     spoken = re.findall(r"^slot (\d+) (\d+) (.*)$", words, re.MULTILINE)
     if len({(p, i) for p, i, _ in spoken}) < len(spoken):
         raise Wrong("two lines of one slot: " + words)
     for p, i, text in spoken:
-        end = re.search(r"(?:goes to|stays at) ([a-z0-9]+)", text)
-        if end and owner[int(p), int(i)] != end[1]:
-            raise Wrong("slot %s %s is at %s in the end, and not as said: %s" % (p, i, owner[int(p), int(i)], text))
+        end, of_slot = re.search(r"(goes to|stays at) ([a-z0-9]+)", text), owners[int(p), int(i)]
+        if end and end[2] not in (of_slot if end[1] == "goes to" else of_slot[-1:]):
+            raise Wrong("false words: slot %s %s has the owners %s: %s" % (p, i, ", ".join(of_slot), text))
+        mirrored = re.search(r"stays mirrored to ([a-z0-9]+)", text)
+        if mirrored and table.mirror.get((int(p), int(i))) != mirrored[1]:
+            raise Wrong("false words: slot %s %s: %s" % (p, i, text))
+    see_sums(words)
 
 
-def ending(words: str, same: bool) -> str:
+def ending(words: str, is_same_plan: bool) -> str:
+    if "copies have all chunks; plan" in words:
+        return "no better plan than the moves whose copies have all chunks"
+    if "no better plan" in words:
+        return "no better plan than the moves that have begun"
     if "stays mirrored" in words:
         return "a slot stays mirrored"
     if "no longer" in words:
@@ -385,86 +511,234 @@ def ending(words: str, same: bool) -> str:
         return "other targets"
     if "cannot take it" in words or "can be read" in words:
         return "slots stay at their owners"
-    return "the same plan" if same else "another plan, each slot goes where it was to go"
+    return "the same plan" if is_same_plan else "another plan, each slot goes where it was to go"
 
 
-def attempt(number: int, kind: Kind, tally: Counter[str]) -> str:
-    draw = random.Random(number)
-    ring, text = to_a_ring(draw, kind.lossy) if kind.lossy or draw.random() < 0.5 else to_members(draw)
-    bundle, _, status = ask(["goal"], text)
-    if status:
-        return "no plan"
-    store = Store(ring, read_steps(sections(bundle)[1]), draw)
-    if not any(fields[0] == "copy" for fields, _ in store.steps):
-        return "no copy"
-    begin(store, draw.choice([0, 0, 0.5, 0.9]), kind.lossy)
-    dead = kill(store, kind.deaths)
-    replies = play(bundle, store.script)
-    refused = [event for event, reply in zip(store.script, replies) if reply.startswith("no")]
-    if refused:
-        raise Wrong("the trial's own script: " + refused[0])
-    history = "history 1\n" + "".join("%s = %s\n" % it for it in zip(store.script, replies)) + "end\n"
-    words = ["around", *[word for x in sorted(dead) for word in ("--dead", x)], *(["--back"] if kind.back else [])]
-    out, said, status = ask(words, bundle + history)
-    if status:
-        raise Wrong("around: " + said)
-    wrong = bundle + history[: -len("end\n")] + "ack 99999 = ok\nend\n"
-    line, _, owed = ask(["replay"], wrong)
-    answer = ask(words, wrong)
-    if (answer[0], answer[1][: len(line)], answer[2]) != ("", line, owed):
-        raise Wrong("a history that is not a run: %s, replay: %s" % (answer[1], line))
-    after = "".join(sections(out)[:3])
-    if ask(["check"], after)[0] != "yes\n":
-        raise Wrong("the checker refuses")
-    if ask(["replay"], out)[2]:
-        raise Wrong("the replay refuses")
-    later = sections(out)[3]
-    compare(history, later, kind.back)
-    heed(said, ring, sections(after)[1])
-    end = ending(said, sections(after)[1] == sections(bundle)[1])
-    if kind.back and end == "a slot stays mirrored":
-        raise Wrong(said)
-    return end + run_on(store, after, [line.split(" = ")[0] for line in later.splitlines()[1:-1]], dead, tally)
+def attempt(seed: int, use: Use, tally: Counter[str]) -> None:
+    draw = random.Random(seed)
+    made = make_plan(draw, use)
+    if made is None:
+        tally["changes without a plan or a copy"] += 1
+        return
+    story = Story(*made, use, draw)
+    try:
+        for _ in range(use.times):
+            story.go_on()
+            story.strike()
+            story.judge()
+            is_begun = bool(story.begun())
+            tally["uses"] += story.ask_around()
+            tally["in the middle of a copy"] += is_begun
+        story.finish()
+    finally:
+        tally.update(story.ends)
 
 
 def take_back_many(count: int) -> None:
-    """So many slots are mirrored to a node that dies, with a ticket of each of some puts: all mirrors are taken back."""
+    """So many slots are mirrored to a node that dies, with tickets of puts: all mirrors are taken back."""
     space = 1 << (count - 1).bit_length()
     ring = Ring(1, ["a", "b", "c"], {x: (4,) for x in "abc"}, (1, 1, 1), set("abc"), [["a"]] * space)
     plan = ["plan 1"]
     for p in range(count):
-        plan += ["mirror %d 0 b" % p, "copy %d 0 owner after %s" % (p, "%d %d" % (4 * p - 3, 4 * p) if p else "0"), "switch %d 0 after %d" % (p, 4 * p + 1), "drop %d 0 a after %d" % (p, 4 * p + 2)]
+        plan += ["mirror %d 0 b" % p, "copy %d 0 owner after %s" % (p, "%d %d" % (4 * p - 3, 4 * p) if p else "0")]
+        plan += ["switch %d 0 after %d" % (p, 4 * p + 1), "drop %d 0 a after %d" % (p, 4 * p + 2)]
     bundle, said, status = ask(["cert"], ring.text(ring.members, ring.rows) + "\n".join([*plan, "end", ""]))
     if status:
         raise Wrong("cert: " + said)
-    script = ["do %d" % (4 * p) for p in range(count)] + [event % v for v in range(64) for event in ("put w k%d x61", "write %d 0", "ack %d")]
-    history = "history 1\n" + "".join("%s = %s\n" % it for it in zip(script, play(bundle, script))) + "end\n"
-    out, said, status = ask(["around", "--dead", "b", "--back"], bundle + history)
+    machine = Machine(ring, texts.read_plan(bundle)[1].steps)
+    for p in range(count):
+        machine.do(4 * p)
+    for number in range(64):
+        v = machine.start_put("w", "k%d" % number)
+        machine.write(v, 0)
+        machine.ack(v)
+    history = "\n".join(["history 1", *machine.entries, "end", ""])
+    words = ["around", "--dead", "b", "--back"]
+    out, said, status = ask([*words, "--all"], bundle + history)
     if status or ask(["replay"], out)[2] or said.count("is mirrored to b no longer") != count:
         raise Wrong("%d mirrors are taken back: %s" % (count, said[:200]))
+    again, said, status = ask(words, bundle + history)
+    if again != out or "%d slots are no longer mirrored to b (%d): " % (count, count) not in said or len(said.splitlines()) > 5:
+        raise Wrong("%d mirrors are taken back, without --all: %s" % (count, said[:500]))
 
 
-def main(words: list[str]) -> int:
-    count = 600 if "--all" in words else 40
-    wrong = 0
+def keep_what_the_dead_had() -> None:
+    """The least case: a put that only the dead owner has, and its mirror by the one chunk that was given."""
+    ring = Ring(1, list("abcd"), {x: (4,) for x in "abcd"}, (3, 2, 2), set("abc"), [list("abc")] * 4)
+    text = ring.text(ring.members, ring.rows) + "change 1\njoin d\nleave b\nend\n"
+    story = Story(ring, ask(["goal"], text)[0], set(), USES[0], random.Random(0))
+    machine, story.traffic.keys = story.machine, ["k54"]
+    machine.do(0)
+    machine.write(machine.start_put("w", "k54"), 1)
+    machine.do(1)
+    machine.open_copy(2)
+    machine.chunk(2, place("k54", 6) % CHUNKS)
+    story.die({"b"})
+    story.ask_around()
+    story.finish()
+
+
+# A node keeps a hint for the very slot that is to go to it.
+HINT = """ring 1
+space 1
+quorum 3 2 2
+node a 4 in
+node b 4 in
+node c 4 in
+node d 4 out
+slots 0 a b c
+end
+plan 1
+join d
+mirror 0 1 d after 0
+copy 0 1 slots 0 2 after 1
+switch 0 1 after 2
+end
+cert 1
+chain a 2
+chain c 2
+chain d 2
+end
+history 1
+do 0 = ok
+down b = ok
+put w k x = put 0
+write 0 0 = ticket 0 0 0
+hint 0 1 d = ticket 0 1 0
+end
+"""
+# A copy reads a slot after its switch, whose target dies with a full copy. It can read the slot before the switch.
+CIRCLE = """ring 1
+space 1
+quorum 3 2 2
+node a 4 in
+node b 4 in
+node c 4 in
+node d 4 in
+node e 4 in
+slots 0 a b c
+end
+plan 1
+mirror 0 2 d
+copy 0 2 owner after 0
+switch 0 2 after 1
+mirror 0 0 e
+copy 0 0 slots 1 2 after 2 3
+switch 0 0 after 4
+end
+cert 1
+fact 1 2 4
+chain b 4
+chain c 1
+chain d 1 4
+chain e 4
+end
+history 1
+do 0 = ok
+open 1 = ok
+%sclose 1 = ok
+end
+""" % "".join("chunk 1 %d = ok\n" % c for c in range(CHUNKS))
+
+
+# Two targets die with full copies. Slot 0 is to be read by way of both, and the one switch comes after the other.
+STUCK = """plan 1
+mirror 0 2 d
+copy 0 2 owner after 0
+switch 0 2 after 1
+mirror 0 1 f
+copy 0 1 owner after 3
+switch 0 1 after 2 4
+mirror 0 0 e
+copy 0 0 slots 1 2 after 2 5 6
+switch 0 0 after 7
+end
+"""
+
+
+def see_last_ways() -> None:
+    """If no plan does all, moves that have begun are ended, or at least those whose copies have all chunks."""
+    ring = Ring(1, list("abcdef"), {x: (4,) for x in "abcdef"}, (3, 2, 2), set("abcdef"), [list("abc")])
+    bundle = ask(["cert"], ring.text(ring.members, ring.rows) + STUCK)[0]
+    for is_begun, back, needed in ((False, False, "as by --rest"), (True, False, "copies have all chunks"), (True, True, "copies have all chunks")):
+        machine = Machine(ring, texts.read_plan(bundle)[1].steps)
+        for k in (0, 3, *([6] if is_begun else [])):
+            machine.do(k)
+        for k in (1, 4):
+            machine.open_copy(k)
+            for c in range(CHUNKS):
+                machine.chunk(k, c)
+            machine.close(k)
+        history = "\n".join(["history 1", *machine.entries, "end", ""])
+        out, said, status = ask(["around", "--dead", "b", "--dead", "d", *(["--back"] if back else []), "--all"], bundle + history)
+        if status or needed not in said or ask(["replay"], out)[2] or out.count("\nswitch ") != 2:
+            raise Wrong("around with no good plan: %s%s" % (out, said))
+        heed(said, ring, texts.read_plan("".join(sections(out)[:3]))[1].steps)
+        if is_begun and not back:
+            out, said, status = ask(["around", "--leave", "0.0"], out)
+        if status or ask(["replay"], out)[2] or out.count("\nmirror ") != 2:
+            raise Wrong("the last mirror stays: %s%s" % (out, said))
+
+
+def see_small_cases() -> None:
+    """Two bundles with a plan that is easily missed."""
+    for dead, text, needed in (("b", HINT, "mirror 0 1 d"), ("d", CIRCLE, "copy 0 0 slots 1 2")):
+        out, said, status = ask(["around", "--dead", dead], text)
+        if status or needed not in out or "no better plan" in said or ask(["replay"], out)[2]:
+            raise Wrong("around --dead %s: %s %s" % (dead, out, said))
+
+
+def see_words_refused() -> None:
+    """Lines that ask for nothing, or for a slot that stays anyway."""
+    for words, owed, needed in (
+        (["around"], 2, "--rest"),
+        (["around", "--back", "--all"], 2, "--leave"),
+        (["around", "--leave", "0"], 2, "--leave <P.I>"),
+        (["around", "--leave", "0.-1"], 2, "--leave <P.I>"),
+        (["around", "--leave", "0.0"], 1, "no 28\nrefused: --leave 0.0: no step that is to come moves this slot\n"),
+        (["around", "--rest", "--leave", "0.7", "--leave", "1.0"], 1, "refused: --leave 1.0: no step"),
+    ):
+        out, said, status = ask(words, HINT)
+        if out or status != owed or needed not in said:
+            raise Wrong("%s: status %d: %s" % (" ".join(words), status, said))
+
+
+def is_right(call: Callable[[], None], what: str, tally: Counter[str]) -> bool:
     try:
-        take_back_many(4_000)
+        call()
     except Wrong as fault:
-        print("WRONG: %s" % fault)
-        wrong += 1
-    for kind in KINDS:
-        ends: Counter[str] = Counter()
-        tally: Counter[str] = Counter()
-        for number in range(count):
-            try:
-                ends[attempt(number, kind, tally)] += 1
-            except Wrong as fault:
-                print("WRONG: %s, seed %d: %s" % (kind.name, number, fault))
-                wrong += 1
-        print("%s: %s; %s" % (kind.name, ", ".join("%d %s" % (n, what) for what, n in ends.most_common()), ", ".join("%d %s" % (n, what) for what, n in tally.items())))
+        print("WRONG: %s: %s" % (what, fault), flush=True)
+        tally["WRONG, " + str(fault).split(":")[0]] += 1
+        return False
+    return True
+
+
+def main() -> int:
+    parser = argparse.ArgumentParser(prog="trials/around.py", description="Tries `ringplan around` from outside.")
+    parser.add_argument("count", nargs="?", type=int, default=10, help="changes for each use (default: %(default)s)")
+    parser.add_argument("--all", action="store_true", help="600 changes for each use")
+    parser.add_argument("--first", type=int, default=0, metavar="SEED", help="the seed of the first change")
+    names = [use.name for use in USES]
+    parser.add_argument("--use", nargs="+", choices=names, help="these uses only")
+    words = parser.parse_args()
+    total = Counter[str]()
+    wrong = int(not is_right(keep_what_the_dead_had, "one put, one chunk", total))
+    wrong += not is_right(lambda: take_back_many(4_000), "4,000 mirrors", total)
+    wrong += not is_right(see_small_cases, "small cases", total)
+    wrong += not is_right(see_last_ways, "last ways", total)
+    wrong += not is_right(see_words_refused, "command lines", total)
+    for use in USES:
+        if words.use and use.name not in words.use:
+            continue
+        tally = Counter[str]()
+        for seed in range(words.first, words.first + (600 if words.all else words.count)):
+            wrong += not is_right(lambda: attempt(seed, use, tally), "%s, seed %d" % (use.name, seed), tally)
+        print("%s: %s" % (use.name, ", ".join("%d %s" % (n, what) for what, n in sorted(tally.items()))), flush=True)
+        total += tally
+    print("all uses: " + ", ".join("%d %s" % (n, what) for what, n in sorted(total.items())))
     print("%d wrong" % wrong)
     return 1 if wrong else 0
 
 
 if __name__ == "__main__":
-    sys.exit(main(sys.argv[1:]))
+    sys.exit(main())

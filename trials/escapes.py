@@ -4,7 +4,7 @@ wants the program as it is built.
 
 Bundles of each kind get such bytes in the place of a name, a number, a word, a line, or beside one:
 sequences that set a terminal's title, clear its screen or colour it, bytes 00, 7F and 9B, and bytes
-above 127 that are UTF-8 and that are not. So does the file of `--sizes`.
+above 127 that are UTF-8 and that are not. So does the file of `--layout`.
 
 Owed, on standard output and standard error: no byte below 20 but the line feed, and none from 7F to
 9F, as it is or as a character of UTF-8. With `--color always` the same words, but for colours. What
@@ -171,12 +171,13 @@ def unmet(what: str, given: bytes) -> Iterator[str]:
                 yield f"{words} --format json of {what}: {mend} leads to {line}"
 
 
-def sizes(draw: random.Random) -> Iterator[str]:
-    """What is wrong with what is printed of a file of sizes."""
+def layouts(draw: random.Random) -> Iterator[str]:
+    """What is wrong with what is printed of a layout."""
     bundle = (TOP / "examples/plan_replace.bundle").read_bytes()
     for poison in POISONS:
         with tempfile.NamedTemporaryFile() as file:
-            file.write(b"0 5\n" + draw.choice([poison, b"1 " + poison, poison + b" 5"]) + b"\n")
+            line = draw.choice([poison, b"size 1 " + poison, b"rack a " + poison, b"alias a " + poison, b"dead " + poison])
+            file.write(b"layout 1\nsize 0 5\n" + line + b"\nend\n")
             file.flush()
             for words in (
                 "goal",
@@ -184,14 +185,14 @@ def sizes(draw: random.Random) -> Iterator[str]:
                 "show",
                 "show --format json",
             ):
-                printed = ask(f"{words} --sizes {file.name}", bundle)
+                printed = ask(f"{words} --layout {file.name}", bundle)
                 if seen := control(printed.out) or control(printed.errors):
-                    yield f"{words} --sizes with {poison!r}: {seen}"
+                    yield f"{words} --layout with {poison!r}: {seen}"
 
 
 def main() -> int:
     draw = random.Random(int(sys.argv[1]) if len(sys.argv) > 1 else 20261129)
-    faults, tried = list(sizes(draw)), list(bundles(draw))
+    faults, tried = list(layouts(draw)), list(bundles(draw))
     with ThreadPoolExecutor(4) as threads:
         for found in threads.map(lambda it: list(unmet(*it)), tried):
             faults += found

@@ -43,7 +43,7 @@ REFUSED = ["broken_fact", "more_chains_than_allowance", "retired_in_use", "copy_
     "node_that_has_not_joined", "quorums_need_not_meet", "owner_twice_apart", "plan_the_last_member", "replay_an_early_ack", "replay_another_reply"]
 
 # Rings that are wished for, windows, and texts about the program.
-WISHED = [("goal_around_a_dead_node", "goal --dead b"), ("goal_around_a_dead_node", "goal --dead a --dead b"), ("plan_replace", "goal --dead b --weight a=2 --racks-behind ."),
+WISHED = [("goal_around_a_dead_node", "goal --dead b"), ("goal_around_a_dead_node", "goal --dead a --dead b"), ("plan_replace", "goal --dead b --racks-behind none"),
     ("plan_replace", "windows --rounds 2"), ("plan_replace", "goal --exit-code"), ("plan_replace", "man"), ("copy_out_of_order", "check --format json"), ("replay_a_move", "replay --format json"), ("plan_replace", "completions zsh"), ("plan_replace", "steps --moves"), ("copy_out_of_order", "windows --rounds 1 --only 1"),
     ("replay_an_early_ack", "part --of 4 --part 0"), ("replay_an_early_ack", "part --partitions 0-1 --map 3"), ("replay_an_early_ack", "part --of 4 --part 0 --map 99")]
 
@@ -54,7 +54,7 @@ SOUGHT = ["no_certificate", "more_chains_than_allowance"]
 def people():
     """Runs of the commands for people."""
     for name in MADE + REFUSED:
-        for words in ("why", "show --all --racks-behind .", "draw", "steps", "cert", "after") if name in MADE else ("why", "cert") if name in SOUGHT else ("why",):
+        for words in ("why", "show --all", "draw", "steps", "cert", "after") if name in MADE else ("why", "cert") if name in SOUGHT else ("why",):
             given = os.path.join(CRATES, "tests_cases", "data", name + ".bundle")
             yield "%s %s" % (name, words), [RUN, *words.split()], given, NOTHING, False
     for name, words in WISHED:

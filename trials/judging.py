@@ -19,8 +19,7 @@ from collections import defaultdict
 from collections.abc import Callable, Iterable, Iterator
 from dataclasses import dataclass, field
 
-from around import Ring, Slot, Step, ask, read_steps, sections, to_a_ring, to_members
-from parts import place
+from changes import Ring, Slot, Step, ask, place, read_steps, sections, to_a_ring, to_members
 
 TOP = pathlib.Path(__file__).resolve().parent.parent
 sys.path.insert(0, str(TOP / "python"))

@@ -18,7 +18,7 @@ import threading
 import time
 from collections.abc import Iterator
 
-from around import Wrong, ask, read_steps, sections
+from changes import Wrong, ask, read_steps, sections
 from measured import RUN, TOP
 from parts import map_back, parallel
 

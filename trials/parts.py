@@ -10,7 +10,6 @@ refuses of the whole. `part` prints the bundles of that cut, byte for byte, for 
 Samples of keys: all of the puts and gets of some keys; and, of each partition that has one of these keys, all hints and handoffs. A put of another key comes right before its first hint, without what it knows. Owed: a
 sample of a run is a run. No sample is refused before the whole is. Where the sample has the entry at which the whole is refused, it is refused there by the same number, but for a `do` (48) or a `chunk` (42) that is refused for
 hints in partitions without a chosen key."""
-import hashlib
 import os
 import random
 import subprocess
@@ -19,18 +18,17 @@ import tempfile
 from collections import Counter
 from collections.abc import Callable
 
-from around import Store, Wrong, ask, begin, play, read_steps, sections, to_a_ring, to_members
+from changes import Wrong, ask, place, to_a_ring, to_members
+from machine import Machine
 from measured import RUN
+from ringplan import texts
+from traffic import Traffic
 
 SHARES = 3
 # How many entries, at least, a history has that is judged on two machines, and in how many parts.
 LENGTH, PARTS = 300, 4
 MANY = 4294967295
 CLIENTS = ("put", "write", "hint", "ack", "get", "read", "endget", "handoff")
-
-
-def place(key: str, bits: int) -> int:
-    return int(hashlib.md5(key.encode()).hexdigest(), 16) >> (128 - bits) if bits else 0
 
 
 class Numbers(dict[int, int]):
@@ -91,22 +89,6 @@ def cut(entries: list[str], bits: int, is_in: Callable[[int], bool], keys: set[s
     return out
 
 
-def with_gets(store: Store) -> None:
-    """Gets beside what the script has, and puts that know some of them."""
-    draw, script, gets, known, (n, r) = store.draw, list[str](), 0, dict[str, list[int]](), store.ring.quorum[:2]
-    for event in store.script:
-        fields = event.split()
-        if fields[0] == "put" and known.get(fields[2]) and draw.random() < 0.7:
-            event += " seen %d" % draw.choice(known[fields[2]])
-        script.append(event)
-        if draw.random() < 0.15:
-            key = "k%d" % draw.randrange(12)
-            script += ["get " + key, *["read %d %d" % (gets, i) for i in draw.sample(range(n), draw.randrange(r, n + 1))], "endget %d" % gets]
-            known.setdefault(key, []).append(gets)
-            gets += 1
-    store.script = script
-
-
 def edited(entries: list[str], names: list[str], draw: random.Random) -> list[str]:
     """The entries with one of them changed, of nodes of these names."""
     entries, at, other, kind = list(entries), draw.randrange(len(entries)), draw.randrange(len(entries)), draw.randrange(8)
@@ -164,17 +146,17 @@ def see_part(words: list[str], text: str, bundle: str, mine: list[tuple[int, str
     return part
 
 
-def replay_parts(store: Store, bundle: str, entries: list[str]) -> tuple[int, int] | None:
-    faults, text, space = list[tuple[int, int]](), history(bundle, entries), 1 << store.bits
+def replay_parts(store: Traffic, bundle: str, entries: list[str]) -> tuple[int, int] | None:
+    faults, text, space = list[tuple[int, int]](), history(bundle, entries), 1 << store.machine.bits
     for share in range(SHARES):
-        mine = cut(entries, store.bits, lambda partition: partition % SHARES == share)
+        mine = cut(entries, store.machine.bits, lambda partition: partition % SHARES == share)
         part = see_part(["--of", str(SHARES), "--part", str(share)], text, bundle, mine, store.draw)
         fault = first_fault(ask(["replay"], part)[0])
         if fault:
             faults.append((mine[fault[0]][0], fault[1]))
     first = store.draw.randrange(space)
     last = store.draw.randrange(first, space)
-    see_part(["--partitions", "%d-%d" % (first, last)], text, bundle, cut(entries, store.bits, lambda partition: first <= partition <= last), store.draw)
+    see_part(["--partitions", "%d-%d" % (first, last)], text, bundle, cut(entries, store.machine.bits, lambda partition: first <= partition <= last), store.draw)
     return earliest(faults)
 
 
@@ -219,7 +201,7 @@ def machines() -> str:
     store, bundle, entries = next(it for it in made if it and len(it[2]) >= LENGTH)
     texts, answers = [history(bundle, entries)], list[str]()
     while len(texts) < 4:
-        text = history(bundle, edited(entries, store.ring.names, store.draw))
+        text = history(bundle, edited(entries, store.machine.ring.names, store.draw))
         if ask(["replay"], text)[0].startswith("no 70"):
             texts.append(text)
     for text in texts:
@@ -236,20 +218,20 @@ def history(bundle: str, entries: list[str]) -> str:
     return bundle + "\n".join(["history 1", *entries, "end"]) + "\n"
 
 
-def may_pass(store: Store, line: str, code: int, partitions: set[int]) -> bool:
+def may_pass(store: Traffic, line: str, code: int, partitions: set[int]) -> bool:
     """Whether an entry may be refused in the whole for hints that a sample leaves out."""
     word, number = line.split()[:2]
     if (word, code) not in (("do", 48), ("chunk", 42)):
         return False
-    step = store.steps[int(number)][0]
-    return step[0] == "retire" or int(step[1]) not in partitions
+    step = store.machine.steps[int(number)]
+    return step.kind == "retire" or step.partition not in partitions
 
 
-def judge_samples(store: Store, bundle: str, entries: list[str], fault: tuple[int, int] | None, tally: Counter[str]) -> None:
+def judge_samples(store: Traffic, bundle: str, entries: list[str], fault: tuple[int, int] | None, tally: Counter[str]) -> None:
     known = sorted({line.split()[1 + line.startswith("put ")] for line in entries if line.startswith(("put ", "get "))})
     for keys in (set(store.draw.sample(known, min(len(known), count))) for count in (1, 3)):
-        partitions = {place(key, store.bits) for key in keys}
-        mine = cut(entries, store.bits, partitions.__contains__, keys)
+        partitions = {place(key, store.machine.bits) for key in keys}
+        mine = cut(entries, store.machine.bits, partitions.__contains__, keys)
         found = first_fault(ask(["replay"], history(bundle, [line for _, line in mine]))[0])
         of_sample = (mine[found[0]][0], found[1]) if found else None
         has_it = fault is not None and any(number == fault[0] for number, _ in mine)
@@ -265,7 +247,7 @@ def judge_samples(store: Store, bundle: str, entries: list[str], fault: tuple[in
         tally[what] += 1
 
 
-def judge(store: Store, bundle: str, entries: list[str], tally: Counter[str]) -> None:
+def judge(store: Traffic, bundle: str, entries: list[str], tally: Counter[str]) -> None:
     whole = ask(["replay"], history(bundle, entries))
     if not whole[0].startswith(("yes", "no 70")):
         tally["with a line at fault"] += 1
@@ -277,19 +259,18 @@ def judge(store: Store, bundle: str, entries: list[str], tally: Counter[str]) ->
     judge_samples(store, bundle, entries, fault, tally)
 
 
-def history_of(number: int) -> tuple[Store, str, list[str]] | None:
-    """A store, its bundle without the history, and the entries of that."""
+def history_of(number: int) -> tuple[Traffic, str, list[str]] | None:
+    """A store with its traffic, its bundle without the history, and the entries of that."""
     draw = random.Random(number)
     lossy = draw.random() < 0.3
     ring, text = to_a_ring(draw, lossy) if lossy or draw.random() < 0.5 else to_members(draw)
     bundle, _, status = ask(["goal"], text)
-    store = Store(ring, read_steps(sections(bundle)[1]) if not status else [], draw)
-    if not any(fields[0] == "copy" for fields, _ in store.steps):
+    steps = texts.read_plan(bundle)[1].steps if not status else ()
+    if not any(step.kind == "copy" for step in steps):
         return None
-    begin(store, draw.choice([0, 0.5, 0.9]), lossy)
-    with_gets(store)
-    # What is refused has no entry.
-    return store, bundle, ["%s = %s" % it for it in zip(store.script, play(bundle, store.script)) if not it[1].startswith("no")]
+    traffic = Traffic(Machine(ring, steps), draw, draw.choice([0, 0.5, 0.9]))
+    traffic.run(draw.randrange(1, 6 * len(steps) + 3))
+    return traffic, bundle, traffic.machine.entries
 
 
 def attempt(number: int, tally: Counter[str]) -> None:
@@ -301,7 +282,7 @@ def attempt(number: int, tally: Counter[str]) -> None:
     tally["clients' entries"] += sum(it.split()[0] in CLIENTS for it in entries)
     judge(store, bundle, entries, tally)
     if entries:
-        judge(store, bundle, edited(entries, store.ring.names, store.draw), tally)
+        judge(store, bundle, edited(entries, store.machine.ring.names, store.draw), tally)
 
 
 def main(words: list[str]) -> int:

@@ -162,8 +162,8 @@ def steps(count):
 
 def rounds(moves):
     """A slot that goes to and fro between two nodes."""
-    out, copies, last = ["ring 1", "space 1", "quorum 3 2 2", "node a 4 in", "node b 4 in", "node c 4 in", "node d 4 in", "slots 0 a b c", "end", "plan 1"], [], 0
-    owner, other = "a", "d"
+    out, copies, last = ["ring 1", "space 1", "quorum 3 2 2", "node 1na 4 in", "node 2na 4 in", "node 3na 4 in", "node 4na 4 in", "slots 0 1na 2na 3na", "end", "plan 1"], [], 0
+    owner, other = "1na", "4na"
     for k in range(0, 4 * moves, 4):
         out.append(f"mirror 0 0 {other}" + (f" after {last}" if last else ""))
         out.append("copy 0 0 owner after " + " ".join(map(str, copies[-1:] + [k])))
@@ -171,7 +171,7 @@ def rounds(moves):
         copies.append(k + 1)
         last, owner, other = k + 3, other, owner
     chain = " ".join(map(str, copies))
-    return "\n".join(out + ["end", "cert 1", f"chain a {chain}", f"chain d {chain}", "end"]) + "\n"
+    return "\n".join(out + ["end", "cert 1", f"chain 1na {chain}", f"chain 4na {chain}", "end"]) + "\n"
 
 
 # The width of a character in hundredths of the font's size, rounded up: DejaVu Sans.

@@ -1,9 +1,9 @@
 #!/usr/bin/env python3
-"""How even by sizes the rings are that `ringplan goal --sizes` makes. It wants the program as it is built. `trials/sizes.py` tries 40 random changes, and with `--all` 500: of 8 to 128
+"""How even by sizes the rings are that `ringplan goal --layout` makes. It wants the program as it is built. `trials/sizes.py` tries 40 random changes, and with `--all` 500: of 8 to 128
 partitions, whose sizes are all 1, or 0 for a quarter, or 50 to 150, or log-normal, or as 1/k; and 192 ranges that are filled up to 256 by rows without keys.
 
-Of 200 of the plans, or all of fewer, `show --sizes` is compared with a count of its own: what moves in all, by node and by round, the most that copies have of which each waits for the one
-before, and the second in which the plan ends at the earliest.
+Of 200 of the plans, or all of fewer, `show --layout` is compared with a count of its own: what moves in all, by node and by round, the most that copies have of which each waits for the one
+before, and when the plan ends at the earliest.
 
 A ring is wrong where a slot has a new owner that is no leaver's and does not go, with keys, to a joiner that stores no more than its share; where a partition has more pairs of slots in
 one rack than before; and where the checker refuses the plan. The trial is wrong where more than one change of 500 has a joiner farther from its share than the largest size."""
@@ -99,20 +99,19 @@ def run(words: list[str], text: str) -> str:
 
 
 def by_sizes(case: Case, words: list[str], text: str) -> str:
-    """What a command prints that is given the sizes."""
-    with tempfile.NamedTemporaryFile("w", suffix=".sizes") as file:
-        file.writelines("%d %d\n" % (p, size) for p, size in enumerate(case.sizes) if size != 1)
+    """What a command prints that is given the sizes and the weights."""
+    with tempfile.NamedTemporaryFile("w", suffix=".layout") as file:
+        file.write("layout 1\n")
+        file.writelines("size %d %d\n" % (p, size) for p, size in enumerate(case.sizes))
+        file.writelines("weight %s %d\n" % (v, weight) for v, weight in case.weights.items())
+        file.write("end\n")
         file.flush()
-        return run([*words, "--sizes", file.name], text)
-
-
-def weights(case: Case) -> list[str]:
-    return [word for v, weight in case.weights.items() for word in ("--weight", "%s=%d" % (v, weight))]
+        return run([*words, "--layout", file.name], text)
 
 
 def planned(case: Case) -> tuple[str, list[list[str]]]:
     """The plan by sizes, which the checker accepts, and the owners after it."""
-    plan = by_sizes(case, ["goal", "--racks-behind", ".", *weights(case)], case.bundle())
+    plan = by_sizes(case, ["goal", "--racks-behind", "."], case.bundle())
     if run(["check"], plan) != "yes\n":
         raise SystemExit("the checker refuses a plan by sizes")
     return plan, [line.split()[2:] for line in run(["after"], plan).splitlines() if line.startswith("slots")]
@@ -161,8 +160,17 @@ def moved(case: Case, plan: str) -> Moved:
     return it
 
 
+def time_words(seconds: int) -> str:
+    """The seconds as they are said."""
+    if seconds < 120:
+        return "%d s" % seconds
+    if seconds < 3600:
+        return "%d min %02d s" % divmod(seconds, 60)
+    return "%d h %02d min" % (seconds // 3600, seconds % 3600 // 60)
+
+
 def shown_wrong(case: Case, plan: str, rate: int) -> str:
-    """What `show --sizes` says otherwise than the count, if something is."""
+    """What `show --layout` says otherwise than the count, if something is."""
     it = moved(case, plan)
     words = ["--all", "--rate", str(rate)]
     found = json.loads(by_sizes(case, ["show", "--format", "json", *words], plan))
@@ -174,7 +182,7 @@ def shown_wrong(case: Case, plan: str, rate: int) -> str:
         if (node["gives_size"], node["takes_size"]) != (it.gives[node["name"]], it.takes[node["name"]]):
             return "show states %s" % node
     text = by_sizes(case, ["show", *words], plan)
-    line = "sizes %d in all; copies that wait for one another have up to %d, so at %d a second the plan ends in second %d at the earliest" % (it.whole, it.longest, rate, end)
+    line = "sizes %d in all; copies that wait for one another have up to %d, so at %d a second the plan ends in %s at the earliest" % (it.whole, it.longest, rate, time_words(end))
     if line not in re.sub(r"\s+", " ", text):
         return "show says otherwise than: " + line
     rows = {fields[1]: fields[at - 3 : at - 1] for fields in map(str.split, text.splitlines()) if "->" in fields for at in [fields.index("->")]}

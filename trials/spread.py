@@ -108,7 +108,7 @@ def named():
     with open(os.path.join(TOP, "crates", "tests_cases", "data", "ring64_grow.bundle")) as it:
         two = it.read()
     for text, moves, rounds in ((three, 36, 6), (two, 26, 4)):
-        plan = subprocess.run([RUN, "goal", "--racks-behind", "."], input=text.encode(), capture_output=True, timeout=60).stdout
+        plan = subprocess.run([RUN, "goal"], input=text.encode(), capture_output=True, timeout=60).stdout
         words = subprocess.run([RUN, "show"], input=plan, capture_output=True, timeout=60).stdout.decode()
         for part in ("  moves     %d of " % moves, "  rounds    %d of " % rounds, "  joiners   no partition has more than one slot on them\n"):
             if part not in words:

@@ -25,7 +25,7 @@ import sys
 import tempfile
 import threading
 import time
-from collections import Counter, defaultdict
+from collections import Counter
 from collections.abc import Callable
 from functools import partial
 from typing import Any, NamedTuple
@@ -33,17 +33,14 @@ from typing import Any, NamedTuple
 TOP = pathlib.Path(__file__).resolve().parent.parent
 sys.path.insert(0, str(TOP / "python"))
 from ringplan import programs, texts
-from ringplan.run.board import names_of
 from ringplan.store.coordinator import Store
 from ringplan.store.executor import Died, Executor
 from ringplan.store.nodes import KINDS, choose
 from ringplan.store.traffic import Load, Run
-from ringplan.store.versions import is_at_most
+from ringplan.store.versions import Contents, is_at_most
 
 ENVIRONMENT = {**os.environ, "PYTHONPATH": str(TOP / "python")}
 NOT_NOW = 75
-# The events of steps.
-STEPPED = ("do", "open", "chunk", "close", "abort")
 # How long a right run may take, and how long its plan, in seconds: far more than they take on two slow processors.
 ENDS, LIMIT = 900, 600.0
 # Asks the store for a step, and ends with the status that it answers.
@@ -88,7 +85,9 @@ def case_of(seed: int, servers: str) -> Case:
     draw, kind = random.Random(f"case {seed}"), ("join", "replace", "leave", "dead", "losses", "many")[seed % 6]
     joiners = {"join": draw.randrange(1, 3), "leave": 0, "many": 3}.get(kind, 1)
     leavers = {"join": 0, "losses": 0, "many": draw.randrange(1, 3)}.get(kind, 1)
-    members, space = draw.randrange(max(5, 4 + leavers), 13 - joiners), 16 if seed % 4 == 3 else draw.choice((16, 32, 64))
+    dies = kind in ("join", "leave", "losses") and seed % 12 >= 6
+    # Where a node dies, chunks shall have keys: few partitions.
+    members, space = draw.randrange(max(5, 4 + leavers), 13 - joiners), 16 if seed % 4 == 3 else draw.choice((8, 16) if dies else (16, 32, 64))
     left = draw.sample([f"n{number}" for number in range(members)], leavers)
     change = [f"join n{members + number}" for number in range(joiners)] + [f"leave {node}" for node in left]
     quorum, form = ("3 2 3 1", 3) if kind == "losses" else ("3 2 2", 1)
@@ -101,7 +100,7 @@ def case_of(seed: int, servers: str) -> Case:
         load.faults *= 2
     else:
         load.faults, load.pace = load.faults / 2, 4 * load.pace
-    dies = kind in ("join", "leave") and seed % 12 >= 6
+    load.halves = 0.2 if dies else 0.0
     what = f"{kind}{', a node dies' if dies else ''}, {members + joiners} servers of {chosen}, {space} partitions, by {'ringplan-run' if hooks else 'threads'}"
     return Case(what, ring, load, tuple(left if kind == "dead" else ()), chosen, hooks, dies)
 
@@ -139,6 +138,7 @@ class ByRunner(Executor):
             self.open(step)
         if number not in self.marks[step.step]:
             self.copy_chunk(step, number)
+        self.store.settle(self.slot(step))
         if self.is_whole(step):
             self.opened.remove(step.step)
             self.finish(step, "close")
@@ -196,63 +196,90 @@ class ByRunner(Executor):
 
 
 class Around(Executor):
-    """A plan in whose middle a node dies for good. The workers meet, `ringplan around` makes another plan of the store's history, and they go on by that."""
+    """A plan in whose middle a node dies for good. The workers die in the middle of copies, or meet; `ringplan around` makes another plan of the store's history, and they go on by that.
+    It happens twice: the second time no other node dies."""
 
     def prepare(self, one: Run, bundle: str) -> None:
         self.run, self.bundle, self.problem, self.draw = one, bundle, "", random.Random(bundle)
-        self.part, self.has_met, self.is_meeting = self.draw.uniform(0.1, 0.6), False, False
-        self.meeting = threading.Barrier(one.load.workers, self.go_around)
+        self.part, self.left, self.is_meeting, self.is_over = self.draw.uniform(0.1, 0.5), 2, False, False
+        # The owners of the slots whose copies broke off in the middle of a chunk, and how many mirrors were undone.
+        self.torn, self.undone = list[str](), 0
+        self.meeting, self.worker = threading.Barrier(one.load.workers, self.meet), threading.local()
 
     def is_done(self) -> bool:
         return self.is_meeting or super().is_done()
 
+    def is_time(self, later: float) -> bool:
+        return self.left > 0 and len(self.done) >= (self.part + later) * len(self.steps)
+
     def claim(self, draw: random.Random) -> texts.StepLine | None:
-        if not self.has_met and len(self.done) >= self.part * len(self.steps):
+        if self.is_time(0.2):
             self.is_meeting = True
             return None
         return super().claim(draw)
 
+    def copy_chunk(self, step: texts.StepLine, chunk: int) -> None:
+        """Some workers die before a chunk, as the meeting begins."""
+        if self.is_time(0.0) and self.draw.random() < 0.2:
+            self.is_meeting = True
+        if self.is_meeting and self.draw.random() < 0.3:
+            raise Died
+        self.worker.copies = True
+        try:
+            super().copy_chunk(step, chunk)
+        finally:
+            self.worker.copies = False
+
+    def give(self, step: texts.StepLine, chunk: int, contents: Contents) -> None:
+        """Some workers die in the middle of a chunk: the mirror has a part of it."""
+        if self.is_meeting and getattr(self.worker, "copies", False) and self.draw.random() < 0.5:
+            self.torn.append(self.slot(step).owner.name)
+            super().give(step, chunk, dict(self.draw.sample(list(contents.items()), len(contents) // 2)))
+            raise Died
+        super().give(step, chunk, contents)
+
     def work(self, draw: random.Random, until: float, pace: float = 0.0) -> None:
-        super().work(draw, until, pace)
-        if self.is_meeting:
-            self.meeting.wait(LIMIT)
+        while not self.is_over:
             super().work(draw, until, pace)
+            self.meeting.wait(LIMIT)
+
+    def meet(self) -> None:
+        """All workers are here: in the middle of the plan, or at its end."""
+        self.is_over, self.is_meeting = super().is_done() or not self.is_meeting, False
+        if not self.is_over:
+            self.left, self.part = self.left - 1, self.part + 0.2
+            self.go_around()
+
+    def victim(self) -> str:
+        """A node that steps to come would read, or that mirrors a slot, or from which a copy was read that broke off."""
+        sources = {name for step in self.steps if step.step not in self.done for name in step.sources or ()}
+        mirrors = {slot.mirror.name for slot in self.store.all_slots() if slot.mirror is not None}
+        others = {member.name for member in self.store.members if member.is_member}
+        return self.draw.choice(sorted(self.draw.choice([sources, mirrors, set(self.torn)]) or sources or others))
 
     def go_around(self) -> None:
-        """Buries a node that steps to come would read, and goes over to the other plan. No worker does a step meanwhile; clients run on."""
-        self.has_met, self.is_meeting = True, False
-        dead = self.draw.choice(sorted({name for step in self.steps if step.step not in self.done for name in step.sources or ()}))
+        """Buries a node, and goes over to the other plan. No worker does a step meanwhile; clients run on."""
         with self.run.killing:
-            self.run.dead = (dead,)
+            self.run.dead = self.run.dead or (self.victim(),)
             self.run.bury()
-        with contextlib.ExitStack() as stack:
-            for partition in self.store.partitions:
-                stack.enter_context(partition.lock)
-            stack.enter_context(self.store.counting)
-            text = self.bundle + "\n".join(self.store.history.lines()) + "\n"
-        answer = programs.ask("around", text, "--dead", dead)
-        if answer.status:
-            self.problem = f"around says {answer.text}{answer.errors}"
-            return
-        *bundle, history = texts.read_texts(answer.text)
-        assert isinstance(history, texts.History)
-        self.bundle = texts.write_texts(bundle)
-        self.go_over(texts.read_steps(programs.ask("steps", self.bundle).text), history)
-
-    def go_over(self, steps: list[texts.StepLine], history: texts.History) -> None:
-        """Gives the steps of the store's history their new numbers, and leaves out copies that begin anew, as the other history does."""
-        old, new = names_of(self.steps), {name: number for number, name in enumerate(names_of(steps))}
-        told = [(entry.event[0], [int(word) for word in entry.event[1:]]) for entry in history.entries if entry.event[0] in STEPPED]
-        kept = {number for _, (number, *_) in told}
-        for mine in self.store.history.lists:
-            if any(event[0] in STEPPED for _, (event, _) in mine):
-                renamed = [(place, ((event[0], new.get(old[int(str(event[1]))], -1), *event[2:]) if event[0] in STEPPED else event, reply)) for place, (event, reply) in mine]
-                mine[:] = [one for one in renamed if one[1][0][0] not in STEPPED or one[1][0][1] in kept]
-        self.steps, self.done, self.opened, self.marks = steps, set(), set(), defaultdict(set)
-        for word, (number, *chunk) in told:
-            (self.done.add if word in ("do", "close") else self.opened.add)(number)
-            self.opened -= {number} if word in ("close", "abort") else set()
-            self.marks[number].update(chunk)
+            with contextlib.ExitStack() as stack:
+                for partition in self.store.partitions:
+                    stack.enter_context(partition.lock)
+                stack.enter_context(self.store.counting)
+                past = self.store.history.past()
+            # A mirror that is dead can be filled by no one: without `--back` its slot would wait for ever.
+            is_back = any(slot.mirror in self.store.dead for slot in self.store.all_slots()) or self.draw.random() < 0.5
+            words = [word for name in self.run.dead for word in ("--dead", name)] + ["--back"] * is_back
+            answer = programs.ask("around", "".join(f"{line}\n" for line in [*self.bundle.splitlines(), *self.store.history.lines(past.entries)]), *words)
+            if answer.status:
+                self.problem = f"around says {answer.text}{answer.errors}"
+                return
+            *bundle, history = texts.read_texts(answer.text)
+            assert isinstance(history, texts.History)
+            self.bundle = texts.write_texts(bundle)
+            mirrors = sum(slot.mirror is not None for slot in self.store.all_slots())
+            self.go_over(texts.read_steps(programs.ask("steps", self.bundle).text), history, past)
+            self.undone += mirrors - sum(slot.mirror is not None for slot in self.store.all_slots())
 
 
 def read_back(one: Run, draw: random.Random) -> int:
@@ -315,7 +342,9 @@ def run_right(seed: int, servers: str) -> dict[str, Any]:
         shutil.rmtree(folder)
     acknowledged = sum(put.is_acknowledged for put in store.puts)
     counts = {"entries": len(store.history.entries()), "acknowledged": acknowledged, "gets": len(store.gets), "steps": len(executor.done), "servers killed": one.kills, "in doubt": store.in_doubt}
-    return {"what": case.what, **counts, "workers died": executor.died, "runners killed": getattr(executor, "killed", 0), "seconds": round(took, 1), "faults": faults}
+    counts |= {"workers died": executor.died, "runners killed": getattr(executor, "killed", 0)}
+    counts |= {"chunks torn": len(getattr(executor, "torn", [])), "mirrors undone": getattr(executor, "undone", 0)}
+    return {"what": case.what, **counts, "seconds": round(took, 1), "faults": faults}
 
 
 def right(seed: int, servers: str) -> dict[str, Any]:

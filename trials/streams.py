@@ -1,7 +1,7 @@
 #!/usr/bin/env python3
 """Tries what the program reads and writes, from outside: files that are named, standard input, output and error, and a terminal. It wants the program as it
 is built."""
-import json, os, pty, re, stat, subprocess, sys, tempfile
+import bz2, gzip, json, lzma, os, pty, random, re, stat, subprocess, sys, tempfile
 
 top = os.path.dirname(os.path.dirname(os.path.abspath(__file__)))
 RUN = f"{top}/crates/ringplan/out/ringplan"
@@ -10,6 +10,9 @@ MOST = 67_108_864
 faults = []
 tried = 0
 
+
+# What standard error says of a goal whose nodes have no racks.
+NO_RACKS = b"ringplan: no racks known: a layout may name them (--layout), or --racks-behind C the character in front of them\n"
 
 def run(*words, given=b"", folder=None):
     ran = subprocess.run([RUN, *words], input=given, stdout=subprocess.PIPE, stderr=subprocess.PIPE, timeout=60, cwd=folder)
@@ -52,8 +55,39 @@ def files(folder):
     with open(large, "wb") as it:
         it.truncate(MOST)
     owes("a file of the most bytes", run("check", large), contains(b"no "), b"", 2)
-    owes("two files", run("check", good, good), b"", contains(b"unexpected argument"), 2)
+    together(folder)
     owes("a file that is only there", run("plan", plan), contains(b"plan 1\n"), b"", 0)
+
+
+def together(folder):
+    """Several files are read as one text, in the order of the line; `-` is standard input."""
+    text = read("plan_replace")
+    whole = run("goal", given=text)[0]
+    # Also where a line is cut in two, and where a part is empty.
+    for cuts in ([text.index(b"change 1")], [0], [len(text)], [3, 100], [7, 7, 50, 120]):
+        ends = [0, *cuts, len(text)]
+        parts, names = [text[a:b] for a, b in zip(ends, ends[1:])], []
+        for number, part in enumerate(parts):
+            names.append(f"{folder}/part{number}")
+            with open(names[-1], "wb") as it:
+                it.write(part)
+        owes(f"{len(parts)} files", run("goal", *names), whole, NO_RACKS, 0)
+        for place in range(len(parts)):
+            dashed = [*names[:place], "-", *names[place + 1 :]]
+            owes(f"{len(parts)} files and standard input", run("goal", *dashed, given=parts[place]), whole, NO_RACKS, 0)
+        owes("a part that is missing", run("goal", *names, f"{folder}/none"), b"", contains(b"none: No such file or directory"), 3)
+    owes("a text twice", run("check", f"{EXAMPLES}/move_one_slot.bundle", f"{EXAMPLES}/move_one_slot.bundle"), lambda it: it.startswith(b"no 1 "), b"", 2)
+    owes("dashes", run("check", "-", "-", given=read("move_one_slot")), b"yes\n", b"", 0)
+    ring, change = text[: text.index(b"change 1")], text[text.index(b"change 1") :]
+    for name, part in (("ring.txt", ring), ("change.txt", change)):
+        with open(f"{folder}/{name}", "wb") as it:
+            it.write(part)
+    owes("options between files", run("goal", f"{folder}/ring.txt", "--exit-code", f"{folder}/change.txt"), whole, NO_RACKS, 4)
+    owes("the change first", run("goal", f"{folder}/change.txt", f"{folder}/ring.txt"), b"", contains(b"the ring comes first"), 2)
+    half = f"{folder}/half"
+    with open(half, "wb") as it:
+        it.truncate(MOST // 2 + 1)
+    owes("files that are too large together", run("check", half, half), b"no 2 0\n", b"", 2)
 
 
 def dead():
@@ -61,53 +95,57 @@ def dead():
     said = read("plan_replace")
     unsaid = said.replace(b"leave b\n", b"")
     plan = run("goal", "--dead", "b", given=said)[0]
-    owes("a dead member that leaves", run("goal", "--dead", "b", given=said), contains(b"copy 0 1 slots 0 2"), b"", 0)
-    owes("a dead member that stays", run("goal", "--dead", "b", given=unsaid), plan, b"ringplan: b is dead, so it leaves, though the change does not say so\n", 0)
+    owes("a dead member that leaves", run("goal", "--dead", "b", given=said), contains(b"copy 0 1 slots 0 2"), NO_RACKS, 0)
+    owes("a dead member that stays", run("goal", "--dead", "b", given=unsaid), plan, NO_RACKS + b"ringplan: b is dead, so it leaves, though the change does not say so\n", 0)
     owes("a dead member, twice", run("goal", "--dead", "b", "--dead", "b", given=unsaid), plan, contains(b"b is dead"), 0)
 
 
-def sizes(folder):
-    """What a file of sizes is refused for, and where."""
-    given, plan = read("plan_replace"), f"{folder}/sizes"
-    words = b"refused: line 3 of the sizes names partition 7, and the ring has 4 partitions\n"
+def layouts(folder):
+    """What a layout is refused for, and where."""
+    given, plan = read("plan_replace"), f"{folder}/layout"
+    ring = given.split(b"change 1\n")[0]
+    partition = b"refused: line 4 of the layout names partition 7, and the ring has 4 partitions\n"
+    node = b"refused: line 3 of the layout names bb, and the ring declares no such node\n"
+
+    def faulty(line: int, fault: str) -> bytes:
+        return f"ringplan: line {line} of the layout {plan}: {fault}\n".encode()
+
+    unknown = "not `rack NODE NAME`, `weight NODE K`, `size P N`, `alias NODE TEXT`, `dead NODE` or `end`"
     for text, errors in (
-        (b"0 5\n2 0\n", b""),
-        (b"", b""),
-        (b"0 5\n1 5\n7 5\n", b"no 2 3\n" + words),
-        (b"0 5\n1 5\n7 5\n8 5\n9 5\n", b"no 2 3\n" + words),
-        (b"0 5\n1", f"no 1 2 in {plan}\n".encode()),
-        (b"0 5\n1 x\n", f"no 1 2 in {plan}\n".encode()),
-        (b"0 4294967296\n", f"no 2 1 in {plan}\n".encode()),
-        (b"1 5\n0 5\n", f"no 4 2 in {plan}\n".encode()),
+        (b"layout 1\nsize 0 5\nsize 2 0\nend\n", b""),
+        (b"layout 1\nend\n", b""),
+        (b"layout 1\n\n# a comment\n#another\nend\n", b""),
+        (b"layout 1\nsize 0 5\nsize 1 5\nsize 7 5\nend\n", b"no 2 4\n" + partition),
+        (b"layout 1\nsize 0 5\nweight bb 2\nend\n", b"no 3 0\n" + node),
+        (b"layout 1\nsize 0 5\nsize 1", faulty(3, unknown)),
+        (b"", faulty(1, "a layout begins with `layout 1`")),
+        (b"layout 1\nsize 0 x\nend\n", faulty(2, unknown)),
+        (b"layout 1\nsize 0 281474976710656\nend\n", faulty(2, "a number is too great, or there are too many lines")),
+        (b"layout 1\nsize 0 281474976710655\nend\n", b""),
+        (b"layout 1\nsize 1 5\nsize 0 5\nsize 1 5\nend\n", faulty(4, "an earlier line says the same of that node or partition")),
+        (b"layout 1\nrack a x\nend\n", b"no 3 0\nrefused: the rack of "),
     ):
         with open(plan, "wb") as it:
             it.write(text)
-        owes(f"goal by sizes {text!r}", run("goal", "--sizes", plan, given=given), lambda it: bool(it) == (not errors), errors, 2 if errors else 0)
-        for word in ("show", "show --format json"):
-            found = run(*word.split(), "--sizes", plan, given=given)
-            if "json" in word and errors.endswith(words):
-                stated = said_as_json(f"{word} by sizes {text!r}", found[0], errors.split(b"\n")[0])
-                owes(f"{word} by sizes {text!r}", (stated.get("words", "").encode(), *found[1:]), words, b"", 2)
-            else:
-                owes(f"{word} by sizes {text!r}", found, lambda it: bool(it) == (not errors), errors, 2 if errors else 0)
-    ring = given.split(b"change 1\n")[0]
-    owes("a ring alone by sizes", run("show", "--sizes", plan, given=ring), b"", f"no 4 2 in {plan}\n".encode(), 2)
+        for word in ("goal", "show", "draw", "steps", "windows --rounds 1"):
+            found = run(*word.split(), "--layout", plan, given=given)
+            begins = errors or b"ringplan: no racks known: "
+            owes(f"{word} by layout {text!r}", found, lambda it: bool(it) == (not errors), lambda it: it.startswith(begins), 2 if errors else 0)
     with open(plan, "wb") as it:
-        it.write(b"1 5\n7 5\n")
-    owes("a ring alone by a size too many", run("show", "--sizes", plan, given=ring), b"", b"no 2 2\n" + words.replace(b"3", b"2", 1), 2)
-    owes("a ring alone by a size too many, as JSON", run("show", "--format", "json", "--sizes", plan, given=ring), contains(b"line 2 of the sizes"), b"", 2)
-    owes("a fault before the sizes", run("show", "--sizes", plan, given=read("copy_out_of_order")), b"", contains(b"no 2"), 1)
+        it.write(b"layout 1\nalias a riak@10.0.0.1\nrack a x\nrack b y\nrack c x\nend\n")
+    for part in (b"riak@10.0.0.1", b"  racks     "):
+        owes("a ring alone by a layout", run("show", "--layout", plan, given=ring), contains(part), b"", 0)
+    owes("a fault before the layout's", run("show", "--layout", plan, given=read("copy_out_of_order")), b"", contains(b"no 2"), 1)
     with open(plan, "wb") as it:
-        it.write(b"1 5\n")
-    owes("a ring alone by good sizes", run("show", "--sizes", plan, given=ring), run("show", given=ring)[0], b"", 0)
-    owes("a rate", run("show", "--sizes", plan, "--rate", "2", given=given), lambda it: b"at 2 a second the plan ends in second" in b" ".join(it.split()), b"", 0)
+        it.write(b"layout 1\nsize 1 5\nend\n")
+    owes("a rate", run("show", "--layout", plan, "--rate", "2", given=given), lambda it: b"at 2 a second the plan ends in 4 s at the earliest" in b" ".join(it.split()), contains(b"no racks known"), 0)
     for form in ("text", "json"):
-        owes("a rate without sizes", run("show", "--rate", "2", "--format", form), b"", contains(b"'--rate <N>' wants '--sizes <FILE>'"), 2)
+        owes("a rate without a layout", run("show", "--rate", "2", "--format", form), b"", contains(b"'--rate <N>' wants '--layout <FILE>'"), 2)
     for rate in ("0", "4294967296", "x", ""):
-        owes(f"a rate of {rate}", run("show", "--sizes", plan, "--rate", rate), b"", contains(b"--rate <N>"), 2)
-    for word in ("draw", "windows --rounds 1", "cert"):
-        owes(f"{word} by sizes", run(*word.split(), "--sizes", plan), b"", contains(b"unexpected argument"), 2)
-    owes("goal by no sizes", run("goal", "--sizes", f"{folder}/none", given=given), b"", contains(b"No such file or directory"), 3)
+        owes(f"a rate of {rate}", run("show", "--layout", plan, "--rate", rate), b"", contains(b"--rate <N>"), 2)
+    for word in ("after", "why", "cert"):
+        owes(f"{word} by a layout", run(*word.split(), "--layout", plan), b"", contains(b"unexpected argument"), 2)
+    owes("goal by no layout", run("goal", "--layout", f"{folder}/none", given=given), b"", contains(b"No such file or directory"), 3)
 
 
 def outputs(folder):
@@ -115,7 +153,7 @@ def outputs(folder):
     target = f"{folder}/out"
     whole = run("goal", plan)[0]
     for option in (["-o", target], [f"--output={target}"], [f"-o{target}"]):
-        owes("an output", run("goal", *option, plan), b"", b"", 0)
+        owes("an output", run("goal", *option, plan), b"", NO_RACKS, 0)
         with open(target, "rb") as it:
             if it.read() != whole:
                 faults.append(f"{option}: another text")
@@ -129,12 +167,12 @@ def outputs(folder):
             faults.append("a refusal changes the output's file")
     owes("an output in no folder", run("goal", "-o", f"{folder}/none/out", plan), b"", contains(b"No such file or directory"), 3)
     owes("an output that is a folder", run("goal", "-o", folder, plan), b"", contains(b"Is a directory"), 3)
-    owes("a device", run("goal", "-o", "/dev/null", plan), b"", b"", 0)
+    owes("a device", run("goal", "-o", "/dev/null", plan), b"", NO_RACKS, 0)
     if not os.path.exists("/dev/null") or os.path.isfile("/dev/null"):
         faults.append("/dev/null is no device any more")
     owes("a full device", run("goal", "-o", "/dev/full", plan), b"", contains(b"No space left on device"), 3)
-    owes("a dash", run("goal", "-o", "-", plan), whole, b"", 0)
-    owes("an output with an exit code", run("goal", "--exit-code", "-o", target, plan), b"", b"", 4)
+    owes("a dash", run("goal", "-o", "-", plan), whole, NO_RACKS, 0)
+    owes("an output with an exit code", run("goal", "--exit-code", "-o", target, plan), b"", NO_RACKS, 4)
     with open(target, "rb") as it:
         if it.read() != whole:
             faults.append("an exit code: another text")
@@ -161,7 +199,7 @@ def beside(folder, plan, whole):
         it.write(b"mine")
     os.symlink(victim, f"{target}.1.part")
     os.mkfifo(f"{target}.2.part")
-    owes("an output beside other parts", run("goal", "-o", target, plan), b"", b"", 0)
+    owes("an output beside other parts", run("goal", "-o", target, plan), b"", NO_RACKS, 0)
     has("that output", target, whole)
     has("a part that was there", f"{target}.part", b"mine")
     has("what a part leads to", victim, b"mine")
@@ -172,13 +210,13 @@ def beside(folder, plan, whole):
         os.chmod(victim, mode)
         os.symlink("victim", f"{folder}/near")
         os.symlink("../" + os.path.basename(folder) + "/near", f"{folder}/far")
-        owes("an output that is a link", run("goal", "-o", f"{folder}/far", plan), b"", b"", 0)
+        owes("an output that is a link", run("goal", "-o", f"{folder}/far", plan), b"", NO_RACKS, 0)
         has("what the link leads to", victim, whole)
         owes("that link, and its permissions", (b"", b"", [os.readlink(f"{folder}/near"), stat.S_IMODE(os.stat(victim).st_mode)]), b"", b"", ["victim", mode])
         os.remove(f"{folder}/near")
         os.remove(f"{folder}/far")
     os.symlink("none", f"{folder}/near")
-    owes("an output that is a link to nothing", run("goal", "-o", f"{folder}/near", plan), b"", b"", 0)
+    owes("an output that is a link to nothing", run("goal", "-o", f"{folder}/near", plan), b"", NO_RACKS, 0)
     has("what it leads to then", f"{folder}/none", whole)
     os.symlink("ring", f"{folder}/ring")
     owes("an output that is a link to itself", run("goal", "-o", f"{folder}/ring", plan), b"", contains(b"symbolic links"), 3)
@@ -187,7 +225,7 @@ def beside(folder, plan, whole):
     together = [subprocess.Popen([RUN, "goal", "-o", target, plan], stdout=subprocess.PIPE, stderr=subprocess.PIPE) for _ in range(20)]
     for ran in together:
         output, errors = ran.communicate(timeout=60)
-        owes("one of 20 runs for one output", (output, errors, ran.returncode), b"", b"", 0)
+        owes("one of 20 runs for one output", (output, errors, ran.returncode), b"", NO_RACKS, 0)
     has("the output of 20 runs", target, whole)
     owes("what is left of 20 runs", (b"", b"", os.listdir(folder)), b"", b"", ["out"])
 
@@ -210,7 +248,7 @@ def escapes():
         lines = [line["text"].encode() for line in stated.get("mend", {"lines": []})["lines"]]
         owes("a mend with bytes that steer a terminal", (b"".join(lines), stated["words"].encode(), 0), is_printed, is_printed, 0)
     word = "\x1b[2;31mx\x9b"
-    for words in (["check", word], ["check", f"--{word}"], ["goal", f"--{word}"], [word], ["goal", "--dead", word], ["goal", "-o", f"{word}/x"], ["goal", "--sizes", word], ["show", "--format", word]):
+    for words in (["check", word], ["check", f"--{word}"], ["goal", f"--{word}"], [word], ["goal", "--dead", word], ["goal", "-o", f"{word}/x"], ["goal", "--layout", word], ["show", "--format", word]):
         found = run(*words, given=read("plan_replace"))
         owes(f"the words {words!r}", (found[0] + found[1], b"", found[2]), lambda it: is_printed(it) and it != b"", b"", lambda it: it in (2, 3))
 
@@ -232,11 +270,13 @@ def streams():
         ("bundle", "there is no `bundle`: use `goal` for a change, and `cert` for a plan"),
         ("goal --even", "there is no `goal --even`: use `show`, which says how even a ring is"),
         ("drive --json", "there is no `drive --json`: use `drive --format json`"),
+        ("goal --sizes x", "there is no `--sizes`: use `--layout`, with `size` lines"),
+        ("goal --weight a=2", "there is no `--weight`: use `--layout`, with `weight` lines"),
     ):
         owes(f"what to type instead of {gone}", run(*gone.split()), b"", lambda it: it.startswith(b"error: ") and it.endswith(f"\nringplan: {instead}\n".encode()), 2)
     owes("a wrong option before the command", run("--ded", "check"), b"", contains(b"unexpected argument"), 2)
     owes("a dead node whose name begins with -", run("goal", "--dead=-x", given=read("plan_replace")), b"", contains(b"names -x,"), 2)
-    owes("a wrong weight", run("goal", "--weight", "b"), b"", contains(b"--weight <NODE=K>"), 2)
+    owes("a wrong character before racks", run("goal", "--racks-behind", "ab"), b"", contains(b"--racks-behind <C>"), 2)
     owes("a wrong number of rounds", run("windows", "--rounds", "0"), b"", contains(b"1..=1000000"), 2)
     ring = read("plan_replace").split(b"change 1\n")[0]
     owes("a goal that is reached", run("goal", given=ring + b"change 1\nend\n"), ring + b"plan 1\nend\ncert 1\nend\n", contains(b"the plan has no steps"), 0)
@@ -405,11 +445,11 @@ def statements():
         owes(f"{word} in no form", run(word, "--format", "xml"), b"", contains(b"not text or json"), 2)
 
 
-def at_terminal(*words, **environment):
-    """What the words print on a terminal."""
+def at_terminal(*words, errors=subprocess.PIPE, **environment):
+    """What the words print on a terminal; with `errors=None` also what standard error has."""
     ours, theirs = pty.openpty()
     known = {key: value for key, value in os.environ.items() if key != "NO_COLOR"} | environment
-    with subprocess.Popen([RUN, *words], stdout=theirs, stderr=subprocess.PIPE, env=known) as ran:
+    with subprocess.Popen([RUN, *words], stdout=theirs, stderr=errors or theirs, env=known) as ran:
         os.close(theirs)
         found = b""
         try:
@@ -441,6 +481,106 @@ def colors():
     owes("colours of a check", run("check", "--color", "never"), b"", contains(b"unexpected argument"), 2)
 
 
+def unpacked(said, text, folder):
+    """What the command that is said makes of the text in the file that it calls FILE."""
+    command = re.search(rb"`([^`]* > MENDED)`", said)
+    if not command:
+        return b""
+    with open(f"{folder}/FILE", "wb") as it:
+        it.write(text)
+    subprocess.run(command[1], shell=True, cwd=folder, check=False)
+    with open(f"{folder}/MENDED", "rb") as it:
+        return it.read()
+
+
+def kinds(folder):
+    """Inputs of other kinds: what they are is said, and a command that makes a text of them does."""
+    text = read("plan_replace")
+    plain = text.decode()
+    for what, given in (
+        (b"gzip", gzip.compress(text)),
+        (b"xz", lzma.compress(text)),
+        (b"bzip2", bz2.compress(text)),
+        (b"UTF-16", plain.encode("utf-16")),
+        (b"UTF-16LE", plain.encode("utf-16-le")),
+        (b"UTF-16BE", plain.encode("utf-16-be")),
+    ):
+        for word in ("goal", "why"):
+            output, errors, status = run(word, given=given)
+            owes(f"{word} of {what}", (output + errors, b"", status), lambda it: it.startswith(b"no 1 1\nrefused: the input is ") and what in it and b"mend:" not in it, b"", 2)
+            has_text = unpacked(output + errors, given, folder)
+            owes(f"what the command of {word} makes of {what}", (has_text, b"", 0), text, b"", 0)
+    for seed in range(20):
+        given = random.Random(seed).randbytes(2000)
+        owes(f"random bytes {seed}", run("goal", given=given), b"", lambda it: it.startswith(b"no 1 1\nrefused: the input is"), 2)
+    for number in (4, 17):
+        later = text.replace(b"ring 1", b"ring %d" % number)
+        owes(f"a ring of format {number}", run("goal", given=later), b"", lambda it: b"format %d, and this program reads 1 to 3" % number in it and b"mend" not in it, 2)
+
+
+def faulty_lines(words, given):
+    """The lines at fault that are stated, and the text with the mend that is stated."""
+    stated = json.loads(run(*words, "--format", "json", given=given)[0])
+    return stated["lines"], mended(given, stated["mend"]) if "mend" in stated else given
+
+
+def first():
+    """What people type first, and what they get wrong in a ring."""
+    text = read("plan_replace")
+    ring = text[: text.index(b"change 1")]
+    count = ring.count(b"\n")
+    change = text[len(ring) :]
+    plan = run("goal", given=text)[0]
+    owes("a ring alone", run("goal", given=ring), b"", lambda it: it.startswith(b"no 1 %d\nrefused: a change is missing after the ring\n" % (count + 1)), 2)
+    owes("a plan for a goal", run("goal", given=plan), b"", contains(b"refused: the bundle has a plan already\n"), 2)
+    owes("the change first", run("goal", given=change + ring), b"", contains(b"the ring comes first, and begins in line %d\n" % (change.count(b"\n") + 1)), 2)
+    for given, words in ((plan, b"the bundle has no history"), (text, b"and the bundle has a change"), (ring, b"and the bundle has a ring only")):
+        owes("around without a history", run("around", "--dead", "b", given=given), b"", lambda it: words in it and b"`ringplan goal --dead NODE`" in it and b"mend" not in it, 2)
+    owes("around with a fault in its plan", run("around", "--dead", "b", given=plan.replace(b"mirror", b"mirorr")), b"", lambda it: b"mend: `mirror` was meant?" in it and b"goal --dead" not in it, 2)
+    # The ring has members a, b and c, and d joins.
+    for names, left in (("ab", 2), ("abc", 1), ("abcd", 0)):
+        dead = [f"--dead={name}" for name in names]
+        stays = ring + b"change 1\n" + (b"join d\n" if "d" not in names else b"") + b"end\n"
+        owes(f"{names} dead", run("goal", *dead, given=stays), b"", contains(b"there is no plan: %d member" % left), 1)
+    windows = run("windows", "--rounds", "1", given=text)[0].count(b"ring 1\n")
+    owes("a window that is not there", run("windows", "--rounds", "1", "--only", "99", given=text), b"", contains(b"there %s %d window" % (b"is" if windows == 1 else b"are", windows)), 1)
+    five = text.replace(b"quorum 3 2 2", b"quorum 5 3 3")
+    lines, mend = faulty_lines(["why"], five)
+    owes("a quorum of five over rows of three", (lines, mend, 0), [3], text, 0)
+    wide = text.replace(b"quorum 3 2 2", b"quorum 5 3 4")
+    owes("another quorum of five", (*faulty_lines(["why"], wide), 0), [3], text, 0)
+    high = text.replace(b"quorum 3 2 2", b"quorum 4 2 3")
+    owes("a quorum of four that also serves three", (*faulty_lines(["why"], high), 0), [3], text.replace(b"quorum 3 2 2", b"quorum 3 2 3"), 0)
+    rows = [line for line in text.split(b"\n") if line.startswith(b"slots ")]
+    twice = text.replace(rows[1], rows[1] + b"\n" + rows[1])
+    place = twice.split(b"\n").index(rows[1]) + 2
+    owes("a partition twice", (*faulty_lines(["why"], twice), 0), [place], text, 0)
+    misnamed = text.replace(b"slots 1 ", b"slots 0 ")
+    owes("a partition misnamed", (*faulty_lines(["why"], misnamed), 0), [place - 1], text, 0)
+    for name in (b"riak@10.0.0.1", b"Kv01", b"ip-10-0-12-133.eu-central-1.compute.internal", b"3F2504E0-4F89-11D3-9A0C-0305E82C3301"):
+        named = text.replace(b"node a ", b"node " + name + b" ")
+        owes(f"a node named {name!r}", run("goal", given=named), b"", lambda it: b"1 to 32 of a-z 0-9 _ . : -" in it and b"`alias NAME " + name + b"`" in it, 2)
+    told = read("replay_a_move")
+    front, history = told.split(b"history 1\n")
+    entries = history.split(b"\n")
+    place = front.count(b"\n") + 2
+    timed = front + b"history 1\n" + b"\n".join([b"2026-11-30T05:00:00Z " + entries[0], *entries[1:]])
+    owes("a time before an entry", (*faulty_lines(["why"], timed), 0), [place], told, 0)
+    owes("times before all entries", run("show", given=front + b"history 1\n" + b"".join(b"17:05 " + it + b"\n" for it in entries[:-2]) + b"end\n"), b"", contains(b"an entry begins with its event"), 2)
+
+
+def advice():
+    """At a terminal a refusal in one line has a second one, which names the command with words for it."""
+    refused, good = f"{EXAMPLES}/copy_out_of_order.bundle", f"{EXAMPLES}/move_one_slot.bundle"
+    for words, environment in (("check", {}), ("check --workers 2", {}), ("check", {"NO_COLOR": "1"})):
+        shown = at_terminal(*words.split(), refused, errors=None, **environment)
+        owes(f"{words} at a terminal", (shown, b"", 0), lambda it: it.startswith(b"no 22 ") and it.count(b"`ringplan why FILE` says why") == 1, b"", 0)
+    owes("a replay without a history at a terminal", (at_terminal("replay", good, errors=None), b"", 0), contains(b"also wants a history"), b"", 0)
+    for words in (["check", good], ["check", "--format", "json", refused], ["why", refused], ["goal", refused], ["check", "--ded"]):
+        owes(f"{words} at a terminal", (at_terminal(*words, errors=None), b"", 0), lambda it: b"says why" not in it and it != b"", b"", 0)
+    owes("a check elsewhere", run("check", refused), lambda it: it.startswith(b"no 22 "), b"", 1)
+
+
 def terminal():
     """At a terminal with nothing to read the program says that it waits, and its first end of input is the last."""
     for words, name, owed in (("check", "move_one_slot", b"yes\n"), ("part --of 1 --part 0", "replay_a_move", read("replay_a_move"))):
@@ -456,14 +596,17 @@ def terminal():
 with tempfile.TemporaryDirectory() as scratch:
     files(scratch)
     outputs(scratch)
-    sizes(scratch)
+    layouts(scratch)
     parts(scratch)
+    kinds(scratch)
 dead()
 streams()
 escapes()
 formats()
 statements()
 colors()
+first()
+advice()
 terminal()
 for fault in faults:
     print(fault)

@@ -7,6 +7,7 @@ import os
 import random
 import subprocess
 import sys
+import tempfile
 from math import lcm
 
 TOP = os.path.dirname(os.path.dirname(os.path.abspath(__file__)))
@@ -37,21 +38,25 @@ def case(number):
 
 
 def asked(change):
-    """The names of the nodes, the options and the bundle."""
+    """The names of the nodes, the lines of the layout and the bundle."""
     n, member, bears, rows, joins, leaves, weights, racks = change
     names = ["n%d.%s" % (v, "k%d" % racks[v] if v < len(racks) else "own%d" % v) for v in range(len(member))]
     lines = ["ring 2", "space %d" % len(rows), "quorum %d 1 %d" % (n, n)]
     lines += ["node %s %s %s" % (names[v], bears[v], "in" if member[v] else "out") for v in range(len(member))]
     lines += ["slots %d %s" % (p, " ".join(names[v] for v in row)) for p, row in enumerate(rows)]
     lines += ["end", "change 1"] + ["join " + names[v] for v in joins] + ["leave " + names[v] for v in leaves] + ["end"]
-    options = [word for v, weight in enumerate(weights) for word in ("--weight", "%s=%d" % (names[v], weight))]
-    return names, ["--racks-behind", ".", *options], "\n".join(lines) + "\n"
+    layout = "".join("weight %s %d\n" % (names[v], weight) for v, weight in enumerate(weights))
+    return names, layout, "\n".join(lines) + "\n"
 
 
 def answered(change):
     """The owners by number after the plan, and None where there is none."""
-    names, options, text = asked(change)
-    ran = subprocess.run([RUN, "goal", *options], input=text.encode(), capture_output=True, timeout=60)
+    names, layout, text = asked(change)
+    with tempfile.NamedTemporaryFile("w", suffix=".layout") as file:
+        file.write("layout 1\n" + layout + "end\n")
+        file.flush()
+        options = ["--racks-behind", ".", "--layout", file.name]
+        ran = subprocess.run([RUN, "goal", *options], input=text.encode(), capture_output=True, timeout=60)
     out = (ran.stdout + (ran.stderr if ran.returncode else b"")).decode()
     if out.startswith("no 28\n") and ran.returncode == 1:
         return None

@@ -52,14 +52,14 @@ PICTURES = {
 }
 
 # Pictures of another kind than the plan's rounds.
-OPTIONS = {"map64": ["--map", "--racks-behind", "."]}
+OPTIONS = {"map64": ["--map"]}
 
 only_compares = sys.argv[1:] == ["--compare"]
 old = []
 for name, bundle in PICTURES.items():
-    drawn = subprocess.run([PROGRAM, "draw", *OPTIONS.get(name, [])], input=bundle.encode(), stdout=subprocess.PIPE)
+    drawn = subprocess.run([PROGRAM, "draw", *OPTIONS.get(name, [])], input=bundle.encode(), capture_output=True)
     if drawn.returncode:
-        sys.exit(f"{name}: {drawn.stdout.decode()}")
+        sys.exit(f"{name}: {drawn.stdout.decode()}{drawn.stderr.decode()}")
     if only_compares:
         with open(f"{here}/{name}.svg", "rb") as it:
             if it.read() != drawn.stdout:

@@ -4,8 +4,9 @@
     tablets        rows of `system.tablets` of ScyllaDB as JSON, one a line or in a list: `last_token` and `replicas`, pairs of a host and a shard
     csv            lines `partition,node,rack`, a line for each slot, in the order of its slots
 
-A node's name in the ring is its name in the source, in lower case and without the dashes of a UUID, with `.rack` after it where the source says the rack. A number of partitions that is no power of
-two is filled up by the first rows once more; such a partition has no keys. The samples by which this is tested are written by hand from the public documentation.
+A node's name in the ring is its name in the source, in lower case and without the dashes of a UUID, with `.rack` after it if the source names the rack. If the number of ranges is not a power of
+two, the first rows are repeated, and standard error says how many; the repeats have no keys. `--layout-to FILE` writes a layout for `ringplan`: the rack of each node, and size 0 for each repeat. The
+samples of the tests are written by hand from the public documentation.
 """
 
 from __future__ import annotations
@@ -13,6 +14,7 @@ from __future__ import annotations
 import argparse
 import csv
 import json
+import pathlib
 import re
 import sys
 from collections.abc import Callable, Iterable, Iterator
@@ -95,6 +97,31 @@ def ring_of(rows: Rows, quorum: tuple[int, int], allowance: int, joining: list[s
     return Ring(1, (sizes.pop(), *quorum), tuple(declared), tuple(named[number % len(named)] for number in range(whole)))
 
 
+def racks_of(rows: Rows, joining: list[str]) -> dict[str, str]:
+    """The rack of each node, if the source names racks. A joining node's rack is what follows the last `.` of its name."""
+    racks = {name_of(node, rack): rack.lower() for row in rows for node, rack in row}
+    if not any(racks.values()):
+        return {}
+    racks |= {name: name.rpartition(".")[2] if "." in name else "" for name in joining}
+    lacking = [name for name, rack in sorted(racks.items()) if not rack]
+    if lacking:
+        raise BadSource(f"the rack of {lacking[0]} is not known, and a layout needs that of each node (`--join NAME.RACK`)")
+    return racks
+
+
+def layout_lines(rows: Rows, ring: Ring, joining: list[str]) -> Iterator[str]:
+    """The layout: the nodes' racks in the order of the ring, and size 0 for each partition that repeats a row."""
+    racks = racks_of(rows, joining)
+    yield "layout 1"
+    yield from (f"rack {node.name} {racks[node.name]}" for node in ring.nodes if racks)
+    yield from (f"size {partition} 0" for partition in range(len(rows), len(ring.rows)))
+    yield "end"
+
+
+def note(words: str) -> None:
+    print(f"ringplan-import: {words}", file=sys.stderr)
+
+
 def lines_of(path: str) -> Iterator[str]:
     if path == "-":
         yield from sys.stdin
@@ -111,12 +138,19 @@ def main() -> int:
     parser.add_argument("--write", type=int, default=2, metavar="W", help="slots that take a write")
     parser.add_argument("--allowance", type=int, default=2, metavar="K", help="transfers that each node may have open at once")
     parser.add_argument("--join", action="append", default=[], metavar="NAME", help="a node that is declared out, so that a change can let it join")
+    parser.add_argument("--layout-to", metavar="FILE", help="write a layout too: the racks that the source names, and size 0 for each range that only fills up")
     words = parser.parse_intermixed_args()
     try:
-        ring = ring_of(SOURCES[words.source](lines_of(words.file)), (words.read, words.write), words.allowance, words.join)
+        rows = SOURCES[words.source](lines_of(words.file))
+        ring = ring_of(rows, (words.read, words.write), words.allowance, words.join)
+        if words.layout_to is not None:
+            pathlib.Path(words.layout_to).write_text("".join(f"{line}\n" for line in layout_lines(rows, ring, words.join)))
     except (BadSource, OSError) as error:
-        print(f"ringplan-import: {error}", file=sys.stderr)
+        note(str(error))
         return 2
+    if (filled := len(ring.rows) - len(rows)) > 0:
+        advice = "" if words.layout_to is not None else "; --layout-to FILE writes their sizes"
+        note(f"{len(rows)} ranges are filled up to {len(ring.rows)} partitions by {filled} without keys{advice}")
     print(*ring.lines(), sep="\n")
     return 0
 

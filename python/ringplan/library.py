@@ -160,7 +160,7 @@ def migrate(bundle: bytes) -> Answer:
 
 
 def goal(bundle: bytes, *options: str) -> Answer:
-    """Of a ring and a change or a goal ring: the ring, a plan and its certificate. Options as `--dead`, `b` or `--weight`, `c=2`."""
+    """Of a ring and a change or a goal ring: the ring, a plan and its certificate. Options as `--dead`, `b` or `--racks-behind`, `none`."""
     return call_or_run("goal", bundle, options)
 
 

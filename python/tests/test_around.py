@@ -120,10 +120,29 @@ def test_without_a_runner_the_next_one_goes_on(bench: Bench) -> None:
     process.wait()
     code, out, err = bench.run("around", "--dead", "birch", "--dead", "elm", "--back")
     assert (code, out) == (Status.DONE, "1 of 4 steps of the new plan are done\n"), err
-    assert "slot 0 0 is mirrored to elm no longer" in err
+    assert "2 slots are no longer mirrored to elm (2)" in err
     for step in (OTHER, DEAD):
         bench.let_go(step)
     see_the_end(bench)
+
+
+@over_both
+def test_a_change_comes_to_rest(bench: Bench) -> None:
+    process = begin_copies(bench, bench.lease)
+    process.kill()
+    process.wait()
+    before = record_of(bench)
+    code, _, err = bench.run("around")
+    assert code == Status.FAULT and err.startswith("ringplan-run: the board is as it was:\nerror: ")
+    assert record_of(bench) == before
+    code, _, err = bench.run("around", "--rest")
+    assert code == Status.DONE, err
+    for step in (OTHER, DEAD):
+        bench.let_go(step)
+    see_the_end(bench)
+    steps = read_steps(record_of(bench).bundle)
+    assert [step.do for step in steps].count("copy") == 2 and len(steps) < len(read_steps(before.bundle))
+    assert programs.ask("after", record_of(bench).text()).status == 0
 
 
 @over_both

@@ -8,7 +8,7 @@ import sys
 import pytest
 
 from ringplan import programs
-from ringplan.importing import BadSource, describering, from_csv, main, ring_of, tablets
+from ringplan.importing import BadSource, Rows, describering, from_csv, layout_lines, main, ring_of, tablets
 
 HOSTS = ["3b1f9e0a-2c4d-4e5f-8a6b-7c8d9e0f1a2b", "4b1f9e0a-2c4d-4e5f-8a6b-7c8d9e0f1a2b", "5b1f9e0a-2c4d-4e5f-8a6b-7c8d9e0f1a2b"]
 
@@ -63,6 +63,51 @@ def test_a_source_that_does_not_read(call: object, lines: list[str], words: str)
         ring_of(call(lines), (1, 1), 2, [])
 
 
+def layout_of(rows: Rows, *joining: str) -> list[str]:
+    return list(layout_lines(rows, ring_of(rows, (1, 2), 2, list(joining)), list(joining)))
+
+
+def test_a_layout_has_the_racks_of_ranges() -> None:
+    rows = describering([token_range(10, -5, "10.0.0.3", "10.0.0.1"), token_range(-5, 4, "10.0.0.1", "10.0.0.2"), token_range(4, 10, "10.0.0.2", "10.0.0.3")])
+    racks = [f"rack 10.0.0.{number}.r{number} r{number}" for number in (1, 2, 3)]
+    # The fourth partition repeats the first range.
+    assert layout_of(rows) == ["layout 1", *racks, "size 3 0", "end"]
+    assert layout_of(rows, "10.0.0.4.r2") == ["layout 1", *racks, "rack 10.0.0.4.r2 r2", "size 3 0", "end"]
+
+
+def test_a_layout_of_tablets_has_no_racks() -> None:
+    rows = tablets([f'{{"last_token": {token}, "replicas": [["a", 0], ["b", 1]]}}\n' for token in range(5)])
+    assert layout_of(rows, "c") == ["layout 1", "size 5 0", "size 6 0", "size 7 0", "end"]
+    assert layout_of(rows[:4]) == ["layout 1", "end"]
+
+
+def test_a_layout_of_a_table_has_its_racks() -> None:
+    assert layout_of(from_csv(["0,B,R2\n", "0,a,r1\n"])) == ["layout 1", "rack a.r1 r1", "rack b.r2 r2", "end"]
+    assert layout_of(from_csv(["0,b\n", "0,a\n"])) == ["layout 1", "end"]
+
+
+@pytest.mark.parametrize(("lines", "joining", "name"), [(["0,a,r1\n", "0,b\n"], [], "b"), (["0,a,r1\n", "0,b,r2\n"], ["c"], "c")])
+def test_a_layout_names_all_racks_or_none(lines: list[str], joining: list[str], name: str) -> None:
+    with pytest.raises(BadSource, match=f"the rack of {name} is not known"):
+        layout_of(from_csv(lines), *joining)
+
+
+def test_ranges_that_only_fill_up_are_counted(tmp_path: pathlib.Path, monkeypatch: pytest.MonkeyPatch, capsys: pytest.CaptureFixture[str]) -> None:
+    table, layout = tmp_path / "table.csv", tmp_path / "layout"
+    table.write_text("".join(f"{partition},{node}\n" for partition in range(5) for node in "ab"))
+    counted = "ringplan-import: 5 ranges are filled up to 8 partitions by 3 without keys"
+    options: dict[str, list[str]] = {"; --layout-to FILE writes their sizes": [], "": ["--layout-to", str(layout)]}
+    for advice, words in options.items():
+        monkeypatch.setattr(sys, "argv", ["ringplan-import", "csv", str(table), *words])
+        assert main() == 0
+        assert capsys.readouterr().err == f"{counted}{advice}\n"
+    assert layout.read_text() == "layout 1\nsize 5 0\nsize 6 0\nsize 7 0\nend\n"
+    monkeypatch.setattr(sys, "argv", ["ringplan-import", "csv", str(table), "--layout-to", str(tmp_path)])
+    assert main() == 2
+    printed = capsys.readouterr()
+    assert printed.out == "" and printed.err.startswith("ringplan-import: [Errno 21]")
+
+
 def test_a_file_may_come_after_options(tmp_path: pathlib.Path, monkeypatch: pytest.MonkeyPatch, capsys: pytest.CaptureFixture[str]) -> None:
     table = tmp_path / "table.csv"
     table.write_text("0,a\n0,b\n")
@@ -72,13 +117,17 @@ def test_a_file_may_come_after_options(tmp_path: pathlib.Path, monkeypatch: pyte
         assert capsys.readouterr().out.splitlines()[2] == "quorum 2 1 2"
 
 
-def test_the_program_plans_a_change_of_an_imported_ring() -> None:
+def test_the_program_plans_a_change_of_an_imported_ring(tmp_path: pathlib.Path) -> None:
     try:
         programs.find()
     except programs.NoProgram as error:
         pytest.skip(str(error))
-    rows = [f"{p},n{(p + i) % 5},r{(p + i) % 5}\n" for p in range(6) for i in range(3)]
-    ring = ring_of(from_csv(rows), (2, 2), 2, ["n5.r5"])
-    answer = programs.ask("goal", "\n".join([*ring.lines(), "change 1", "join n5.r5", "end", ""]), "--racks-behind", ".")
+    rows = from_csv([f"{p},n{(p + i) % 5},r{(p + i) % 5}\n" for p in range(6) for i in range(3)])
+    ring = ring_of(rows, (2, 2), 2, ["n5.r5"])
+    layout = tmp_path / "layout"
+    layout.write_text("\n".join([*layout_lines(rows, ring, ["n5.r5"]), ""]))
+    answer = programs.ask("goal", "\n".join([*ring.lines(), "change 1", "join n5.r5", "end", ""]), "--layout", str(layout))
     assert answer.status == 0
+    assert "racks: those of the layout (r0, r1, r2, r3, r4, r5)" in answer.errors
     assert programs.ask("check", answer.text).first() == "yes"
+    assert "mirror 6 " not in answer.text and "mirror 7 " not in answer.text

@@ -16,7 +16,7 @@ TOP = pathlib.Path(__file__).parents[2]
 EXAMPLES = sorted((TOP / "examples").glob("*.bundle"))
 CALLS = {"check": library.check, "plan": library.plan, "play": library.play, "replay": library.replay, "migrate": library.migrate}
 OTHERS: dict[str, tuple[Callable[..., Answer], list[list[str]]]] = {
-    "goal": (library.goal, [[], ["--dead", "b"], ["--weight", "c=2"], ["--exit-code"], ["--none"]]),
+    "goal": (library.goal, [[], ["--dead", "b"], ["--racks-behind", "none"], ["--exit-code"], ["--none"]]),
     "around": (library.around, [["--dead", "b"], ["--dead", "c", "--back"], []]),
     "why": (library.why, [[], ["--color", "always"], ["--format", "json"]]),
     "show": (library.show, [[], ["--all"], ["--racks-behind", "."], ["--format", "json"], ["--help"]]),
@@ -67,8 +67,8 @@ def test_commands_with_options_answer_as_the_program_does(command: str, way: str
 
 def test_options_may_name_files(tmp_path: pathlib.Path) -> None:
     bundle, target = (TOP / "examples/plan_replace.bundle").read_bytes(), tmp_path / "planned"
-    assert library.goal(bundle, "-o", str(target)) == Answer(Status.DONE, b"")
-    assert target.read_bytes() == library.goal(bundle).demand()
+    assert library.goal(bundle, "--racks-behind", "none", "-o", str(target)) == Answer(Status.DONE, b"")
+    assert target.read_bytes() == library.goal(bundle, "--racks-behind", "none").demand()
     assert library.cert(b"", str(target)) == library.cert(target.read_bytes())
     with pytest.raises(ValueError, match="an option has a NUL"):
         library.goal(bundle, "--dead", "a\0b")

@@ -11,7 +11,7 @@ mod wanted;
 mod writing;
 
 pub use change::Change;
-pub use options::Options;
+pub use options::{Options, RackRule, Unreadable};
 pub use reading::{read_change, read_change_section};
 pub use wanted::{Wanted, read_wanted};
 pub use writing::write_change;

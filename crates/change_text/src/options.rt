@@ -1,32 +1,53 @@
-//! What is wished of nodes.
+//! What is known of nodes and partitions.
 
-use size_text::PartitionSize;
+use layout_text::Layout;
+use ring_names::Slot;
 use std::alloc::Global;
 
-/// By name, who is dead for good, and how many parts of the slots some shall have; the byte behind which a name names its rack; and the sizes of partitions.
+/// How the racks of nodes are known.
+#[derive(Clone, Copy, Debug, PartialEq, Eq)]
+pub enum RackRule {
+    /// By the layout if it names racks, and otherwise by the names of nodes if these show racks.
+    Auto,
+    /// Not at all.
+    Off,
+    /// By what stands behind the last such byte of a node's name.
+    Behind(u8),
+}
+
+/// What becomes of partitions that have fewer than R live owners.
+#[derive(Clone, Copy, Debug, PartialEq, Eq)]
+pub enum Unreadable {
+    /// No plan is made.
+    Refused,
+    /// Their slots stay with their owners.
+    Left,
+}
+
+/// What planners and summaries are told of nodes and partitions.
 #[derive(Debug, Drop)]
 pub struct Options {
+    /// The names of nodes that are dead for good, beside those of the layout.
     pub dead: Vec<Vec<u8>>,
-    pub weighed: Vec<Vec<u8>>,
-    /// By place among those that are weighed, 1 to 1,000.
-    pub weights: Vec<u32>,
-    pub racks_behind: Option<u8>,
-    /// Ascending by partition, where the ring shall be even by sizes.
-    pub sizes: Option<Vec<PartitionSize>>,
-    /// The file that has the sizes, before it is read.
-    pub sizes_file: Option<String>,
+    pub racks: RackRule,
+    pub layout: Layout,
+    /// The file that has the layout, before it is read.
+    pub layout_file: Option<String>,
+    pub unreadable: Unreadable,
+    /// Slots that stay with their owners.
+    pub left: Vec<Slot>,
 }
 
 impl Options {
-    /// Nobody is named.
+    /// Nothing is known.
     pub fn new(alloc: Global) -> Options {
         Options {
             dead: Vec::new(alloc),
-            weighed: Vec::new(alloc),
-            weights: Vec::new(alloc),
-            racks_behind: None,
-            sizes: None,
-            sizes_file: None,
+            racks: RackRule::Auto,
+            layout: Layout::new(alloc),
+            layout_file: None,
+            unreadable: Unreadable::Refused,
+            left: Vec::new(alloc),
         }
     }
 }

@@ -1,5 +1,6 @@
 //! The search as a whole, and what it works on.
 
+use crate::crowding::Crowd;
 use crate::entries::Begun;
 use crate::hints::Hints;
 use crate::linking::link;
@@ -9,17 +10,18 @@ use crate::settling::settle;
 use crate::sources::Listing;
 use crate::told::Saying;
 use crate::writing::{Written, write};
-use helpers::{Words, is_set, put};
+use helpers::{Labels, Words, is_set, put};
 use plan_cert::Cert;
 use plan_moves::Progress;
 use plan_runs::{Back, Entry};
 use plan_text::Plan;
 use ring_names::{NodeId, Refusal, Slot};
 use ring_table::Ring;
+use ringplan_job::{Extent, Shape};
 use std::alloc::Global;
-use std::collections::BTreeMap;
+use std::collections::{BTreeMap, BTreeSet};
 
-/// A plan that has begun, and the nodes that are dead from here on.
+/// A plan that has begun, and what is to change.
 #[derive(Clone, Copy)]
 pub struct Task<'a> {
     pub alloc: Global,
@@ -29,8 +31,31 @@ pub struct Task<'a> {
     pub cert: &'a Cert,
     /// A run of the plan.
     pub history: &'a [Entry],
+    /// How much of the plan is still to be done.
+    pub extent: Extent,
+    /// Slots that stay with their owners.
+    pub left: &'a [Slot],
+    /// The nodes that are dead from here on.
     pub dead: &'a [NodeId],
+    /// Slots whose mirrors have puts from listed slots that the slots' owners do not have. A copy of such a slot does not begin again over what its mirror has.
+    pub ahead: &'a [Slot],
+    /// The racks of nodes, if they are known.
+    pub racks: Option<&'a Labels>,
+    /// Whether mirrors may be taken back. A mirror of a slot that is left with its owner is taken back in any case.
     pub back: Back,
+    /// Whether the words have a line for each slot, or only sums by node.
+    pub shape: Shape,
+}
+
+/// How far a search goes. If the checker refuses what is found, the next one goes less far.
+#[derive(Clone, Copy, Debug, PartialEq, Eq)]
+pub enum Reach {
+    /// All moves that can still be done.
+    Far,
+    /// Moves that have begun, in partitions with which a dead node has to do, or a slot that is left; in all others all moves.
+    Near,
+    /// Moves whose copies are done, or have all chunks; in all partitions.
+    Full,
 }
 
 /// Another plan, and what became of the steps of the old one.
@@ -51,11 +76,17 @@ pub struct Around {
 #[derive(Drop)]
 pub(crate) struct Search<'a> {
     pub(crate) task: Task<'a>,
+    pub(crate) reach: Reach,
     pub(crate) progress: Progress,
     pub(crate) moves: Moves,
     pub(crate) hints: Hints,
     /// By node, whether it is dead.
     pub(crate) dead: Vec<bool>,
+    /// Slots whose mirrors have puts that the slots' owners do not have.
+    pub(crate) ahead: BTreeSet<Slot>,
+    /// By partition, whether no more moves begin there.
+    pub(crate) resting: Vec<bool>,
+    pub(crate) crowd: Crowd,
     /// By step, whether it has begun.
     pub(crate) begun: Vec<bool>,
     /// By step, whether it is left out.
@@ -64,6 +95,8 @@ pub(crate) struct Search<'a> {
     pub(crate) fresh: Vec<bool>,
     /// By step, whether it is a mirror that is taken back.
     pub(crate) taken: Vec<bool>,
+    /// By step, whether it is a mirror for which a step of another move waits that has begun.
+    pub(crate) awaited: Vec<bool>,
     /// What steps wait for besides what the plan says.
     pub(crate) more: Needs,
     /// What copies list in place of what the plan says, by copy.
@@ -74,8 +107,8 @@ pub(crate) struct Search<'a> {
     /// By node, 1 and the last partition in which it was seen to be busy; and 1 and the last partition that was looked at for that.
     pub(crate) busy: Vec<u32>,
     pub(crate) looked_at: u32,
-    /// Moves whose copies need other sources, by place.
-    pub(crate) later: Vec<usize>,
+    /// By node, 1 and the place of the last slot for which it was seen to keep a hint for another slot of the partition.
+    pub(crate) keeping: Vec<u32>,
     pub(crate) is_changed: bool,
     /// By slot, what is to be said of it.
     pub(crate) sayings: BTreeMap<Slot, Saying>,
@@ -91,9 +124,18 @@ fn flags(task: &Task) -> Result<Vec<bool>, Refusal> {
     Ok(dead)
 }
 
+// The slots that are ahead, each once.
+fn slots(task: &Task) -> Result<BTreeSet<Slot>, Refusal> {
+    let mut ahead = BTreeSet::new(task.alloc);
+    for slot in task.ahead {
+        ahead.insert(*slot)?;
+    }
+    Ok(ahead)
+}
+
 impl<'a> Search<'a> {
     // Before anything is decided.
-    fn of(task: Task<'a>) -> Result<Search<'a>, Refusal> {
+    fn of(task: Task<'a>, reach: Reach) -> Result<Search<'a>, Refusal> {
         let (alloc, steps, nodes) = (
             task.alloc,
             task.plan.len() as usize,
@@ -101,23 +143,30 @@ impl<'a> Search<'a> {
         );
         let found = Begun::of(&task)?;
         let Begun { begun, hints } = found;
+        let moves = Moves::of(alloc, task.ring, task.plan)?;
+        let crowd = Crowd::of(&task, &moves)?;
         Ok(Search {
             task,
+            reach,
             progress: Progress::of(alloc, task.plan, task.history)?,
-            moves: Moves::of(alloc, task.ring, task.plan)?,
+            moves,
             hints: Hints::of(alloc, task.ring, hints)?,
             dead: flags(&task)?,
+            ahead: slots(&task)?,
+            resting: vec![in alloc; false; task.ring.q() as usize]?,
+            crowd,
             begun,
             gone: vec![in alloc; false; steps]?,
             fresh: vec![in alloc; false; steps]?,
             taken: vec![in alloc; false; steps]?,
+            awaited: Vec::new(alloc),
             more: Needs::of(alloc, steps)?,
             listings: BTreeMap::new(alloc),
             load: vec![in alloc; 0u32; nodes]?,
             owned: vec![in alloc; 0u32; nodes]?,
             busy: vec![in alloc; 0u32; nodes]?,
             looked_at: 0,
-            later: Vec::new(alloc),
+            keeping: vec![in alloc; 0u32; nodes]?,
             is_changed: false,
             sayings: BTreeMap::new(alloc),
             words: Words::new(alloc),
@@ -170,10 +219,11 @@ impl<'a> Search<'a> {
     }
 }
 
-/// Another plan around the dead, of which the history without what is taken back or begins anew is a run, if one is found; else `NoPlan`. Want of memory is
-/// `OutOfMemory`. Where nothing that is to come asks anything of the dead, it is the old plan. Costs about a pass over the plan and one over the history, and sorting.
-pub fn find_around(task: Task) -> Result<Around, Refusal> {
-    let mut search = Search::of(task)?;
+/// Another plan, of which the history is a run without what is taken back or begins again, if one is found. Slots that are to stay stay, then what has not begun is left
+/// out if only moves that have begun are to end, and then no step to come asks anything of the dead. If nothing changes, it is the old plan. Refused as `NoPlan`, or as
+/// `OutOfMemory`. Costs about a pass over the plan and one over the history, and sorting.
+pub fn find_around(task: Task, reach: Reach) -> Result<Around, Refusal> {
+    let mut search = Search::of(task, reach)?;
     settle(&mut search)?;
     let needs = link(&mut search)?;
     let written = write(&search, needs)?;

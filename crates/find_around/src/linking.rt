@@ -65,35 +65,40 @@ impl Search<'_> {
         looks: u32,
     ) -> Result<u32, Refusal> {
         let stamp = step.saturating_add(1);
-        let is_fixed = self.is_fixed(step);
+        let passed = self.passed_by(step)?;
         let mut stack = Vec::new(self.task.alloc);
-        self.push_waits(&mut stack, step)?;
-        let mut left = looks;
+        self.push_waits(&mut stack, step, step)?;
+        let mut left = looks.saturating_sub(small(passed.len()));
         for turn in 0..looks {
             let Some(other) = stack.pop() else {
                 return Ok(left);
             };
             left = left.saturating_sub(1);
-            if at(seen, other as usize) != stamp {
+            if at(seen, other as usize) != stamp && other != step {
                 set(seen, other as usize, stamp);
-                if !self.is_gone(other) {
-                    if !is_fixed || !is_set(self.taken.as_slice(), other) {
-                        needs.add(step, other)?;
-                    }
-                } else if !is_fixed {
-                    self.push_waits(&mut stack, other)?;
+                if self.stays_before(step, other) && !is_set(passed.as_slice(), other) {
+                    needs.add(step, other)?;
+                } else {
+                    self.push_waits(&mut stack, step, other)?;
                 }
             }
         }
         Err(Refusal::NoPlan)
     }
 
-    // Adds what the step waits for directly.
-    fn push_waits(&self, stack: &mut Vec<u32>, step: u32) -> Result<(), Refusal> {
-        if step < self.task.plan.len() {
-            stack.extend_from_slice(self.task.plan.deps(step))?;
+    // Whether the step may wait for the other one, which it waited for: that is left, and not taken back where the step is done or has begun.
+    fn stays_before(&self, step: u32, other: u32) -> bool {
+        !self.is_gone(other) && !(self.is_fixed(step) && is_set(self.taken.as_slice(), other))
+    }
+
+    // Adds what the other step waits for directly: the step is that one, or waited for it. A step that is done, or has begun, waits for nothing besides what the plan says.
+    fn push_waits(&self, stack: &mut Vec<u32>, step: u32, other: u32) -> Result<(), Refusal> {
+        if other < self.task.plan.len() {
+            stack.extend_from_slice(self.task.plan.deps(other))?;
         }
-        stack.extend_from_slice(self.more.row(step))?;
+        if !self.is_fixed(step) && (step == other || self.is_gone(other)) {
+            stack.extend_from_slice(self.more.row(other))?;
+        }
         Ok(())
     }
 
@@ -144,20 +149,21 @@ impl Search<'_> {
         Ok(())
     }
 
-    // The steps in the order in which they are linked: those that are done, copies that have begun, and the rest.
-    fn line_up(&self) -> Result<Vec<u32>, Refusal> {
+    // The steps in the order in which they are linked: those that are done, copies that have begun, and the rest, each after those that it waits for.
+    fn line_up(&self, needs: &Needs) -> Result<Vec<u32>, Refusal> {
+        let sorted = self.sorted(needs)?;
         let mut order = Vec::new(self.task.alloc);
         for turn in 0..3u32 {
-            for step in 0..self.task.plan.len() {
-                let rank = if self.is_done(step) {
+            for step in sorted.iter() {
+                let rank = if self.is_done(*step) {
                     0
-                } else if self.is_fixed(step) {
+                } else if self.is_fixed(*step) {
                     1
                 } else {
                     2
                 };
-                if rank == turn && !self.is_gone(step) {
-                    order.push(step)?;
+                if rank == turn {
+                    order.push(*step)?;
                 }
             }
         }
@@ -166,7 +172,7 @@ impl Search<'_> {
 
     // Puts each copy that has not begun after one that ends a chain, for each node that takes part in it and has as many chains as it may have copies open.
     fn link_copies(&self, needs: &mut Needs) -> Result<(), Refusal> {
-        let order = self.line_up()?;
+        let order = self.line_up(needs)?;
         let mut tails = Tails::of(self.task.alloc, self, order.as_slice())?;
         for step in order.iter() {
             if let Some(it) = self.copied_by(*step) {

@@ -95,19 +95,19 @@ impl Search<'_> {
         count
     }
 
-    /// Whether the node keeps a hint for a slot of the partition whose owner is dead: it cannot be mirrored there.
-    pub(crate) fn is_barred(&self, partition: u32, node: u32) -> bool {
-        for hint in self.hints.of_partition(partition) {
-            if hint.1 == node && self.is_dead(self.owner_at(hint.0, 0)) {
+    /// Whether the slot cannot be mirrored to the node, which keeps a hint for another slot of its partition whose owner is dead.
+    pub(crate) fn is_barred(&self, slot: Slot, node: u32) -> bool {
+        for hint in self.hints.of_partition(slot.partition) {
+            if hint.1 == node && hint.0 != slot && self.is_dead(self.owner_at(hint.0, 0)) {
                 return true;
             }
         }
         false
     }
 
-    /// Whether the move's copy is done, or open with all its chunks.
+    /// Whether the move has a switch, and its copy is done, or open with all its chunks.
     pub(crate) fn is_filled(&self, it: &Move) -> bool {
-        let Some(copy) = it.copy else {
+        let (Some(copy), Some(_)) = (it.copy, it.switch) else {
             return false;
         };
         self.is_done(copy) || (self.progress.is_open(copy) && self.progress.chunks(copy) == 16)

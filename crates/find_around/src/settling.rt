@@ -1,9 +1,9 @@
-//! What becomes of each move, and of joins and retirements.
+//! What becomes of each move.
 
-use crate::around::Search;
+use crate::around::{Reach, Search};
 use crate::moving::{Move, first_owner};
 use crate::told::Outcome;
-use helpers::{put, small};
+use helpers::{is_set, put};
 use plan_runs::Back;
 use ring_names::{NodeId, Refusal, Slot};
 
@@ -20,43 +20,41 @@ enum Fate {
 
 /// Decides what becomes of all moves, and of joins and retirements.
 pub(crate) fn settle(search: &mut Search) -> Result<(), Refusal> {
-    let (q, n) = (search.task.ring.q(), search.task.ring.n());
-    for partition in 0..q {
-        for index in 0..n {
-            let owner = search.last_owner(Slot { partition, index });
-            search.own(owner);
-        }
-    }
+    search.leave_named()?;
+    search.rest()?;
     search.part_from_dead();
-    for partition in 0..q {
-        for index in 0..n {
-            search.settle_slot(Slot { partition, index })?;
-        }
+    if search.reach == Reach::Full {
+        search.keep_full()?;
+    } else {
+        search.settle_slots()?;
+        search.settle_copies()?;
     }
-    search.settle_later()?;
-    search.say_of_slots();
-    search.keep_holders()
+    search.say_of_slots()?;
+    search.keep_holders()?;
+    search.say_of_reach();
+    Ok(())
 }
 
 impl Search<'_> {
-    // The dead neither join nor retire.
-    fn part_from_dead(&mut self) {
-        let plan = self.task.plan;
-        for node in self.task.dead {
-            let join = plan.join_of(*node);
-            if join.is_some() && !self.has_done(join) && self.kept(join).is_some() {
-                self.remove(join);
-                self.say_of_node(b"@ does not join\n", node.0);
-            }
-            let retire = plan.retirement_of(*node);
-            if retire.is_some() && !self.has_done(retire) && self.kept(retire).is_some() {
-                self.remove(retire);
-                self.say_of_node(
-                    b"@ does not retire: let it leave by the next change\n",
-                    node.0,
-                );
+    // Counts the slots that each node owns in the end.
+    fn count_owned(&mut self) {
+        for partition in 0..self.task.ring.q() {
+            for index in 0..self.task.ring.n() {
+                let owner = self.last_owner(Slot { partition, index });
+                self.own(owner);
             }
         }
+    }
+
+    // Decides what becomes of the moves of all slots.
+    fn settle_slots(&mut self) -> Result<(), Refusal> {
+        self.count_owned();
+        for partition in 0..self.task.ring.q() {
+            for index in 0..self.task.ring.n() {
+                self.settle_slot(Slot { partition, index })?;
+            }
+        }
+        self.make_way()
     }
 
     // Decides what becomes of the slot's moves.
@@ -66,22 +64,38 @@ impl Search<'_> {
         };
         let mut owner = first_owner(self.task.ring, slot);
         let mut next = Some(first);
+        let mut is_staying = false;
         for turn in 0..self.moves.len() {
             let (Some(place), Some(it)) = (next, self.moves.at(next)) else {
                 break;
             };
+            if self.kept(it.mirror).is_none() {
+                break;
+            }
             match self.settle_move(place, it, owner)? {
                 Fate::Goes => {
-                    if let Some(now) = self.moves.at(Some(place)) {
-                        owner = now.target;
-                    }
+                    owner = self.target_of(place, owner);
+                    is_staying = false;
                 }
-                Fate::Stays => {}
+                Fate::Stays => {
+                    if !is_staying {
+                        self.crowd.stay(it.mirror)?;
+                    }
+                    is_staying = true;
+                }
                 Fate::Stuck => break,
             }
             next = it.next;
         }
         Ok(())
+    }
+
+    // The target of the move of that place, or that node if there is no such move.
+    fn target_of(&self, place: usize, node: u32) -> u32 {
+        match self.moves.at(Some(place)) {
+            Some(it) => it.target,
+            None => node,
+        }
     }
 
     // Decides what becomes of a move of a slot that this node owns then.
@@ -103,25 +117,34 @@ impl Search<'_> {
             return Ok(Fate::Goes);
         }
         if self.has_done(it.mirror) && self.is_dead(it.target) {
-            if self.task.back == Back::Never {
-                self.stick(&it);
-                self.note_outcome(it.slot, Outcome::MirroredToDead(it.target))?;
-                return Ok(Fate::Stuck);
-            }
-            self.take_back(&it)?;
+            return self.settle_dead(place, &it, owner);
         }
-        self.settle_begun(place, it, owner)
-    }
-
-    // Decides what becomes of a move whose mirror lives, or is not set.
-    fn settle_begun(&mut self, place: usize, it: Move, owner: u32) -> Result<Fate, Refusal> {
         if !self.has_done(it.mirror) && !self.retarget(place, &it, owner)? {
             return Ok(Fate::Stays);
         }
-        if it.copy.is_some() && (self.is_dead(owner) || self.reads_dead(&it)) {
-            self.later.push(place)?;
-        }
         Ok(Fate::Goes)
+    }
+
+    // Decides what becomes of a move whose mirror is dead: it is taken back if that is allowed, and begins again with another target unless no more moves begin.
+    fn settle_dead(&mut self, place: usize, it: &Move, owner: u32) -> Result<Fate, Refusal> {
+        if self.task.back == Back::Never || self.has_done(it.copy) {
+            self.stick(it)?;
+            self.note_outcome(it.slot, Outcome::MirroredToDead(it.target))?;
+            return Ok(Fate::Stuck);
+        }
+        self.take_back(it)?;
+        let is_resting = self.is_resting(it.slot.partition);
+        if is_resting || it.switch.is_none() {
+            self.leave_out_from(Some(place))?;
+            if is_resting {
+                self.note_outcome(it.slot, Outcome::NotBegun)?;
+            }
+            return Ok(Fate::Stuck);
+        }
+        if self.retarget(place, it, owner)? {
+            return Ok(Fate::Goes);
+        }
+        Ok(Fate::Stays)
     }
 
     // Gives a move that has not begun another target where it needs one. Answers whether it is left.
@@ -130,7 +153,7 @@ impl Search<'_> {
             self.leave_out(it);
             return Ok(false);
         }
-        if !self.is_dead(it.target) && !self.is_barred(it.slot.partition, it.target) {
+        if !self.is_dead(it.target) && !self.is_barred(it.slot, it.target) {
             self.note_planned(it.slot)?;
             return Ok(true);
         }
@@ -141,7 +164,7 @@ impl Search<'_> {
         };
         let Some(other) = other else {
             self.leave_out(it);
-            self.note_outcome(it.slot, Outcome::Untaken(owner, it.target))?;
+            self.note_outcome(it.slot, Outcome::Untaken(it.target))?;
             return Ok(false);
         };
         self.note_outcome(it.slot, Outcome::Elsewhere(other, it.target))?;
@@ -154,66 +177,85 @@ impl Search<'_> {
         Ok(true)
     }
 
-    // Leaves out all steps of a move.
-    fn leave_out(&mut self, it: &Move) {
-        self.remove(it.mirror);
-        self.remove(it.copy);
+    /// The slot stays mirrored for good, and both nodes stay with it.
+    pub(crate) fn stick(&mut self, it: &Move) -> Result<(), Refusal> {
+        if !self.has_done(it.copy) {
+            self.remove(it.copy);
+        }
         self.remove(it.switch);
         self.remove(it.drop);
-    }
-
-    // Leaves out all steps of the slot's moves from that one on.
-    fn leave_out_from(&mut self, from: Option<usize>) {
-        let mut next = from;
-        for turn in 0..self.moves.len() {
-            let Some(it) = self.moves.at(next) else {
-                break;
-            };
-            self.leave_out(&it);
-            next = it.next;
-        }
-    }
-
-    // The slot stays mirrored for good.
-    fn stick(&mut self, it: &Move) {
-        self.remove(it.copy);
-        self.remove(it.switch);
-        self.remove(it.drop);
-        self.leave_out_from(it.next);
-    }
-
-    // The slot's mirror is taken back, and the move is as if it had not begun.
-    fn take_back(&mut self, it: &Move) -> Result<(), Refusal> {
-        self.note_taken(it.slot, it.target)?;
-        if let Some(mirror) = it.mirror {
-            put(self.taken.as_mut_slice(), mirror, true);
-        }
-        if let Some(copy) = it.copy {
-            put(self.fresh.as_mut_slice(), copy, true);
-        }
-        self.is_changed = true;
-        Ok(())
+        self.crowd.stay(it.mirror)?;
+        self.leave_out_from(it.next)
     }
 
     // Gives copies other sources, in the plan's order.
-    fn settle_later(&mut self) -> Result<(), Refusal> {
-        let mut copies = Vec::new(self.task.alloc);
-        for place in self.later.iter() {
-            if let Some(it) = self.moves.at(Some(*place)) {
-                if let Some(copy) = it.copy {
-                    copies.push((copy, *place))?;
-                }
-            }
-        }
-        copies.sort_unstable();
-        for (copy, place) in copies.iter() {
-            if let Some(it) = self.moves.at(Some(*place)) {
-                if !self.is_gone(*copy) && !self.relist(&it, *copy)? {
-                    self.leave_unread(&it, *place)?;
+    fn settle_copies(&mut self) -> Result<(), Refusal> {
+        self.awaited = self.find_awaited()?;
+        for copy in 0..self.task.plan.len() {
+            let place = self.moves.of_step(copy);
+            if let (Some(place), Some(it)) = (place, self.moves.at(place)) {
+                if it.copy == Some(copy) && !self.is_gone(copy) {
+                    self.settle_copy(place, &it, copy)?;
                 }
             }
         }
         Ok(())
+    }
+
+    // Gives the move's copy other sources if it needs some.
+    fn settle_copy(&mut self, place: usize, it: &Move, copy: u32) -> Result<(), Refusal> {
+        if self.is_done(copy) || self.is_filled(it) || !self.reads_dead(it) {
+            return Ok(());
+        }
+        if !self.relist(it, copy)? {
+            self.leave_unread(it, place)?;
+        } else if self.is_ahead(it) {
+            self.begin_again(it, place)?;
+        }
+        self.make_way()
+    }
+
+    // Whether the move's mirror has puts that the slot's owner does not have.
+    fn is_ahead(&self, it: &Move) -> bool {
+        self.has_done(it.mirror) && self.ahead.contains(&it.slot)
+    }
+
+    // By step, whether it is a mirror for which a step of another move waits that has begun.
+    fn find_awaited(&self) -> Result<Vec<bool>, Refusal> {
+        let plan = self.task.plan;
+        let mut awaited = vec![in self.task.alloc; false; plan.len() as usize]?;
+        for step in 0..plan.len() {
+            if self.is_fixed(step) {
+                for other in plan.deps(step) {
+                    if self.moves.of_step(step) != self.moves.of_step(*other) {
+                        put(awaited.as_mut_slice(), *other, true);
+                    }
+                }
+            }
+        }
+        Ok(awaited)
+    }
+
+    // Whether a step of another move waits for the move's mirror, and has begun.
+    fn is_awaited(&self, it: &Move) -> bool {
+        match it.mirror {
+            Some(mirror) => is_set(self.awaited.as_slice(), mirror),
+            None => false,
+        }
+    }
+
+    // The move's copy reads other slots than before, and its mirror has puts that the slot's owner does not have.
+    fn begin_again(&mut self, it: &Move, place: usize) -> Result<(), Refusal> {
+        if self.task.back == Back::Never || self.is_awaited(it) {
+            self.stick(it)?;
+            return self.note_outcome(it.slot, Outcome::MirroredAhead(it.target));
+        }
+        self.take_back(it)?;
+        if self.is_resting(it.slot.partition) {
+            self.leave_out_from(Some(place))?;
+            return self.note_outcome(it.slot, Outcome::NotBegun);
+        }
+        self.note_outcome(it.slot, Outcome::Again(it.target))
     }
 
     // Too few slots can be read for the move's copy.
@@ -222,91 +264,10 @@ impl Search<'_> {
             self.take_back(it)?;
         }
         if self.has_done(it.mirror) {
-            self.stick(it);
+            self.stick(it)?;
             return self.note_outcome(it.slot, Outcome::MirroredUnread(it.target));
         }
-        self.leave_out_from(Some(place));
-        self.note_outcome(it.slot, Outcome::Unread(it.source))
-    }
-
-    // Nodes that still hold a slot, or a hint for a slot whose owner is dead, do not retire.
-    fn keep_holders(&mut self) -> Result<(), Refusal> {
-        let mut held = vec![in self.task.alloc; None; self.task.ring.nodes().len()]?;
-        self.find_held(held.as_mut_slice());
-        let mut kept = vec![in self.task.alloc; None; self.task.ring.nodes().len()]?;
-        self.find_kept(kept.as_mut_slice());
-        for node in 0..small(self.task.ring.nodes().len()) {
-            let retire = self.task.plan.retirement_of(NodeId(node));
-            if retire.is_some() && !self.has_done(retire) && self.kept(retire).is_some() {
-                if let Some(Some(slot)) = kept.get(node as usize) {
-                    self.remove(retire);
-                    self.say_of_slot(
-                        b"@ does not retire: the hint for slot # # stays there, since the slot's owner is dead\n",
-                        node,
-                        *slot,
-                    );
-                } else if let Some(Some(slot)) = held.get(node as usize) {
-                    self.remove(retire);
-                    self.say_of_slot(b"@ does not retire: slot # # stays there\n", node, *slot);
-                }
-            }
-        }
-        Ok(())
-    }
-
-    // By node a slot for which it keeps a hint, and whose last owner is dead.
-    fn find_kept(&self, kept: &mut [Option<Slot>]) {
-        for hint in self.hints.all() {
-            if self.is_dead(self.last_owner(hint.0)) {
-                if let Some(old) = kept.get_mut(hint.1 as usize) {
-                    *old = Some(hint.0);
-                }
-            }
-        }
-    }
-
-    // By node a slot that it serves in the end, or of which it does not drop what it has.
-    fn find_held(&self, held: &mut [Option<Slot>]) {
-        for partition in 0..self.task.ring.q() {
-            for index in 0..self.task.ring.n() {
-                self.find_held_of(held, Slot { partition, index });
-            }
-        }
-    }
-
-    // Likewise of one slot. A node that dropped it by its last move holds it no more.
-    fn find_held_of(&self, held: &mut [Option<Slot>], slot: Slot) {
-        hold(held, first_owner(self.task.ring, slot), slot);
-        let mut next = self.moves.first(slot);
-        for turn in 0..self.moves.len() {
-            let Some(it) = self.moves.at(next) else {
-                break;
-            };
-            if self.kept(it.mirror).is_some() {
-                hold(held, it.target, slot);
-            }
-            if self.kept(it.switch).is_some() && self.kept(it.drop).is_some() {
-                release(held, it.source, slot);
-            }
-            next = it.next;
-        }
-    }
-}
-
-// The node holds the slot; which one is noted of the first alone.
-fn hold(held: &mut [Option<Slot>], node: u32, slot: Slot) {
-    if let Some(old) = held.get_mut(node as usize) {
-        if old.is_none() {
-            *old = Some(slot);
-        }
-    }
-}
-
-// The node holds the slot no more.
-fn release(held: &mut [Option<Slot>], node: u32, slot: Slot) {
-    if let Some(old) = held.get_mut(node as usize) {
-        if *old == Some(slot) {
-            *old = None;
-        }
+        self.leave_out_from(Some(place))?;
+        self.note_outcome(it.slot, Outcome::Unread)
     }
 }

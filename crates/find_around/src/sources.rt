@@ -43,9 +43,12 @@ impl Search<'_> {
         }
     }
 
-    // The slot of that index as a source of a copy on that line, if it can be read.
-    fn candidate(&self, slot: Slot, line: u32) -> Option<Candidate> {
-        let (way, owner) = self.readable(slot, line)?;
+    // The slot as a source of the move's copy, if it can be read. Before a switch that the copy was after, its target must not be the slot's owner.
+    fn candidate(&self, it: &Move, slot: Slot, copy: u32) -> Option<Candidate> {
+        let (way, owner) = self.readable(slot, copy)?;
+        if owner == it.target {
+            return None;
+        }
         Some(Candidate {
             switches: self.switches_left(slot),
             load: self.load_of(owner),
@@ -61,7 +64,7 @@ impl Search<'_> {
         let partition = it.slot.partition;
         for index in 0..self.task.ring.n() {
             if index != it.slot.index {
-                if let Some(candidate) = self.candidate(Slot { partition, index }, copy) {
+                if let Some(candidate) = self.candidate(it, Slot { partition, index }, copy) {
                     found.push(candidate)?;
                 }
             }
@@ -129,7 +132,7 @@ impl Search<'_> {
         Ok(true)
     }
 
-    /// Whether the move's copy lists a slot that cannot be read.
+    /// Whether the move's copy reads a slot that cannot be read: its own, if it reads the owner, or one that it lists.
     pub(crate) fn reads_dead(&self, it: &Move) -> bool {
         let Some(copy) = it.copy else {
             return false;
@@ -138,15 +141,23 @@ impl Search<'_> {
             return false;
         }
         let Step::Copy(_, Source::Slots(from)) = self.task.plan.step(copy) else {
-            return false;
+            return self.is_dead(it.source);
         };
         let partition = it.slot.partition;
         for index in from.as_slice() {
             let index = *index;
-            if self.readable(Slot { partition, index }, copy).is_none() {
+            if self.is_unreadable(Slot { partition, index }, copy) {
                 return true;
             }
         }
         false
+    }
+
+    // Whether the owner of the slot on the copy's line is dead, or a dead node keeps a hint for it.
+    fn is_unreadable(&self, slot: Slot, copy: u32) -> bool {
+        match self.readable(slot, copy) {
+            Some((Way::InLine, _)) => false,
+            Some((Way::First, _)) | None => true,
+        }
     }
 }

@@ -2,14 +2,11 @@
 
 use crate::around::Search;
 use crate::moving::{Move, first_owner};
-use helpers::{at, rack, raise, set, small};
+use helpers::{at, place_of, raise, set, small};
 use ring_names::{NodeId, Slot};
 
-// The byte that a rack's name follows.
-const RACK: u8 = b'.';
-
 impl Search<'_> {
-    // Marks the nodes that serve a slot of the partition at any time, or keep a hint for one. Costs a look at each of its moves, once.
+    // Marks the nodes that serve a slot of the partition at any time. Costs a look at each of its moves, once.
     fn mark_busy(&mut self, partition: u32) {
         let stamp = partition.saturating_add(1);
         if self.looked_at == stamp {
@@ -29,33 +26,38 @@ impl Search<'_> {
                 next = it.next;
             }
         }
-        for hint in self.hints.of_partition(partition) {
-            set(self.busy.as_mut_slice(), hint.1 as usize, stamp);
+    }
+
+    // Marks the nodes that keep hints for other slots of the partition.
+    fn mark_keeping(&mut self, slot: Slot) {
+        let stamp = small(place_of(slot)).saturating_add(1);
+        for hint in self.hints.of_partition(slot.partition) {
+            if hint.0 != slot {
+                set(self.keeping.as_mut_slice(), hint.1 as usize, stamp);
+            }
         }
     }
 
-    // Whether the node may take a slot of the partition: it lives, is a member or joins, does not retire, and is not busy there.
-    fn may_take(&self, partition: u32, node: u32) -> bool {
+    // Whether the node may take the slot: it lives, is a member or joins, does not retire, is not busy in the partition, and keeps no hint for another slot there.
+    fn may_take(&self, slot: Slot, node: u32) -> bool {
         let plan = self.task.plan;
         let id = NodeId(node);
         let is_member = self.task.ring.is_member(id) || self.kept(plan.join_of(id)).is_some();
         is_member
             && plan.retirement_of(id).is_none()
             && !self.is_dead(node)
-            && at(self.busy.as_slice(), node as usize) != partition.saturating_add(1)
-    }
-
-    // Whether the two nodes are in one rack.
-    fn are_kin(&self, node: u32, other: u32) -> bool {
-        let ring = self.task.ring;
-        rack(ring.name(node), RACK) == rack(ring.name(other), RACK)
+            && at(self.busy.as_slice(), node as usize) != slot.partition.saturating_add(1)
+            && at(self.keeping.as_slice(), node as usize) != small(place_of(slot)).saturating_add(1)
     }
 
     // How many of the partition's other slots are in the node's rack in the end.
     fn count_kin(&self, node: u32, owners: &[u32]) -> u32 {
+        let Some(racks) = self.task.racks else {
+            return 0;
+        };
         let mut count = 0u32;
         for owner in owners {
-            if self.are_kin(node, *owner) {
+            if *owner != u32::MAX && racks.of(*owner) == racks.of(node) {
                 count = count.saturating_add(1);
             }
         }
@@ -78,21 +80,13 @@ impl Search<'_> {
     /// Another target for the move, with fewest slots: in another rack than the partition's other slots, if there is one.
     pub(crate) fn other_target(&mut self, it: &Move) -> Option<u32> {
         self.mark_busy(it.slot.partition);
-        let has_racks = self.task.ring.name(it.target).contains(&RACK);
-        let owners = if has_racks {
-            self.others(it)
-        } else {
-            [u32::MAX; 7]
-        };
+        self.mark_keeping(it.slot);
+        let owners = self.others(it);
         let mut best = None;
         let mut least = (u32::MAX, u32::MAX);
         for node in 0..small(self.task.ring.nodes().len()) {
-            if self.may_take(it.slot.partition, node) {
-                let kin = if has_racks {
-                    self.count_kin(node, &owners)
-                } else {
-                    0
-                };
+            if self.may_take(it.slot, node) {
+                let kin = self.count_kin(node, &owners);
                 let cost = (kin, at(self.owned.as_slice(), node as usize));
                 if best.is_none() || cost < least {
                     best = Some(node);
@@ -112,7 +106,7 @@ impl Search<'_> {
         raise(self.owned.as_mut_slice(), node as usize);
     }
 
-    /// Whether the node shall leave: it retires in the plan that was, or it is dead.
+    /// Whether the node is to leave: it retires in the plan that was, or it is dead.
     pub(crate) fn leaves(&self, node: u32) -> bool {
         self.is_dead(node) || self.task.plan.retirement_of(NodeId(node)).is_some()
     }

@@ -1,30 +1,45 @@
 //! What is said of slots and nodes.
 
-use crate::around::Search;
+use crate::around::{Reach, Search};
 use ring_names::{Refusal, Slot};
+use ringplan_job::Shape;
 
-/// What becomes of a slot, where that is not what the plan said.
+/// What becomes of a slot, if that is not what the plan said.
 #[derive(Clone, Copy, Debug, PartialEq, Eq)]
 pub(crate) enum Outcome {
-    /// It goes to a dead node, which has all of it.
-    Filled(u32),
     /// It goes to the first node in place of the second.
     Elsewhere(u32, u32),
-    /// It stays at the first node, since the second cannot take it.
-    Untaken(u32, u32),
-    /// It stays at the node, since too few slots can be read.
-    Unread(u32),
+    /// It goes to a dead node, which has all of it.
+    Filled(u32),
+    /// It goes to the node though it is named to stay: the node has all of it.
+    Ended(u32),
+    /// It stays at its owner, as it is named to.
+    Left,
+    /// It stays at its owner, since no more moves begin.
+    NotBegun,
+    /// It stays at its owner, since the node cannot take it.
+    Untaken(u32),
+    /// It stays at its owner, since the node keeps another slot of the partition.
+    Crowded(u32),
+    /// It stays at its owner, since too few slots can be read.
+    Unread,
     /// It stays mirrored to the dead node.
     MirroredToDead(u32),
     /// It stays mirrored to the node, since too few slots can be read.
     MirroredUnread(u32),
+    /// It stays mirrored to the node, which has puts that the slot's owner does not have.
+    MirroredAhead(u32),
+    /// It stays mirrored to the node, since the plan only ends moves whose copies have all chunks.
+    MirroredStill(u32),
+    /// Its mirror at the node is set again.
+    Again(u32),
 }
 
 /// What is to be said of a slot: the mirror that is taken back, and the last word on where the slot goes.
 #[derive(Clone, Copy, Debug)]
 pub(crate) struct Saying {
-    taken: Option<u32>,
-    outcome: Option<Outcome>,
+    pub(crate) taken: Option<u32>,
+    pub(crate) outcome: Option<Outcome>,
 }
 
 const NOTHING: Saying = Saying {
@@ -46,8 +61,8 @@ impl Search<'_> {
             .fill(words, &[ring.name(node)], &[slot.partition, slot.index]);
     }
 
-    // What is to be said of the slot so far.
-    fn saying_of(&self, slot: Slot) -> Saying {
+    /// What is to be said of the slot so far.
+    pub(crate) fn saying_of(&self, slot: Slot) -> Saying {
         self.sayings.get(&slot).copied().unwrap_or(NOTHING)
     }
 
@@ -62,7 +77,7 @@ impl Search<'_> {
     /// Notes that a move of the slot is done as the plan says: an earlier move of it may still go elsewhere, but the slot stays nowhere.
     pub(crate) fn note_planned(&mut self, slot: Slot) -> Result<(), Refusal> {
         let Saying { taken, outcome } = self.saying_of(slot);
-        if let Some(Outcome::Filled(_) | Outcome::Untaken(_, _)) = outcome {
+        if let Some(Outcome::Filled(_) | Outcome::Untaken(_)) = outcome {
             let outcome = None;
             self.sayings.insert(slot, Saying { taken, outcome })?;
         }
@@ -85,22 +100,42 @@ impl Search<'_> {
     }
 
     // Says what becomes of a slot, after its name.
-    fn say_outcome(&mut self, outcome: Outcome) {
+    fn say_outcome(&mut self, slot: Slot, outcome: Outcome) {
+        let owner = self.last_owner(slot);
         match outcome {
+            Outcome::Elsewhere(node, other) => {
+                self.say_of_nodes(b"goes to @ in place of @", node, other)
+            }
             Outcome::Filled(node) => self.say_of_node(
                 b"goes to @, which is dead but has all of it: move it on by the next change",
                 node,
             ),
-            Outcome::Elsewhere(node, other) => {
-                self.say_of_nodes(b"goes to @ in place of @", node, other)
+            Outcome::Ended(node) => {
+                self.say_of_node(b"goes to @ all the same: the copy has all chunks", node)
             }
-            Outcome::Untaken(node, other) => {
-                self.say_of_nodes(b"stays at @: @ cannot take it", node, other)
+            Outcome::Left => self.say_of_node(b"stays at @, as --leave asks", owner),
+            Outcome::NotBegun => {
+                self.say_of_node(b"stays at @, since no more moves begin", owner)
             }
-            Outcome::Unread(node) => self.say_of_node(
-                b"stays at @: fewer than R slots of its partition can be read",
+            Outcome::Untaken(node) => {
+                self.say_of_nodes(b"stays at @: @ cannot take it", owner, node)
+            }
+            Outcome::Crowded(node) => self.say_of_nodes(
+                b"stays at @: @ keeps another slot of the partition",
+                owner,
                 node,
             ),
+            Outcome::Unread => self.say_of_node(
+                b"stays at @: fewer than R slots of its partition can be read",
+                owner,
+            ),
+            _ => self.say_mirrored(outcome),
+        }
+    }
+
+    // Says of a slot that it stays mirrored, or is mirrored again.
+    fn say_mirrored(&mut self, outcome: Outcome) {
+        match outcome {
             Outcome::MirroredToDead(node) => {
                 self.say_of_node(b"stays mirrored to @: its mirror is dead", node)
             }
@@ -108,6 +143,18 @@ impl Search<'_> {
                 b"stays mirrored to @: fewer than R slots of its partition can be read",
                 node,
             ),
+            Outcome::MirroredAhead(node) => self.say_of_node(
+                b"stays mirrored to @: its mirror has puts that its owner does not have",
+                node,
+            ),
+            Outcome::MirroredStill(node) => {
+                self.say_of_node(b"stays mirrored to @: --leave takes the mirror back", node)
+            }
+            Outcome::Again(node) => self.say_of_node(
+                b"is to be mirrored to @ again: what was written since the mirror began is only at its owner and at other slots",
+                node,
+            ),
+            _ => {}
         }
     }
 
@@ -117,7 +164,7 @@ impl Search<'_> {
             .fill(b"slot # # ", &[], &[slot.partition, slot.index]);
         if let Some(node) = saying.taken {
             self.say_of_node(
-                b"is mirrored to @ no longer: from now on its writes go to its owner alone, and its tickets of puts that are not acknowledged are void",
+                b"is mirrored to @ no longer: from now on its writes go only to its owner, and its tickets of puts that are not acknowledged are void",
                 node,
             );
             if saying.outcome.is_some() {
@@ -125,13 +172,25 @@ impl Search<'_> {
             }
         }
         if let Some(outcome) = saying.outcome {
-            self.say_outcome(outcome);
+            self.say_outcome(slot, outcome);
         }
         self.words.byte(b'\n');
     }
 
-    /// Says what was noted of slots, a line each, in their order.
-    pub(crate) fn say_of_slots(&mut self) {
+    /// Says what was noted of slots: sums by node, and if that is asked for a line each, in their order.
+    pub(crate) fn say_of_slots(&mut self) -> Result<(), Refusal> {
+        self.say_sums()?;
+        match self.task.shape {
+            Shape::Short => Ok(()),
+            Shape::Whole => {
+                self.say_lines();
+                Ok(())
+            }
+        }
+    }
+
+    // A line for each slot of which something was noted.
+    fn say_lines(&mut self) {
         for partition in 0..self.task.ring.q() {
             for index in 0..self.task.ring.n() {
                 let slot = Slot { partition, index };
@@ -140,6 +199,33 @@ impl Search<'_> {
                     self.say_line(slot, saying);
                 }
             }
+        }
+    }
+
+    // How many partitions rest.
+    fn count_resting(&self) -> u32 {
+        let mut count = 0u32;
+        for is_resting in self.resting.as_slice() {
+            if *is_resting {
+                count = count.saturating_add(1);
+            }
+        }
+        count
+    }
+
+    /// Says what the plan has not, since no better one was found.
+    pub(crate) fn say_of_reach(&mut self) {
+        let count = self.count_resting();
+        match self.reach {
+            Reach::Far => {}
+            Reach::Near => self.words.fill(
+                b"no better plan was found: partitions with dead nodes, or with slots that stay (#), only end what has begun, as by --rest; plan the rest by goal\n",
+                &[],
+                &[count],
+            ),
+            Reach::Full => self.words.text(
+                b"no better plan was found, and none by --rest: the plan only ends moves whose copies have all chunks; plan the rest by goal\n",
+            ),
         }
     }
 }

@@ -86,8 +86,8 @@ fn same_source(alloc: Global, source: &Source) -> Result<Source, Refusal> {
 }
 
 impl Search<'_> {
-    // The steps that are left, each after those that it waits for, and the first of the old plan as soon as it can be. `NoPlan` where they wait in a circle.
-    fn sorted(&self, needs: &Needs) -> Result<Vec<u32>, Refusal> {
+    /// The steps that are left, each after those that it waits for, and the first of the old plan as soon as it can be. `NoPlan` if they wait in a circle.
+    pub(crate) fn sorted(&self, needs: &Needs) -> Result<Vec<u32>, Refusal> {
         let count = self.task.plan.len();
         let mut waits = vec![in self.task.alloc; 0u32; count as usize]?;
         let mut later = Needs::of(self.task.alloc, count as usize)?;

@@ -46,7 +46,7 @@ impl<'a> Seats<'a> {
     }
 
     /// Partitions have sizes.
-    pub fn measure(&mut self, alloc: Global, sizes: &[u32]) -> Result<(), Refusal> {
+    pub fn measure(&mut self, alloc: Global, sizes: &[u64]) -> Result<(), Refusal> {
         let nodes = self.members.count() as usize;
         self.volumes.fill(alloc, sizes, self.partitions, nodes)
     }

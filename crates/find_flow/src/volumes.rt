@@ -15,8 +15,10 @@ const MIDDLE: i64 = 4_611_686_018_427_387_904;
 #[derive(Drop)]
 pub struct Volumes {
     are_asked: bool,
-    // by partition
+    // by partition, in units of so many bits less than the sizes that are asked for
     sizes: Vec<u32>,
+    // what rounding may add to the parts of all slots of a partition
+    slack: u64,
     // by node, in parts
     loads: Vec<u64>,
     aims: Vec<u64>,
@@ -24,6 +26,29 @@ pub struct Volumes {
 
 fn signed(parts: u64) -> i64 {
     i64::try_from(parts).unwrap_or(MIDDLE)
+}
+
+// The least power of two by which each size is a number of 32 bits.
+fn unit_of(sizes: &[u64]) -> u64 {
+    let mut most = 0u64;
+    for size in sizes {
+        most = most.max(*size);
+    }
+    let mut unit = 1u64;
+    for _ in 0..32 {
+        if most / 4_294_967_295 < unit {
+            break;
+        }
+        unit = unit.saturating_mul(2);
+    }
+    unit
+}
+
+// The size in units, rounded up.
+fn in_units(size: u64, unit: u64) -> u32 {
+    let up = size.saturating_add(unit.saturating_sub(1));
+    let units = up.checked_div(unit).unwrap_or(0);
+    u32::try_from(units).unwrap_or(u32::MAX)
 }
 
 // The quotient, and 0 where the divisor is 0.
@@ -88,25 +113,31 @@ impl Volumes {
         Volumes {
             are_asked: false,
             sizes: Vec::new(alloc),
+            slack: 0,
             loads: Vec::new(alloc),
             aims: Vec::new(alloc),
         }
     }
 
-    /// Sizes of so many partitions, of which so many nodes own nothing yet.
+    /// Sizes of so many partitions, of which so many nodes own nothing yet. If a size has more than 32 bits, all are rounded up in a greater unit.
     pub fn fill(
         &mut self,
         alloc: Global,
-        sizes: &[u32],
+        sizes: &[u64],
         partitions: usize,
         nodes: usize,
     ) -> Result<(), Refusal> {
         self.are_asked = true;
+        let unit = unit_of(sizes);
         for partition in 0..partitions {
-            self.sizes.push(match sizes.get(partition) {
+            let size = match sizes.get(partition) {
                 Some(size) => *size,
                 None => 1,
-            })?;
+            };
+            self.sizes.push(in_units(size, unit))?;
+        }
+        if unit > 1 {
+            self.slack = (partitions as u64).saturating_mul(PARTS);
         }
         self.loads = vec![in alloc; 0u64; nodes]?;
         self.aims = vec![in alloc; 0u64; nodes]?;
@@ -170,7 +201,9 @@ impl Volumes {
         for node in 0..members.count() {
             let place = node as usize;
             if members.role(node) == Role::Joins {
-                let aim = share(total, members.weight(node), members.weight).min(one);
+                let share = share(total, members.weight(node), members.weight).min(one);
+                // The shares of sizes that were rounded up may be as much too great.
+                let aim = share.saturating_sub(self.slack.saturating_mul(slots as u64));
                 set_word(&mut self.aims, place, aim);
                 left = left.saturating_sub(aim);
             } else if members.role(node) == Role::Stays {

@@ -13,8 +13,8 @@ pub struct Wish<'a> {
     pub weights: &'a [u32],
     /// By node, the number of its rack, any number. A node behind the last entry has a rack of its own.
     pub racks: &'a [u32],
-    /// By partition, how much it stores, where the ring shall be even by that. A partition after the last entry has 1.
-    pub sizes: Option<&'a [u32]>,
+    /// By partition, how much it stores, below 2^48, if the ring should be even by that. A partition after the last entry has 1.
+    pub sizes: Option<&'a [u64]>,
 }
 
 impl<'a> Wish<'a> {

@@ -1,13 +1,13 @@
 //! Numbers and text for searches and for words: lists of numbers that are read and written by place, and text that is written word by word.
 #![tactic(auto)]
 
+mod labels;
 mod numbers;
-mod racks;
 mod words;
 
+pub use labels::{Labels, suffix};
 pub use numbers::{
     NONE, at, is_set, lower, parts, parts_of, place_of, put, quotient, raise, row, set, set_word,
     small, swap, word,
 };
-pub use racks::rack;
 pub use words::Words;

@@ -1,6 +1,7 @@
 -- A plan around the dead, and the history that goes on by it.
-use Rattle.std.specs.Prelude.{◌≡◌, ℕ, List, ◌++◌, Ok}
+use Rattle.std.specs.Prelude.{◌≡◌, ℕ, List, [], ◌∷◌, ◌++◌, Ok}
 use Rattle.ring_names.specs.declared.ids.NodeId.{NodeId}
+use Rattle.ring_names.specs.declared.ids.Slot.{Slot}
 use Rattle.texts.specs.Left.{whole_text}
 use Rattle.ring_table.specs.Value.{RingValue}
 use Rattle.ring_table.specs.Spelling.{ring_text}
@@ -15,11 +16,19 @@ use Rattle.plan_check.specs.Certified.{IsCertified}
 use Rattle.plan_check.specs.Headline.{KeepsPromises}
 use Rattle.history_text.specs.Replays.{Parts, replay_at}
 use Rattle.history_text.specs.Spelling.{history_text}
-use Rattle.ring_core.specs.Replays.{IsHistory}
+use Rattle.ring_core.specs.Replays.{IsHistory, Replays}
+use Rattle.ring_core.specs.World.{ring_of, plan_of}
+use Rattle.ring_core.specs.declared.world.World.{World as Store}
+use Rattle.plan_around.specs.Alike.{LeadAlike}
 use Rattle.plan_runs.specs.declared.back.Back.{Back}
+use Rattle.plan_runs.specs.declared.back.Back.TheVariants.{Allowed}
 use Rattle.plan_past.specs.Past.{IsSamePast}
-use Rattle.plan_bundles.specs.Goals.{AreNamed}
+use Rattle.plan_bundles.specs.Goals.{AreNamed, dead_names}
+use Rattle.change_text.specs.declared.options.Options.{Options}
+use Rattle.ringplan_job.specs.declared.making.Detour.{Detour}
+use Rattle.ringplan_job.specs.declared.making.Extent.{Extent}
 use Rattle.plan_around.specs.Apart.{AreApart}
+use Rattle.plan_around.specs.Ends.{EndsWell}
 
 -- the history is a run of the plan, and in the world to which it leads no step that is to come asks anything of the dead
 abbrev pub RunsApart : RingValue → List Planned → List NodeId → List Entry → Type 0
@@ -33,19 +42,41 @@ pub record GoesOn (ring : RingValue) (dead : List NodeId) (writers : List (List 
   pub run : RunsApart ring plan dead history
   pub text : bytes ≡ ring_text ring ++ (plan_text ring plan ++ (cert_text ring cert ++ history_text ring writers history))
 
--- the text goes on so by some plan, from a history of the old one, with the same past
-pub record GoesAround (back : Back) (ring : RingValue) (dead : List NodeId) (writers : List (List ℕ)) (old : List Planned) (earlier : List Entry) (text : List ℕ) : Type 0 where
+-- the store is in a world to which the history leads by the plan
+pub record IsAfter (start : RingValue) (steps : List Planned) (history : List Entry) (store : Store) : Type 0 where
+  pub ring : ring_of store ≡ start
+  pub plan : plan_of store ≡ steps
+  pub replays : Replays start steps store history
+
+-- whatever history led to the store, it and this one, which is a run of the new plan, lead to worlds that are alike
+abbrev pub LeadsOn : RingValue → Store → List Planned → List Entry → Type 0
+LeadsOn ring store new later = (earlier : List Entry) → Replays ring (plan_of store) store earlier → LeadAlike ring (plan_of store) new earlier later
+
+-- the history leads by the old plan to a world from which the new one ends where it should
+abbrev pub LeadsWell : Extent → Back → RingValue → List Planned → List Planned → List NodeId → List Slot → List Entry → Type 0
+LeadsWell extent back ring old new dead left earlier = ∥ ((w : World) × IsRun ring old earlier w × EndsWell extent back ring old w new dead left) ∥₁
+
+-- the text goes on so by some plan, from a history that tells what the old one tells and leads to a store like that one, and the plan ends where it should
+pub record GoesAround (extent : Extent) (back : Back) (ring : RingValue) (dead : List NodeId) (left : List Slot) (writers : List (List ℕ)) (old : List Planned) (earlier : List Entry)
+    (text : List ℕ) : Type 0 where
   pub plan : List Planned
   pub cert : Cert
   pub history : List Entry
   pub past : IsSamePast back old plan earlier history
+  pub stores : LeadAlike ring old plan earlier history
+  pub ends : LeadsWell extent back ring old plan dead left earlier
   pub goes_on : GoesOn ring dead writers plan cert history text
 
--- the bytes are the texts of a ring, a plan, a certificate and a history, which is a run of the plan; and the text goes on from there around the nodes of these names
-pub record IsAround (bytes : List ℕ) (names : List (List ℕ)) (back : Back) (text : List ℕ) : Type 0 where
+-- whether mirrors may be taken back: also if a slot is to stay with its owner
+abbrev pub back_with : List Slot → Back → Back
+back_with [] back = back
+back_with (slot ∷ slots) back = Allowed
+
+-- the bytes are the texts of a ring, a plan, a certificate and a history, which is a run of the plan; and the text goes on from there as the options ask
+pub record IsAround (bytes : List ℕ) (options : Options) (detour : Detour) (text : List ℕ) : Type 0 where
   pub parts : Parts
   pub read : whole_text replay_at bytes ≡ Ok parts
   pub dead : List NodeId
-  pub named : AreNamed parts.0 names dead
+  pub named : AreNamed parts.0 (dead_names options) dead
   pub earlier : IsHistory parts.0 parts.1.0 parts.1.1.1.0
-  pub around : GoesAround back parts.0 dead parts.1.1.1.1 parts.1.0 parts.1.1.1.0 text
+  pub around : GoesAround detour.extent (back_with options.left.items detour.back) parts.0 dead options.left.items parts.1.1.1.1 parts.1.0 parts.1.1.1.0 text

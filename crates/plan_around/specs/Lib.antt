@@ -1,2 +1,5 @@
 pub mod Apart
+pub mod Alike
+pub mod Ends
 pub mod Around
+pub mod Ending

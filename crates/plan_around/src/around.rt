@@ -1,26 +1,35 @@
 //! The bundle that goes on around the dead.
 
-ghost use Rattle.std.specs.Prelude.{◌≡◌, ◌≤◌, map, IfOk, OnOk, length};
+ghost use Rattle.std.specs.Prelude.{◌≡◌, ◌≤◌, IfOk, OnOk, length};
 ghost use Rattle.history_text.specs.Replays.{IsReplay};
 ghost use Rattle.ring_core.specs.Replays.{IsHistory};
-ghost use Rattle.plan_past.specs.Past.{IsSamePast};
-ghost use Rattle.plan_around.specs.Around.{GoesAround, IsAround};
+ghost use Rattle.plan_around.specs.Around.{GoesAround, IsAfter, IsAround, back_with};
 
+use crate::ahead::find_ahead;
 use crate::going::{Going, accepted, go_on};
-use find_around::{Around, Task, find_around};
+use change_text::Options;
+use find_around::{Around, Reach, Task, find_around, find_unmoved};
 use find_chains::certificate;
-use helpers::Words;
+use helpers::{Labels, Words};
 use history_text::{ReplayBundle, read_replay};
-use plan_bundles::nodes_of;
+use plan_bundles::{Racking, ask_layout, dead_by, members_by, nodes_of, racks_of};
 use plan_cert::Cert;
 use plan_check::Approved;
-use plan_past::{SamePast, same_past};
 use plan_runs::{Back, Entry};
-use plan_text::Plan;
-use ring_core::replay;
-use ring_names::{Names, NodeId, Refusal};
-use ring_table::Ring;
+use ring_core::{World, replay};
+use ring_names::{Names, NodeId, Refusal, Slot};
+use ringplan_job::Detour;
 use std::alloc::Global;
+
+// The nodes that are dead from here on, the racks of nodes if they are known, the slots that stay with their owners, and whether mirrors may be taken back.
+#[derive(Clone, Copy)]
+struct Asked<'a> {
+    dead: &'a [NodeId],
+    racks: Option<&'a Labels>,
+    left: &'a [Slot],
+    detour: Detour,
+    back: Back,
+}
 
 // A plan that has begun, as it was read.
 #[derive(Drop)]
@@ -30,8 +39,7 @@ struct Begun<'a> {
     cert: &'a Cert,
     writers: &'a Names,
     history: &'a [Entry],
-    dead: &'a [NodeId],
-    back: Back,
+    asked: Asked<'a>,
 }
 
 /// Asks whether the history is a run of the approved plan.
@@ -51,90 +59,135 @@ fn cause(refusal: Refusal) -> Refusal {
     }
 }
 
-// What the search found.
-fn find(it: &Begun) -> Result<Around, Refusal> {
-    find_around(Task {
+// What the search is to do.
+fn task_of<'a>(it: &'a Begun, ahead: &'a [Slot]) -> Task<'a> {
+    Task {
         alloc: it.alloc,
         ring: it.approved.ring(),
         plan: it.approved.plan(),
         cert: it.cert,
         history: it.history,
-        dead: it.dead,
-        back: it.back,
-    })
-}
-
-// The history by the plan that was found.
-fn past(it: &Begun, found: &Around) -> Result<Vec<Entry>, Refusal>
-    ensures { IfOk result (λ v. IsSamePast it.now.back it.now.approved.now.plan found.now.plan it.now.history.now v.items) }
-{
-    let names = SamePast {
-        old: it.approved.plan(),
-        new: &found.plan,
-        numbers: found.numbers.as_slice(),
-        olds: found.olds.as_slice(),
-        back: it.back,
-    };
-    same_past(it.alloc, &names, it.history)
-}
-
-// The text that goes on by the plan with that certificate.
-fn text_by(
-    it: &Begun,
-    ring: Ring,
-    plan: Plan,
-    cert: &Cert,
-    history: &[Entry],
-) -> Result<Vec<u8>, Refusal>
-    requires { IsSamePast it.now.back it.now.approved.now.plan plan it.now.history.now history.now }
-    ensures { IfOk result (λ v. GoesAround it.now.back ring it.now.dead.now it.now.writers.now it.now.approved.now.plan it.now.history.now v.items) }
-{
-    go_on(
-        it.alloc,
-        ring,
-        plan,
-        &Going {
-            cert,
-            writers: it.writers,
-            history,
-            dead: it.dead,
-        },
-    )
-}
-
-// The text that goes on by the plan that was found: its certificate is that of the old plan where it is that plan, and else one that is found for it.
-fn text_around(it: &Begun, ring: Ring, found: Around, history: &[Entry]) -> Result<Vec<u8>, Refusal>
-    requires { IsSamePast it.now.back it.now.approved.now.plan found.plan it.now.history.now history.now }
-    ensures { IfOk result (λ v. GoesAround it.now.back ring it.now.dead.now it.now.writers.now it.now.approved.now.plan it.now.history.now v.items) }
-{
-    let Around { plan, is_same, .. } = found;
-    if is_same {
-        return text_by(it, ring, plan, it.cert, history);
+        extent: it.asked.detour.extent,
+        left: it.asked.left,
+        dead: it.asked.dead,
+        ahead,
+        racks: it.asked.racks,
+        back: it.asked.detour.back,
+        shape: it.asked.detour.shape,
     }
-    let outcome = certificate(it.alloc, &ring, &plan)?;
-    text_by(it, ring, plan, &outcome.cert, history)
 }
 
-// The bundle that goes on from there. Adds what becomes of slots and nodes.
-fn go_around(it: &Begun, ring: Ring, words: &mut Words) -> Result<Vec<u8>, Refusal>
-    ensures { IfOk result (λ v. GoesAround it.now.back ring it.now.dead.now it.now.writers.now it.now.approved.now.plan it.now.history.now v.items) }
+// What the search found, as far as it may go.
+fn find(it: &Begun, reach: Reach) -> Result<Around, Refusal> {
+    let ahead = find_ahead(it.alloc, it.approved, it.history)?;
+    find_around(task_of(it, ahead.as_slice()), reach)
+}
+
+// Adds which slots are to stay though no step to come moves them. Answers whether there is one.
+fn push_unmoved(it: &Begun, words: &mut Words) -> Result<bool, Refusal> {
+    let unmoved = find_unmoved(&task_of(it, &[]))?;
+    if !unmoved.is_empty() {
+        words.clear();
+    }
+    for slot in unmoved.iter() {
+        words.fill(
+            b"refused: --leave #.#: no step that is to come moves this slot\n",
+            &[],
+            &[slot.partition, slot.index],
+        );
+    }
+    Ok(!unmoved.is_empty())
+}
+
+// The text that goes on by the plan that was found: its certificate is that of the old plan if it is that plan, and otherwise one that is found for it.
+fn go_by(it: &Begun, before: &World, found: Around) -> Result<Vec<u8>, Refusal>
+    requires { IsAfter it.now.approved.now.ring it.now.approved.now.plan it.now.history.now before.now }
+    ensures { IfOk result (λ v. GoesAround it.now.asked.detour.extent it.now.asked.back it.now.approved.now.ring it.now.asked.dead.now it.now.asked.left.now
+        it.now.writers.now it.now.approved.now.plan it.now.history.now v.items) }
 {
-    let found = find(it)?;
-    words.text(found.words.as_slice());
-    let history = past(it, &found)?;
-    text_around(it, ring, found, history.as_slice())
+    let Around {
+        plan,
+        olds,
+        numbers,
+        is_same,
+        ..
+    } = found;
+    let going = Going {
+        old: it.approved,
+        history: it.history,
+        writers: it.writers,
+        dead: it.asked.dead,
+        left: it.asked.left,
+        back: it.asked.back,
+        extent: it.asked.detour.extent,
+        numbers: numbers.as_slice(),
+        olds: olds.as_slice(),
+        cert: it.cert,
+    };
+    if is_same {
+        return go_on(it.alloc, plan, &going, before);
+    }
+    let outcome = certificate(it.alloc, it.approved.ring(), &plan)?;
+    let going = Going {
+        cert: &outcome.cert,
+        ..going
+    };
+    go_on(it.alloc, plan, &going, before)
+}
+
+// The bundle that goes on from there, by a search that goes so far. Adds what becomes of slots and nodes.
+fn go_so_far(
+    it: &Begun,
+    before: &World,
+    reach: Reach,
+    words: &mut Words,
+) -> Result<Vec<u8>, Refusal>
+    requires { IsAfter it.now.approved.now.ring it.now.approved.now.plan it.now.history.now before.now }
+    ensures { IfOk result (λ v. GoesAround it.now.asked.detour.extent it.now.asked.back it.now.approved.now.ring it.now.asked.dead.now it.now.asked.left.now
+        it.now.writers.now it.now.approved.now.plan it.now.history.now v.items) }
+{
+    let found = find(it, reach)?;
+    let mut said = Words::new(it.alloc);
+    said.text(found.words.as_slice());
+    let text = go_by(it, before, found)?;
+    words.words(&said);
+    Ok(text)
+}
+
+// Whether there is no such plan, and memory was not refused.
+fn is_none(outcome: &Result<Vec<u8>, Refusal>) -> bool {
+    match outcome {
+        Ok(_) | Err(Refusal::OutOfMemory) => false,
+        Err(_) => true,
+    }
+}
+
+// The bundle that goes on from there, by the search that goes farthest and finds one. Adds what becomes of slots and nodes.
+fn go_around(it: &Begun, before: &World, words: &mut Words) -> Result<Vec<u8>, Refusal>
+    requires { IsAfter it.now.approved.now.ring it.now.approved.now.plan it.now.history.now before.now }
+    ensures { IfOk result (λ v. GoesAround it.now.asked.detour.extent it.now.asked.back it.now.approved.now.ring it.now.asked.dead.now it.now.asked.left.now
+        it.now.writers.now it.now.approved.now.plan it.now.history.now v.items) }
+{
+    let far = go_so_far(it, before, Reach::Far, words);
+    if !is_none(&far) {
+        return far;
+    }
+    let near = go_so_far(it, before, Reach::Near, words);
+    if !is_none(&near) {
+        return near;
+    }
+    go_so_far(it, before, Reach::Full, words)
 }
 
 // The bundle that goes on from one that was read.
 fn around_read(
     alloc: Global,
     read: ReplayBundle,
-    dead: &[NodeId],
-    back: Back,
+    asked: Asked,
     words: &mut Words,
 ) -> Result<Vec<u8>, Refusal>
     requires { IsReplay read }
-    ensures { IfOk result (λ v. GoesAround back read.ring dead.now read.writers read.plan read.history.items v.items
+    ensures { IfOk result (λ v. GoesAround asked.entry.detour.extent asked.entry.back read.ring asked.entry.dead.now asked.entry.left.now read.writers read.plan read.history.items v.items
         × IsHistory read.ring read.plan read.history.items) }
 {
     let ReplayBundle {
@@ -144,41 +197,84 @@ fn around_read(
         writers,
         history,
     } = read;
-    let other = ring.copy(alloc)?;
     let approved = accepted(alloc, ring, plan, &cert)?;
     let entries = history.as_slice();
-    follow(alloc, &approved, entries)?;
+    let store = replay(alloc, &approved, entries)?;
     let begun = Begun {
         alloc,
         approved: &approved,
         cert: &cert,
         writers: &writers,
         history: entries,
-        dead,
-        back,
+        asked,
     };
-    match go_around(&begun, other, words) {
+    if push_unmoved(&begun, words)? {
+        return Err(Refusal::NoPlan);
+    }
+    match go_around(&begun, &store, words) {
         Ok(text) => Ok(text),
-        Err(refusal) => Err(cause(refusal)),
+        Err(refusal) => {
+            words.clear();
+            words.text(b"refused: no plan was found by which the history goes on\n");
+            Err(cause(refusal))
+        }
     }
 }
 
-/// The bundle that goes on where one stopped, around the nodes of these names, which are dead from here on: its ring, another plan, a certificate, and the history
-/// by that plan. An executor goes on with it: what it holds of a step it finds by the step's kind, partition, slot and node. Adds line by line to `words` what
-/// becomes of slots and nodes that do not go where they were to go; where there is no such bundle, what is added says nothing.
+// Whether mirrors may be taken back: also if a slot is to stay with its owner.
+fn back_with(left: &[Slot], back: Back) -> Back
+    ensures { result ≡ back_with left.now back }
+{
+    if left.is_empty() { back } else { Back::Allowed }
+}
+
+// What the options and the detour ask for, around these nodes and by these racks.
+fn asked_for<'a>(
+    dead: &'a [NodeId],
+    racking: &'a Racking,
+    options: &'a Options,
+    detour: Detour,
+) -> Asked<'a>
+    ensures dead { result.dead.now ≡ dead.now }
+    ensures left { result.left.now ≡ options.now.left.items }
+    ensures extent { result.detour.extent ≡ detour.extent }
+    ensures back { result.back ≡ back_with options.now.left.items detour.back }
+{
+    let racks = racking.racks.as_ref();
+    let left = options.left.as_slice();
+    Asked {
+        dead,
+        racks,
+        left,
+        detour,
+        back: back_with(left, detour.back),
+    }
+}
+
+/// Makes the bundle that goes on where one stopped, around the nodes that are dead by the options: its ring, another plan, a certificate, and the history by that plan. An
+/// executor goes on with it: what it holds of a step it finds by the step's kind, partition, slot and node. Slots that the options name stay with their owners; a mirror of
+/// such a slot is taken back in any case. Adds line by line to `words` what becomes of slots and nodes that do not go where they were to go, or at `NoPlan` why.
 ///
-/// Refused is the first fault of the texts; a name that the ring does not declare, as `UnknownNode(0)`; a plan that the checker refuses; a history that is no run of
-/// it; and as `NoPlan` where no plan is found by which it goes on. Costs about what `check` and `replay` cost of both bundles.
+/// Refused is the first fault of the texts; a name that the ring does not declare, and a member without a rack where racks are known, as `UnknownNode(0)`; a partition that
+/// the ring does not have, as `TooLarge` with its line in the layout; a plan that the checker refuses; a history that is not a run of it; and as `NoPlan` a slot that
+/// is to stay though no step to come moves it, or if no plan is found by which the history goes on. Costs about what `check` and `replay` cost of both bundles, and as much
+/// again for each plan that the checker refuses, at most two.
 pub fn around_bundle(
     alloc: Global,
     bytes: &[u8],
-    dead: &[Vec<u8>],
-    back: Back,
+    options: &Options,
+    detour: Detour,
     words: &mut Words,
 ) -> Result<Vec<u8>, Refusal>
-    ensures around { IfOk result (λ v. IsAround bytes.now (map (λ name. name.items) dead.now) back v.items) }
+    ensures around { IfOk result (λ v. IsAround bytes.now options.now detour v.items) }
 {
     let read = read_replay(alloc, bytes)?;
-    let nodes = nodes_of(alloc, &read.ring, dead)?;
-    around_read(alloc, read, nodes.as_slice(), back, words)
+    ask_layout(&read.ring, &options.layout)?;
+    let names = dead_by(alloc, options)?;
+    let nodes = nodes_of(alloc, &read.ring, names.as_slice())?;
+    let members = members_by(alloc, &read.ring, &read.plan)?;
+    let racking = racks_of(alloc, &read.ring, members.as_slice(), options)?;
+    let asked = asked_for(nodes.as_slice(), &racking, options, detour);
+    racking.push(words);
+    around_read(alloc, read, asked, words)
 }

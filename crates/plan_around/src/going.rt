@@ -6,18 +6,27 @@ ghost use Rattle.plan_check.specs.Certified.{IsCertified};
 ghost use Rattle.plan_check.specs.Headline.{KeepsPromises};
 ghost use Rattle.history_text.specs.Known.{AreKnownEntries};
 ghost use Rattle.history_text.specs.Spelling.{history_text};
-ghost use Rattle.plan_around.specs.Around.{GoesOn, RunsApart};
+ghost use Rattle.plan_past.specs.Past.{IsSamePast};
+ghost use Rattle.plan_runs.specs.World.{World as TheWorld};
+ghost use Rattle.ring_core.specs.World.{ring_of, plan_of, Meets};
+ghost use Rattle.plan_around.specs.Around.{GoesAround, IsAfter, LeadsOn, RunsApart};
+ghost use Rattle.plan_around.specs.Ends.{EndsWell};
 
+use crate::alike::are_alike;
 use crate::apart::are_apart;
+use crate::ending::{Endings, ends_well};
+use crate::retelling::{Retold, retell};
 use history_text::{are_known, push_history};
 use plan_cert::Cert;
 use plan_check::{Approved, Turned, check};
 use plan_goal::write_front;
-use plan_runs::Entry;
+use plan_past::{SamePast, Told, is_same_past};
+use plan_runs::{Back, Entry};
 use plan_text::Plan;
-use ring_core::replay;
-use ring_names::{Names, NodeId, Refusal};
+use ring_core::{World, replay};
+use ring_names::{Names, NodeId, Refusal, Slot};
 use ring_table::Ring;
+use ringplan_job::Extent;
 use std::alloc::Global;
 
 // The most entries of a history.
@@ -41,39 +50,47 @@ pub(crate) fn accepted(
     }
 }
 
-// Whether the history is a run of the plan that leads to where the dead are asked for nothing more. Refused is what the replay refuses.
-fn runs_apart(
+// Whether the history is a run of the plan that leads to where the dead are asked for nothing more, and to a store like the one before. Refused is what the replay refuses.
+fn runs_on(
     alloc: Global,
     approved: &Approved,
+    before: &World,
     history: &[Entry],
     dead: &[NodeId],
 ) -> Result<bool, Refusal>
-    requires { length history.now ≤ 1000000 }
-    ensures { IfOk result (λ b. IsTrue b → RunsApart approved.now.ring approved.now.plan dead.now history.now) }
+    requires few { length history.now ≤ 1000000 }
+    requires ring { ring_of before.now ≡ approved.now.ring }
+    ensures apart { IfOk result (λ b. IsTrue b → RunsApart approved.now.ring approved.now.plan dead.now history.now) }
+    ensures alike { IfOk result (λ b. IsTrue b → LeadsOn approved.now.ring before.now approved.now.plan history.now) }
 {
     let store = replay(alloc, approved, history)?;
+    if !are_alike(approved.ring(), approved.plan(), before, &store) {
+        return Ok(false);
+    }
     are_apart(alloc, &store, approved.ring(), approved.plan(), dead)
 }
 
-// The text of the history, where it goes on by the plan; else `NoPlan`, or what the replay refuses.
+// The text of the history, if it goes on by the plan; else `NoPlan`, or what the replay refuses.
 fn history_on(
     alloc: Global,
     approved: &Approved,
-    writers: &Names,
+    before: &World,
+    it: &Going,
     history: &[Entry],
-    dead: &[NodeId],
 ) -> Result<Vec<u8>, Refusal>
-    ensures run { OnOk result (RunsApart approved.now.ring approved.now.plan dead.now history.now) }
-    ensures text { IfOk result (λ v. v.items ≡ history_text approved.now.ring writers.now history.now) }
+    requires { ring_of before.now ≡ approved.now.ring }
+    ensures run { OnOk result (RunsApart approved.now.ring approved.now.plan it.now.dead.now history.now) }
+    ensures alike { OnOk result (LeadsOn approved.now.ring before.now approved.now.plan history.now) }
+    ensures text { IfOk result (λ v. v.items ≡ history_text approved.now.ring it.now.writers.now history.now) }
 {
-    if history.len() > MOST || !are_known(approved.ring(), writers, history) {
+    if history.len() > MOST || !are_known(approved.ring(), it.writers, history) {
         return Err(Refusal::NoPlan);
     }
-    if !runs_apart(alloc, approved, history, dead)? {
+    if !runs_on(alloc, approved, before, history, it.dead)? {
         return Err(Refusal::NoPlan);
     }
     let mut out = Vec::new(alloc);
-    push_history(&mut out, approved, writers, history)?;
+    push_history(&mut out, approved, it.writers, history)?;
     Ok(out)
 }
 
@@ -86,25 +103,100 @@ fn followed(text: Vec<u8>, more: &[u8]) -> Result<Vec<u8>, Refusal>
     Ok(text)
 }
 
-/// A plan, its certificate, and a history of it with the names of its writers.
-#[derive(Drop)]
+/// A plan that has begun, and what its steps are called in another one.
+#[derive(Clone, Copy)]
 pub(crate) struct Going<'a> {
-    pub(crate) cert: &'a Cert,
-    pub(crate) writers: &'a Names,
+    pub(crate) old: &'a Approved,
     pub(crate) history: &'a [Entry],
+    pub(crate) writers: &'a Names,
     pub(crate) dead: &'a [NodeId],
+    pub(crate) left: &'a [Slot],
+    pub(crate) back: Back,
+    pub(crate) extent: Extent,
+    /// By step of the old plan, its number in the new one; none if its entries are left out.
+    pub(crate) numbers: &'a [Option<u32>],
+    /// By step of the new plan, its number in the old one.
+    pub(crate) olds: &'a [u32],
+    /// The new plan's certificate.
+    pub(crate) cert: &'a Cert,
 }
 
-/// The text of all, where the checker accepts the plan and the history goes on by it. `NoPlan` where the plan is none of the ring, the certificate is none, or the
-/// dead are asked for something; else what the checker or the replay refuses.
-pub(crate) fn go_on(alloc: Global, ring: Ring, plan: Plan, it: &Going) -> Result<Vec<u8>, Refusal>
-    ensures { IfOk result (λ v. GoesOn ring it.now.dead.now it.now.writers.now plan it.now.cert.now it.now.history.now v.items) }
+// Whether the entries tell what the old history tells, by the new plan.
+fn tells_past(
+    alloc: Global,
+    it: &Going,
+    new: &Approved,
+    entries: &[Entry],
+    counts: &[u32],
+) -> Result<bool, Refusal>
+    ensures { IfOk result (λ b. IsTrue b → IsSamePast it.now.back it.now.old.now.plan new.now.plan it.now.history.now entries.now) }
 {
+    let plans = SamePast {
+        old: it.old.plan(),
+        new: new.plan(),
+        numbers: it.numbers,
+        olds: it.olds,
+        back: it.back,
+    };
+    is_same_past(alloc, &plans, it.history, &Told { entries, counts })
+}
+
+// The history by the new plan. `NoPlan` if it does not tell what the old one tells.
+fn past(alloc: Global, it: &Going, new: &Approved) -> Result<Vec<Entry>, Refusal>
+    ensures { IfOk result (λ v. IsSamePast it.now.back it.now.old.now.plan new.now.plan it.now.history.now v.items) }
+{
+    let Retold { entries, counts } = retell(alloc, it.old, new, it.numbers, it.history)?;
+    if !tells_past(alloc, it, new, entries.as_slice(), counts.as_slice())? {
+        return Err(Refusal::NoPlan);
+    }
+    Ok(entries)
+}
+
+// Asks whether the new plan ends where it should. If it does not, that is `NoPlan`.
+fn ask_ends(alloc: Global, it: &Going, before: &World, new: &Approved) -> Result<(), Refusal>
+    requires same { new.now.ring ≡ it.now.old.now.ring }
+    requires ring { ring_of before.now ≡ it.now.old.now.ring }
+    requires plan { plan_of before.now ≡ it.now.old.now.plan }
+    ensures { OnOk result ((w : TheWorld) → Meets before.now w
+        → EndsWell it.now.extent it.now.back it.now.old.now.ring it.now.old.now.plan w new.now.plan it.now.dead.now it.now.left.now) }
+{
+    let endings = Endings {
+        ring: it.old.ring(),
+        old: it.old.plan(),
+        new: new.plan(),
+        before,
+        dead: it.dead,
+        left: it.left,
+        back: it.back,
+        extent: it.extent,
+    };
+    if ends_well(alloc, &endings)? {
+        return Ok(());
+    }
+    Err(Refusal::NoPlan)
+}
+
+/// The text of all, if the checker accepts the new plan and the history goes on by it, from a store like the one that the old history leads to. `NoPlan` if the plan or the
+/// certificate is not the ring's, if the history does not tell what the old one tells, if the stores differ, if the plan does not end where it should, or if the dead are
+/// asked for something; otherwise what the checker or the replay refuses.
+pub(crate) fn go_on(
+    alloc: Global,
+    plan: Plan,
+    it: &Going,
+    before: &World,
+) -> Result<Vec<u8>, Refusal>
+    requires { IsAfter it.now.old.now.ring it.now.old.now.plan it.now.history.now before.now }
+    ensures { IfOk result (λ v. GoesAround it.now.extent it.now.back it.now.old.now.ring it.now.dead.now it.now.left.now it.now.writers.now it.now.old.now.plan
+        it.now.history.now v.items) }
+{
+    let ring = it.old.ring().copy(alloc)?;
     if !plan.suits(&ring) || !it.cert.suits(&ring) {
         return Err(Refusal::NoPlan);
     }
     let text = write_front(alloc, &ring, &plan, it.cert)?;
     let approved = accepted(alloc, ring, plan, it.cert)?;
-    let history = history_on(alloc, &approved, it.writers, it.history, it.dead)?;
+    ask_ends(alloc, it, before, &approved)?;
+    let entries = past(alloc, it, &approved)?;
+    let history = history_on(alloc, &approved, before, it, entries.as_slice())?;
     followed(text, history.as_slice())
 }

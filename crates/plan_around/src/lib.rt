@@ -1,9 +1,15 @@
 //! Another plan around nodes that died in the middle of a change, once the checker has accepted it and the replay has found that the history goes on by it.
 #![tactic(auto)]
 
+mod ahead;
+mod alike;
 mod apart;
 mod around;
+mod chunks;
+mod ending;
 mod going;
 mod over;
+mod retelling;
+mod storing;
 
 pub use around::{around_bundle, follow};

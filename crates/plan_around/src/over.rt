@@ -7,7 +7,7 @@ ghost use Rattle.ring_core.specs.World.{Meets, Refuses};
 ghost use Rattle.plan_around.specs.Apart.{is_whole};
 
 use plan_runs::Event;
-use plan_text::Step;
+use plan_text::{Plan, Step};
 use ring_core::World;
 use ring_names::Refusal;
 
@@ -77,6 +77,20 @@ pub(crate) fn is_over(store: &World, step: &Step, number: u32) -> bool
 {
     match step {
         Step::Copy(_, _) => is_whole(store, number) || is_copied(store, number),
+        Step::Join(_) | Step::Mirror(_, _) | Step::Switch(_) | Step::Drop(_, _) | Step::Retire(_) =>
+            { is_done(store, number) }
+    }
+}
+
+/// Whether the step of that number is done.
+pub(crate) fn is_step_done(store: &World, plan: &Plan, number: u32) -> bool
+    ensures { IsTrue result → (w : TheWorld) → Meets store.now w → w.done number ≡ true }
+{
+    if number >= plan.len() {
+        return false;
+    }
+    match plan.step(number) {
+        Step::Copy(_, _) => is_copied(store, number),
         Step::Join(_) | Step::Mirror(_, _) | Step::Switch(_) | Step::Drop(_, _) | Step::Retire(_) =>
             { is_done(store, number) }
     }

@@ -5,26 +5,41 @@ use Rattle.ring_names.specs.Lists.{has}
 use Rattle.ring_names.specs.declared.ids.NodeId.{NodeId}
 use Rattle.ring_table.specs.Value.{RingValue, is_member}
 use Rattle.plan_text.specs.Changes.{numbers}
-use Rattle.size_text.specs.declared.size.PartitionSize.{PartitionSize}
+use Rattle.std.specs.List.{list_any}
+use Rattle.ring_names.specs.Names.{place}
+use Rattle.layout_text.specs.declared.layout.Entry.{Entry}
+use Rattle.layout_text.specs.declared.layout.Fact.{Fact}
+use Rattle.layout_text.specs.declared.layout.Fact.TheVariants.{Size, Weight}
 use Rattle.plan_bundles.specs.Rings.{flags}
 
--- the list with that size at the place of its partition, or that weight at the place of its node
-abbrev pub with_size : List ℕ → PartitionSize → List ℕ
-with_size all x = slice_set all x.partition x.size
+-- the list with the size of a fact at the place of its partition
+abbrev pub with_size : List ℕ → Fact → List ℕ
+with_size all (Size p n) = slice_set all p n
+with_size all fact = all
 
-abbrev pub with_weight : List ℕ → NodeId → ℕ → List ℕ
-with_weight all x weight = slice_set all x.0 weight
-
--- the sizes, with those that are listed
-abbrev pub sizes_by : List ℕ → List PartitionSize → List ℕ
+-- the sizes, with those that facts have
+abbrev pub sizes_by : List ℕ → List Entry → List ℕ
 sizes_by all [] = all
-sizes_by all (x ∷ xs) = sizes_by (with_size all x) xs
+sizes_by all (x ∷ xs) = sizes_by (with_size all x.fact) xs
 
--- the weights, with those that are given to these nodes
-abbrev pub weights_by : List ℕ → List NodeId → List ℕ → List ℕ
-weights_by all [] weights = all
-weights_by all (x ∷ xs) [] = all
-weights_by all (x ∷ xs) (w ∷ ws) = weights_by (with_weight all x w) xs ws
+-- whether the fact is a size
+abbrev pub is_size : Fact → Bool
+is_size (Size p n) = true
+is_size fact = false
+
+-- whether a fact is
+abbrev pub has_sizes : List Entry → Bool
+has_sizes = list_any (λ x. is_size x.fact)
+
+-- the list with the weight of a fact at the place of its node, by the names of nodes
+abbrev pub with_weight : List (List ℕ) → List ℕ → Fact → List ℕ
+with_weight names all (Weight node parts) = elim (place names node) [ Some x ↦ slice_set all x parts | None ↦ all ]
+with_weight names all fact = all
+
+-- the weights, with those that facts have
+abbrev pub weights_by : List (List ℕ) → List ℕ → List Entry → List ℕ
+weights_by names all [] = all
+weights_by names all (x ∷ xs) = weights_by names (with_weight names all x.fact) xs
 
 -- the owners of a partition's slots
 abbrev pub row_at : List (List NodeId) → ℕ → List NodeId

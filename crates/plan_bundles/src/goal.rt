@@ -1,17 +1,21 @@
 //! Plans that lead from a ring to the ring that it should become.
 
-ghost use Rattle.std.specs.Prelude.{◌≡◌, map, length, IfOk, OnOk};
+ghost use Rattle.std.specs.Prelude.{◌≡◌, ◌++◌, true, map, length, IfOk, OnOk};
 ghost use Rattle.plan_bundles.specs.Rings.{flags};
-ghost use Rattle.plan_bundles.specs.Goals.{AreNamed, HasChangedMembers, IsGoalReached, IsLed, IsSizedAsAsked, IsWishReached, is_changed_member};
+ghost use Rattle.plan_bundles.specs.Sized.{has_sizes};
+ghost use Rattle.plan_bundles.specs.Goals.{AreNamed, HasChangedMembers, IsGoalReached, IsLed, IsSizedBy, IsWishReached, dead_named, dead_names, is_changed_member};
 ghost use Rattle.plan_bundles.specs.Goals.{leaves_too, with_dead as the_change_with_dead};
 
+use crate::racks::{ask_layout, members_with, racks_of};
 use crate::sections::{Kind, kind_of};
-use crate::sized::{Measures, are_kept, sizes_of, weights_of};
-use change_text::{Change, Options, Wanted, read_wanted};
-use helpers::rack;
-use plan_goal::{Goal, Proposed, is_among, reach, read_goal};
+use crate::sized::{Measures, are_kept, has_sizes, sizes_of, weights_of};
+use crate::unread::wanted_by;
+use change_text::{Change, Options, Unreadable, Wanted, read_wanted};
+use helpers::Labels;
+use layout_text::{Fact, Layout};
+use plan_goal::{Aim, Goal, Proposed, is_among, reach, read_goal, unread_partitions};
 use plan_maker::{Wish, wished};
-use ring_names::{Listed, Names, NodeId, Refusal};
+use ring_names::{Listed, NodeId, Refusal};
 use ring_table::Ring;
 use std::alloc::Global;
 
@@ -29,14 +33,54 @@ pub fn nodes_of(alloc: Global, ring: &Ring, names: &[Vec<u8>]) -> Result<Vec<Nod
     Ok(nodes)
 }
 
-/// Reads two rings, and finds a plan that leads from the first to the second, around the nodes that are named dead. Refused is the first fault of the
-/// rings, a name that the first does not declare, as `UnknownNode(0)`, and what `reach` refuses.
-pub fn goal_bundle(alloc: Global, bytes: &[u8], dead: &[Vec<u8>]) -> Result<Proposed, Refusal>
-    ensures reached { IfOk result (λ p. IsGoalReached bytes.now (map (λ name. name.items) dead.now) p) }
+// Adds the name of the node that a fact says is dead, if it says so.
+fn add_dead_name(alloc: Global, fact: &Fact, names: &mut Vec<Vec<u8>>) -> Result<(), Refusal>
+    ensures { OnOk result (map (λ name. name.items) names.new.items ≡ map (λ name. name.items) names.old.items ++ dead_named fact.now) }
+{
+    if let Fact::Dead { node } = fact {
+        let name = Vec::from_slice(alloc, node.as_slice())?;
+        names.push(name)?;
+    }
+    Ok(())
+}
+
+// A copy of the names.
+fn copy_names(alloc: Global, names: &[Vec<u8>]) -> Result<Vec<Vec<u8>>, Refusal>
+    ensures { IfOk result (λ copies. map (λ name. name.items) copies.items ≡ map (λ name. name.items) names.now) }
+{
+    let mut copies = Vec::new(alloc);
+    for name in names {
+        copies.push(Vec::from_slice(alloc, name.as_slice())?)?;
+    }
+    Ok(copies)
+}
+
+/// The names of the nodes that are dead by the options: those of the line, and then those of the layout.
+pub fn dead_by(alloc: Global, options: &Options) -> Result<Vec<Vec<u8>>, Refusal>
+    ensures { IfOk result (λ names. map (λ name. name.items) names.items ≡ dead_names options.now) }
+{
+    let mut names = copy_names(alloc, options.dead.as_slice())?;
+    let entries = options.layout.entries.as_slice();
+    for entry in entries {
+        add_dead_name(alloc, &entry.fact, &mut names)?;
+    }
+    Ok(names)
+}
+
+/// Reads two rings, and finds a plan that leads from the first to the second, around the nodes that are named dead. If unread partitions are left, their slots stay
+/// with their owners. Refused is the first fault of the rings, a name that the first does not declare, as `UnknownNode(0)`, and what `reach` refuses.
+pub fn goal_bundle(
+    alloc: Global,
+    bytes: &[u8],
+    unreadable: Unreadable,
+    dead: &[Vec<u8>],
+) -> Result<Proposed, Refusal>
+    ensures reached { IfOk result (λ p. IsGoalReached bytes.now unreadable (map (λ name. name.items) dead.now) p) }
 {
     let Goal { ring, wanted } = read_goal(alloc, bytes)?;
     let nodes = nodes_of(alloc, &ring, dead)?;
-    reach(alloc, ring, &wanted, nodes.as_slice())
+    let goal = wanted_by(alloc, unreadable, &ring, nodes.as_slice(), wanted)?;
+    reach(alloc, ring, &goal, nodes.as_slice())
 }
 
 // Whether each node is a member once the change is made.
@@ -87,49 +131,30 @@ pub fn with_dead(ring: &Ring, change: Change, dead: &[NodeId]) -> Result<Change,
     })
 }
 
-// For each node, how many parts of the slots it should have.
-fn weights(alloc: Global, ring: &Ring, options: &Options) -> Result<Vec<u32>, Refusal> {
-    let nodes = nodes_of(alloc, ring, options.weighed.as_slice())?;
-    let count = ring.nodes().len();
-    weights_of(alloc, count, nodes.as_slice(), options.weights.as_slice())
-}
-
-// Of each partition its size, where sizes are asked for.
-fn sizes(alloc: Global, ring: &Ring, options: &Options) -> Result<Option<Vec<u32>>, Refusal> {
-    match &options.sizes {
-        Some(sizes) => Ok(Some(sizes_of(alloc, ring.q(), sizes.as_slice())?)),
-        None => Ok(None),
-    }
-}
-
-// Of each node the number of its rack, where racks are asked for.
-fn racks(alloc: Global, ring: &Ring, behind: Option<u8>) -> Result<Vec<u32>, Refusal> {
-    let mut racks = Vec::new(alloc);
-    let mut names = Names::new(alloc);
-    if let Some(behind) = behind {
-        for node in ring.nodes() {
-            if names.len() == u32::MAX {
-                break;
-            }
-            racks.push(names.add(rack(node.name.as_slice(), behind))?)?;
-        }
-    }
-    Ok(racks)
-}
-
 // What is wished of the ring.
 #[derive(Drop)]
 struct Asked {
     weights: Vec<u32>,
-    racks: Vec<u32>,
-    sizes: Option<Vec<u32>>,
+    racks: Option<Labels>,
+    sizes: Option<Vec<u64>>,
 }
 
-fn asked_for(alloc: Global, ring: &Ring, options: &Options) -> Result<Asked, Refusal> {
+fn asked_for(
+    alloc: Global,
+    ring: &Ring,
+    change: &Change,
+    options: &Options,
+) -> Result<Asked, Refusal> {
+    let members = members_with(alloc, ring, change.joins.as_slice())?;
+    let sizes = if has_sizes(&options.layout) {
+        Some(sizes_of(alloc, ring.q(), &options.layout)?)
+    } else {
+        None
+    };
     Ok(Asked {
-        weights: weights(alloc, ring, options)?,
-        racks: racks(alloc, ring, options.racks_behind)?,
-        sizes: sizes(alloc, ring, options)?,
+        weights: weights_of(alloc, ring, &options.layout)?,
+        racks: racks_of(alloc, ring, members.as_slice(), options)?.racks,
+        sizes,
     })
 }
 
@@ -139,7 +164,10 @@ fn wish<'a>(asked: &'a Asked, change: &'a Change) -> Wish<'a> {
         joins: change.joins.as_slice(),
         leaves: change.leaves.as_slice(),
         weights: asked.weights.as_slice(),
-        racks: asked.racks.as_slice(),
+        racks: match &asked.racks {
+            Some(racks) => racks.numbers(),
+            None => &[],
+        },
         sizes: match &asked.sizes {
             Some(sizes) => Some(sizes.as_slice()),
             None => None,
@@ -154,7 +182,7 @@ fn placed(
     change: &Change,
     options: &Options,
 ) -> Result<Vec<Listed<NodeId>>, Refusal> {
-    let asked = asked_for(alloc, ring, options)?;
+    let asked = asked_for(alloc, ring, change, options)?;
     wished(alloc, ring, &wish(&asked, change))
 }
 
@@ -172,25 +200,23 @@ fn wished_ring(
     ring.with(alloc, rows.as_slice(), members.as_slice())
 }
 
-// Asks whether each slot may have its owner in the wanted ring by the sizes of the options. If it may not, that is `NoPlan`. Without sizes
-// there is nothing to ask.
+// Asks whether each slot may have its owner in the wanted ring by the sizes of the layout. If it may not, that is `NoPlan`. Without sizes there is
+// nothing to ask.
 fn ask_sized(
     alloc: Global,
     ring: &Ring,
     change: &Change,
-    options: &Options,
+    layout: &Layout,
     wanted: &Ring,
 ) -> Result<(), Refusal>
-    ensures { OnOk result (IsSizedAsAsked options.now ring.now change.now wanted.now) }
+    ensures { OnOk result (has_sizes layout.now.entries ≡ true → IsSizedBy ring.now change.now layout.now.entries wanted.now) }
 {
-    let Some(sizes) = &options.sizes else {
+    if !has_sizes(layout) {
         return Ok(());
-    };
-    let nodes = nodes_of(alloc, ring, options.weighed.as_slice())?;
-    let count = ring.nodes().len();
+    }
     let measures = Measures {
-        sizes: sizes_of(alloc, ring.q(), sizes.as_slice())?,
-        weights: weights_of(alloc, count, nodes.as_slice(), options.weights.as_slice())?,
+        sizes: sizes_of(alloc, ring.q(), layout)?,
+        weights: weights_of(alloc, ring, layout)?,
     };
     if are_kept(alloc, ring, change, &measures, wanted)? {
         return Ok(());
@@ -198,38 +224,69 @@ fn ask_sized(
     Err(Refusal::NoPlan)
 }
 
-/// Reads a ring and a change, and finds a plan that leads from the ring to one with the members of the change, around the nodes that are
-/// named dead, by weight and with racks apart as the options say. A dead member leaves, whether or not the change says so. Where the options have sizes, a slot has a
-/// new owner only if it was a leaver's, or if it has keys and goes to a node that joins and stores no more than its share. Refused is the first fault of the texts, a name
-/// that the ring does not declare, as `UnknownNode(0)`, a partition that it does not have, as `TooLarge` with its line among the sizes, a change that leaves too few members, as
-/// `NoPlan`, and what `reach` refuses.
+/// Reads a ring and a change, and finds a plan that leads from the ring to one with the members of the change, around the nodes that are dead by the options, by
+/// weight and with racks apart. A dead member leaves, whether or not the change says so. If the layout has sizes, a slot has a new owner only if it was a leaver's, or if
+/// it has keys and goes to a node that joins and stores no more than its share. If unread partitions are left, their slots stay with their owners.
+///
+/// Refused is the first fault of the texts; a name that the ring does not declare, and a member without a rack where racks are known, as `UnknownNode(0)`; a partition
+/// that the ring does not have, as `TooLarge` with its line in the layout; a change that leaves too few members, as `NoPlan`; and what `reach` refuses.
 pub fn wish_bundle(alloc: Global, bytes: &[u8], options: &Options) -> Result<Proposed, Refusal>
     ensures reached { IfOk result (IsWishReached bytes.now options.now) }
 {
     let Wanted { ring, change } = read_wanted(alloc, bytes)?;
-    let nodes = nodes_of(alloc, &ring, options.dead.as_slice())?;
+    ask_layout(&ring, &options.layout)?;
+    let dead = dead_by(alloc, options)?;
+    let nodes = nodes_of(alloc, &ring, dead.as_slice())?;
     let change = with_dead(&ring, change, nodes.as_slice())?;
     let wanted = wished_ring(alloc, &ring, &change, options)?;
-    ask_sized(alloc, &ring, &change, options, &wanted)?;
-    reach(alloc, ring, &wanted, nodes.as_slice())
+    ask_sized(alloc, &ring, &change, &options.layout, &wanted)?;
+    let goal = wanted_by(alloc, options.unreadable, &ring, nodes.as_slice(), wanted)?;
+    reach(alloc, ring, &goal, nodes.as_slice())
 }
 
-/// The ring of a change, and the ring that is wished for.
-pub fn wished_goal(alloc: Global, bytes: &[u8], options: &Options) -> Result<Goal, Refusal> {
+// The ring of a bundle, and the second ring or the one that is wished for, whatever is unread.
+fn read_aim(alloc: Global, bytes: &[u8], options: &Options) -> Result<Goal, Refusal> {
+    if kind_of(bytes) != Kind::Change {
+        return read_goal(alloc, bytes);
+    }
     let Wanted { ring, change } = read_wanted(alloc, bytes)?;
-    let nodes = nodes_of(alloc, &ring, options.dead.as_slice())?;
+    let dead = dead_by(alloc, options)?;
+    let nodes = nodes_of(alloc, &ring, dead.as_slice())?;
     let change = with_dead(&ring, change, nodes.as_slice())?;
     let wanted = wished_ring(alloc, &ring, &change, options)?;
     Ok(Goal { ring, wanted })
 }
 
-/// Finds a plan that leads to the ring that is wished for: `goal_bundle` of two rings, and `wish_bundle` of a ring and a change. By sizes there is nothing to
-/// choose of two rings: they are refused as a change that is none.
+/// The ring of a bundle with two rings or a change, the ring to which a plan should lead, and the unread partitions, ascending.
+pub fn goal_of(
+    alloc: Global,
+    bytes: &[u8],
+    options: &Options,
+) -> Result<(Goal, Vec<u32>), Refusal> {
+    let Goal { ring, wanted } = read_aim(alloc, bytes, options)?;
+    let dead = dead_by(alloc, options)?;
+    let nodes = nodes_of(alloc, &ring, dead.as_slice())?;
+    let aim = Aim {
+        alloc,
+        ring: &ring,
+        wanted: &wanted,
+        dead: nodes.as_slice(),
+    };
+    let unread = unread_partitions(&aim)?;
+    let wanted = wanted_by(alloc, options.unreadable, &ring, nodes.as_slice(), wanted)?;
+    Ok((Goal { ring, wanted }, unread))
+}
+
+/// Finds a plan that leads to the ring that is wished for: `goal_bundle` of two rings, around the nodes that are dead by the options, and `wish_bundle` of a ring and a
+/// change.
 pub fn led_bundle(alloc: Global, bytes: &[u8], options: &Options) -> Result<Proposed, Refusal>
     ensures led { IfOk result (IsLed bytes.now options.now) }
 {
-    match (kind_of(bytes), &options.sizes) {
-        (Kind::Plan | Kind::History, None) => goal_bundle(alloc, bytes, options.dead.as_slice()),
-        _ => wish_bundle(alloc, bytes, options),
+    match kind_of(bytes) {
+        Kind::Plan | Kind::History => {
+            let dead = dead_by(alloc, options)?;
+            goal_bundle(alloc, bytes, options.unreadable, dead.as_slice())
+        }
+        Kind::Change => wish_bundle(alloc, bytes, options),
     }
 }

@@ -1,16 +1,17 @@
 //! Whether a ring keeps what is promised where partitions have sizes.
 
 ghost use Rattle.std.specs.Prelude.{◌≡◌, ◌*◌, ◌&&◌, nat_le, true, length, slice_index, replicate, IfOk, IfSome, OnOk, IsTrue};
-ghost use Rattle.plan_bundles.specs.Sized.{IsSized, all_stored, all_weights, is_flagged, is_taker, loads_below, may_go, may_row, may_rows, row_at, sizes_by, sum_below, takes, weight_in, weights_by, with_row, with_size, with_slot, with_weight};
+ghost use Rattle.plan_bundles.specs.Sized.{IsSized, all_stored, all_weights, has_sizes, is_flagged, is_size, is_taker, loads_below, may_go, may_row, may_rows, row_at, sizes_by, sum_below, takes, weight_in, weights_by, with_row, with_size, with_slot, with_weight};
 ghost use Rattle.plan_bundles.specs.Rings.{flags};
 ghost use Rattle.ring_names.specs.Lists.{has};
+ghost use Rattle.ring_table.specs.Value.{names_of};
 ghost use Rattle.plan_text.specs.Changes.{numbers};
 
 use change_text::Change;
+use layout_text::{Entry, Fact, Layout};
 use plan_goal::is_among;
 use ring_names::{Listed, NodeId, Refusal};
 use ring_table::Ring;
-use size_text::PartitionSize;
 use std::alloc::Global;
 
 // The number at the place, and 0 where there is none.
@@ -23,7 +24,7 @@ fn number_at(numbers: &[u32], place: usize) -> u32
     }
 }
 
-// The load at the place, and 0 where there is none.
+// The size or the load at the place, and 0 if there is none.
 fn load_at(loads: &[u64], place: usize) -> u64
     ensures { result ≡ slice_index loads.now place }
 {
@@ -33,8 +34,8 @@ fn load_at(loads: &[u64], place: usize) -> u64
     }
 }
 
-// Whether there is a flag at the place, and it is set.
-fn is_flagged(flags: &[bool], place: usize) -> bool
+/// Whether there is a flag at the place, and it is set.
+pub fn is_flagged(flags: &[bool], place: usize) -> bool
     ensures { result ≡ is_flagged flags.now place }
 {
     match flags.get(place) {
@@ -43,8 +44,8 @@ fn is_flagged(flags: &[bool], place: usize) -> bool
     }
 }
 
-// The owners of the partition's slots.
-fn row_at(rows: &[Listed<NodeId>], partition: usize) -> &[NodeId]
+/// The owners of the partition's slots, or none if there is no such partition.
+pub fn row_at(rows: &[Listed<NodeId>], partition: usize) -> &[NodeId]
     ensures { result.now ≡ row_at rows.now partition }
 {
     match rows.get(partition) {
@@ -54,12 +55,12 @@ fn row_at(rows: &[Listed<NodeId>], partition: usize) -> &[NodeId]
 }
 
 // Adds a slot of that size to what the node stores.
-fn add_slot(loads: &mut Vec<u64>, size: u32, node: NodeId) -> Result<(), Refusal>
+fn add_slot(loads: &mut Vec<u64>, size: u64, node: NodeId) -> Result<(), Refusal>
     ensures { OnOk result (loads.new.items ≡ with_slot size loads.old.items node) }
 {
     let place = node.0 as usize;
     if place < loads.len() {
-        match loads[place].checked_add(u64::from(size)) {
+        match loads[place].checked_add(size) {
             Some(load) => loads[place] = load,
             None => return Err(Refusal::NoPlan),
         }
@@ -68,7 +69,7 @@ fn add_slot(loads: &mut Vec<u64>, size: u32, node: NodeId) -> Result<(), Refusal
 }
 
 // Adds a partition's slots to what their owners store.
-fn add_row(loads: &mut Vec<u64>, size: u32, row: &[NodeId]) -> Result<(), Refusal>
+fn add_row(loads: &mut Vec<u64>, size: u64, row: &[NodeId]) -> Result<(), Refusal>
     ensures { OnOk result (loads.new.items ≡ with_row size loads.old.items row.now) }
 {
     let Some((node, more)) = row.split_first() else {
@@ -82,7 +83,7 @@ fn add_row(loads: &mut Vec<u64>, size: u32, row: &[NodeId]) -> Result<(), Refusa
 #[tactic(auto, using(crate::proofs::FirstNumbers::loads_none, crate::proofs::FirstNumbers::loads_more))]
 fn loads_of(
     alloc: Global,
-    sizes: &[u32],
+    sizes: &[u64],
     rows: &[Listed<NodeId>],
     nodes: usize,
 ) -> Result<Vec<u64>, Refusal>
@@ -90,7 +91,7 @@ fn loads_of(
 {
     let mut loads = vec![in alloc; 0u64; nodes]?;
     'rows: for partition in 0..rows.len() {
-        let size = number_at(sizes, partition);
+        let size = load_at(sizes, partition);
         add_row(&mut loads, size, row_at(rows, partition))?;
     }
     Ok(loads)
@@ -98,12 +99,12 @@ fn loads_of(
 
 // The sum of the first numbers.
 #[tactic(auto, using(crate::proofs::FirstNumbers::sum_none, crate::proofs::FirstNumbers::sum_more))]
-fn sum_of(numbers: &[u32], count: usize) -> Option<u64>
+fn sum_of(numbers: &[u64], count: usize) -> Option<u64>
     ensures { IfSome result (λ sum. sum ≡ sum_below (slice_index numbers.now) count) }
 {
     let mut sum = 0u64;
     'numbers: for place in 0..count {
-        sum = sum.checked_add(u64::from(number_at(numbers, place)))?;
+        sum = sum.checked_add(load_at(numbers, place))?;
     }
     Some(sum)
 }
@@ -134,7 +135,7 @@ fn all_weights(weights: &[u32], ring: &Ring) -> Option<u64>
 }
 
 // What all slots of the ring store together.
-fn all_stored(sizes: &[u32], ring: &Ring) -> Option<u64>
+fn all_stored(sizes: &[u64], ring: &Ring) -> Option<u64>
     ensures { IfSome result (λ sum. sum ≡ all_stored sizes.now ring.now) }
 {
     let one = sum_of(sizes, ring.q() as usize)?;
@@ -191,7 +192,7 @@ impl<'a> Shares<'a> {
 fn takers_of(
     alloc: Global,
     joins: &[NodeId],
-    sizes: &[u32],
+    sizes: &[u64],
     weights: &[u32],
     ring: &Ring,
 ) -> Result<Vec<bool>, Refusal>
@@ -226,7 +227,7 @@ fn leavers_of(alloc: Global, leaves: &[NodeId], ring: &Ring) -> Result<Vec<bool>
 }
 
 // Whether a slot of a partition of that size may go from one owner to the other.
-fn may_go(leavers: &[bool], takers: &[bool], size: u32, old: NodeId, new: NodeId) -> bool
+fn may_go(leavers: &[bool], takers: &[bool], size: u64, old: NodeId, new: NodeId) -> bool
     ensures { result ≡ may_go leavers.now takers.now size old new }
 {
     old.0 == new.0
@@ -238,7 +239,7 @@ fn may_go(leavers: &[bool], takers: &[bool], size: u32, old: NodeId, new: NodeId
 fn may_row(
     leavers: &[bool],
     takers: &[bool],
-    size: u32,
+    size: u64,
     before: &[NodeId],
     after: &[NodeId],
 ) -> bool
@@ -258,14 +259,14 @@ fn may_row(
 fn may_rows(
     leavers: &[bool],
     takers: &[bool],
-    sizes: &[u32],
+    sizes: &[u64],
     before: &[Listed<NodeId>],
     after: &[Listed<NodeId>],
 ) -> bool
     ensures { IsTrue result → may_rows leavers.now takers.now sizes.now before.now after.now ≡ true }
 {
     'rows: for partition in 0..before.len() {
-        let size = number_at(sizes, partition);
+        let size = load_at(sizes, partition);
         let (old, new) = (row_at(before, partition), row_at(after, partition));
         if !may_row(leavers, takers, size, old, new) {
             return false;
@@ -277,7 +278,7 @@ fn may_rows(
 /// The size of each partition, and the weight of each node.
 #[derive(Drop)]
 pub struct Measures {
-    pub sizes: Vec<u32>,
+    pub sizes: Vec<u64>,
     pub weights: Vec<u32>,
 }
 
@@ -299,76 +300,92 @@ pub fn are_kept(
     Ok(may_rows(leavers.as_slice(), takers.as_slice(), sizes, before, after))
 }
 
-// Puts the size at the place of its partition. A partition that there is not is refused with the line.
-fn put_size(all: &mut Vec<u32>, size: PartitionSize, line: u32) -> Result<(), Refusal>
-    ensures { OnOk result (all.new.items ≡ with_size all.old.items size) }
+// Puts the size of a fact at the place of its partition. A partition that the ring does not have is refused with the fact's line.
+fn put_size(all: &mut Vec<u64>, entry: &Entry) -> Result<(), Refusal>
+    ensures { OnOk result (all.new.items ≡ with_size all.old.items entry.now.fact) }
 {
-    let place = size.partition as usize;
-    if place < all.len() {
-        all[place] = size.size;
-        return Ok(());
-    }
-    Err(Refusal::TooLarge(line))
-}
-
-// Puts each size at the place of its partition; the first is of that line.
-fn put_sizes(all: &mut Vec<u32>, sizes: &[PartitionSize], line: u32) -> Result<(), Refusal>
-    ensures { OnOk result (all.new.items ≡ sizes_by all.old.items sizes.now) }
-{
-    let Some((size, more)) = sizes.split_first() else {
+    let Fact::Size { partition, size } = &entry.fact else {
         return Ok(());
     };
-    put_size(all, *size, line)?;
-    put_sizes(all, more, line.saturating_add(1))
+    let place = *partition as usize;
+    if place < all.len() {
+        all[place] = *size;
+        return Ok(());
+    }
+    Err(Refusal::TooLarge(entry.line))
 }
 
-/// The sizes of so many partitions: 1, but for those that are listed. A partition that there is not is `TooLarge`, with the first line on which one is listed.
-/// Listed sizes ascend by partition, so at most one line more than there are partitions is looked at.
-pub fn sizes_of(
-    alloc: Global,
-    partitions: u32,
-    sizes: &[PartitionSize],
-) -> Result<Vec<u32>, Refusal>
-    ensures { IfOk result (λ all. all.items ≡ sizes_by (replicate partitions 1) sizes.now) }
+// Puts the size of each fact at the place of its partition.
+fn put_sizes(all: &mut Vec<u64>, entries: &[Entry]) -> Result<(), Refusal>
+    ensures { OnOk result (all.new.items ≡ sizes_by all.old.items entries.now) }
 {
-    let mut all = vec![in alloc; 1u32; partitions as usize]?;
-    put_sizes(&mut all, sizes, 1)?;
+    let Some((entry, more)) = entries.split_first() else {
+        return Ok(());
+    };
+    put_size(all, entry)?;
+    put_sizes(all, more)
+}
+
+/// The sizes of so many partitions: 1, but for those of which the layout has one. A partition that there is not is `TooLarge`, with its line in the layout.
+pub fn sizes_of(alloc: Global, partitions: u32, layout: &Layout) -> Result<Vec<u64>, Refusal>
+    ensures { IfOk result (λ all. all.items ≡ sizes_by (replicate partitions 1) layout.now.entries) }
+{
+    let mut all = vec![in alloc; 1u64; partitions as usize]?;
+    put_sizes(&mut all, layout.entries.as_slice())?;
     Ok(all)
 }
 
-// Puts the weight at the place of its node.
-fn put_weight(all: &mut Vec<u32>, node: NodeId, weight: u32)
-    ensures { all.new.items ≡ with_weight all.old.items node weight }
+fn is_size(fact: &Fact) -> bool
+    ensures { result ≡ is_size fact.now }
 {
-    let place = node.0 as usize;
+    matches!(fact, Fact::Size { .. })
+}
+
+/// Whether the layout has a size.
+pub fn has_sizes(layout: &Layout) -> bool
+    ensures { result ≡ has_sizes layout.now.entries }
+{
+    layout
+        .entries
+        .as_slice()
+        .iter()
+        .any(|entry| is_size(&entry.fact))
+}
+
+// Puts the weight of a fact at the place of its node. A name that the ring does not declare is `UnknownNode(0)`.
+fn put_weight(all: &mut Vec<u32>, ring: &Ring, fact: &Fact) -> Result<(), Refusal>
+    ensures { OnOk result (all.new.items ≡ with_weight (names_of ring.now) all.old.items fact.now) }
+{
+    let Fact::Weight { node, parts } = fact else {
+        return Ok(());
+    };
+    let Some(number) = ring.number_of(node.as_slice()) else {
+        return Err(Refusal::UnknownNode(0));
+    };
+    let place = number.0 as usize;
     if place < all.len() {
-        all[place] = weight;
+        all[place] = *parts;
     }
+    Ok(())
 }
 
-// Puts each weight at the place of its node.
-fn put_weights(all: &mut Vec<u32>, nodes: &[NodeId], weights: &[u32])
-    ensures { all.new.items ≡ weights_by all.old.items nodes.now weights.now }
+// Puts the weight of each fact at the place of its node.
+fn put_weights(all: &mut Vec<u32>, ring: &Ring, entries: &[Entry]) -> Result<(), Refusal>
+    ensures { OnOk result (all.new.items ≡ weights_by (names_of ring.now) all.old.items entries.now) }
 {
-    if let (Some((node, nodes)), Some((weight, weights))) = (
-        nodes.split_first(),
-        weights.split_first(),
-    ) {
-        put_weight(all, *node, *weight);
-        put_weights(all, nodes, weights);
-    }
+    let Some((entry, more)) = entries.split_first() else {
+        return Ok(());
+    };
+    put_weight(all, ring, &entry.fact)?;
+    put_weights(all, ring, more)
 }
 
-/// The weights of so many nodes: 1, but for those of these nodes.
-pub fn weights_of(
-    alloc: Global,
-    count: usize,
-    nodes: &[NodeId],
-    weights: &[u32],
-) -> Result<Vec<u32>, Refusal>
-    ensures { IfOk result (λ all. all.items ≡ weights_by (replicate count 1) nodes.now weights.now) }
+/// The weights of the ring's nodes: 1, but for those of which the layout has one.
+pub fn weights_of(alloc: Global, ring: &Ring, layout: &Layout) -> Result<Vec<u32>, Refusal>
+    ensures { IfOk result (λ all. all.items
+        ≡ weights_by (names_of ring.now) (replicate (length ring.now.nodes) 1) layout.now.entries) }
 {
-    let mut all = vec![in alloc; 1u32; count]?;
-    put_weights(&mut all, nodes, weights);
+    let mut all = vec![in alloc; 1u32; ring.nodes().len()]?;
+    put_weights(&mut all, ring, layout.entries.as_slice())?;
     Ok(all)
 }

@@ -1,4 +1,5 @@
 pub mod Goals
 pub mod Reached
 pub mod Joins
+pub mod Unread
 pub mod Proposals

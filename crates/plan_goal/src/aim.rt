@@ -1,7 +1,14 @@
 //! Where a plan should lead.
 
+ghost use Rattle.std.specs.Prelude.{◌≡◌, not, ◌&&◌};
+ghost use Rattle.std.specs.List.{list_any};
+ghost use Rattle.ring_names.specs.Lists.{has};
+ghost use Rattle.plan_text.specs.Changes.{numbers};
+ghost use Rattle.plan_goal.specs.Unread.{is_unread, live};
+
 use crate::alike::{has_space, is_node};
 use crate::dead::Dead;
+use crate::sparing::is_among;
 use helpers::small;
 use ring_names::{NodeId, Refusal, Slot};
 use ring_table::{Node, Ring};
@@ -50,11 +57,6 @@ fn other_node(ring: &Ring, wanted: &Ring) -> Option<u32> {
     None
 }
 
-// Whether the row has the node.
-fn has(row: &[NodeId], node: NodeId) -> bool {
-    row.iter().any(|other| other.0 == node.0)
-}
-
 // The owners of a partition's slots now and in the end.
 fn rows<'a>(aim: &Aim<'a>, partition: usize) -> (&'a [NodeId], &'a [NodeId]) {
     let ours = match aim.ring.rows().get(partition) {
@@ -89,7 +91,7 @@ fn dead_owner(aim: &Aim, dead: &Dead, partition: usize) -> Option<Slot> {
     let (ours, theirs) = rows(aim, partition);
     for index in 0..theirs.len() {
         if let Some(node) = theirs.get(index) {
-            if !has(ours, *node) && dead.has(*node) {
+            if !is_among(ours, *node) && dead.has(*node) {
                 return Some(Slot {
                     partition: small(partition),
                     index: small(index),
@@ -100,19 +102,27 @@ fn dead_owner(aim: &Aim, dead: &Dead, partition: usize) -> Option<Slot> {
     None
 }
 
-// Whether a slot of a dead node moves, and too few slots of the partition have other owners.
-fn is_unread(aim: &Aim, dead: &Dead, partition: usize) -> bool {
-    let (ours, theirs) = rows(aim, partition);
-    let mut alive = 0u32;
-    let mut is_left = false;
-    for node in ours {
-        if !dead.has(*node) {
-            alive = alive.saturating_add(1);
-        } else if !has(theirs, *node) {
-            is_left = true;
-        }
-    }
-    is_left && alive < aim.ring.r()
+// How many of these nodes live.
+fn live(dead: &Dead, row: &[NodeId]) -> usize
+    ensures { result ≡ live dead.now.nodes.now row.now }
+{
+    row.iter().filter(|node| !dead.has(**node)).count()
+}
+
+// Whether a dead node of the row is not in the other one.
+fn is_left(dead: &Dead, before: &[NodeId], after: &[NodeId]) -> bool
+    ensures { result ≡ list_any (λ x. has x.0 (numbers dead.now.nodes.now) && not (has x.0 (numbers after.now))) before.now }
+{
+    before
+        .iter()
+        .any(|node| dead.has(*node) && !is_among(after, *node))
+}
+
+/// Whether a slot of a dead node goes to another one, and fewer owners live than a read asks. The rows are a partition's owners before and after.
+pub fn is_unread(reads: u32, dead: &Dead, before: &[NodeId], after: &[NodeId]) -> bool
+    ensures { result ≡ is_unread reads dead.now.nodes.now before.now after.now }
+{
+    live(dead, before) < reads as usize && is_left(dead, before, after)
 }
 
 /// Why no plan leads there, if it is for one of these causes.
@@ -131,11 +141,25 @@ pub fn why_unfit(aim: &Aim) -> Option<Unfit> {
         if let Some(slot) = dead_owner(aim, &dead, partition) {
             return Some(Unfit::DeadOwner(slot));
         }
-        if is_unread(aim, &dead, partition) {
+        let (before, after) = rows(aim, partition);
+        if is_unread(aim.ring.r(), &dead, before, after) {
             return Some(Unfit::Unread(small(partition)));
         }
     }
     None
+}
+
+/// The partitions in which a slot of a dead node should go to another one, and fewer owners live than a read asks; ascending.
+pub fn unread_partitions(aim: &Aim) -> Result<Vec<u32>, Refusal> {
+    let dead = Dead::of(aim.dead);
+    let mut unread = Vec::new(aim.alloc);
+    for partition in 0..aim.ring.rows().len() {
+        let (before, after) = rows(aim, partition);
+        if is_unread(aim.ring.r(), &dead, before, after) {
+            unread.push(small(partition))?;
+        }
+    }
+    Ok(unread)
 }
 
 /// The nodes that become members, by number.
@@ -155,7 +179,7 @@ pub fn retires(aim: &Aim) -> Result<Vec<u32>, Refusal> {
     for number in 0..small(aim.ring.nodes().len()) {
         let node = NodeId(number);
         let shall = aim.ring.is_member(node) && !aim.wanted.is_member(node);
-        if shall && !has(aim.dead, node) {
+        if shall && !is_among(aim.dead, node) {
             nodes.push(number)?;
         }
     }

@@ -15,7 +15,7 @@ mod reaching;
 mod reading;
 mod sparing;
 
-pub use aim::{Aim, Unfit, why_unfit};
+pub use aim::{Aim, Unfit, is_unread, unread_partitions, why_unfit};
 pub use alike::is_like;
 pub use dead::Dead;
 pub use proposal::propose;

@@ -47,7 +47,7 @@ fn wished_of(
     alloc: Global,
     ring: &Ring,
     members: &Members,
-    sizes: Option<&[u32]>,
+    sizes: Option<&[u64]>,
 ) -> Result<Vec<Listed<NodeId>>, Refusal> {
     let mut seats = Seats::new(alloc, ring, members);
     if let Some(sizes) = sizes {

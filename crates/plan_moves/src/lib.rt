@@ -9,5 +9,5 @@ mod progress;
 
 pub use depth::rounds;
 pub use movement::{Move, moves};
-pub use owners::{last_owners, owned};
+pub use owners::{last_owners, owned, present_after};
 pub use progress::Progress;

@@ -12,8 +12,8 @@ use ring_names::{Listed, NodeId, Refusal, Slot};
 use ring_table::Ring;
 use std::alloc::Global;
 
-// Who serves each slot behind the last step.
-fn past(alloc: Global, ring: &Ring, plan: &Plan) -> Result<Present, Refusal>
+/// Who serves each slot after the last step. Costs one pass over the plan.
+pub fn present_after(alloc: Global, ring: &Ring, plan: &Plan) -> Result<Present, Refusal>
     requires { Suits ring.now plan.now }
     ensures ok { IfOk result (IsPast ring.now plan.now) }
     ensures memory { IfErr result (λ e. e ≡ OutOfMemory) }
@@ -50,7 +50,7 @@ pub fn last_owners(alloc: Global, ring: &Ring, plan: &Plan) -> Result<Vec<Listed
     ensures ok { IfOk result (λ rows. rows.items ≡ last_owners ring.now plan.now) }
     ensures memory { IfErr result (λ e. e ≡ OutOfMemory) }
 {
-    let present = past(alloc, ring, plan)?;
+    let present = present_after(alloc, ring, plan)?;
     let mut rows = Vec::new(alloc);
     for partition in 0..ring.q() {
         rows.push(row_of(alloc, ring, &present, partition)?)?;

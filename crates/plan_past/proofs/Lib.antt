@@ -1,4 +1,3 @@
 -- What is proved of histories that are told by another plan.
 pub mod Numbered
-pub mod Summing
-pub mod Telling
+pub mod OneByOne

@@ -1,5 +1,5 @@
 -- The same past by another plan.
-use Rattle.std.specs.Prelude.{◌≡◌, ℕ, ◌+◌, ◌-◌, ◌==◌, Bool, true, false, ◌&&◌, ◌||◌, List, [], ◌∷◌, ◌++◌, map, Option, Some, None, is_some, option_map, option_and_then, unwrap_or, slice_get, if◌then◌else◌}
+use Rattle.std.specs.Prelude.{◌≡◌, ◌⊎◌, ℕ, Bool, true, false, not, ◌&&◌, ◌||◌, List, [], ◌∷◌, ◌++◌, Option, Some, None, MatchOption, is_some, option_map, option_and_then, unwrap_or, slice_get}
 use Rattle.std.specs.List.{list_all}
 use Rattle.ring_names.specs.declared.ids.NodeId.{NodeId}
 use Rattle.ring_names.specs.declared.ids.Slot.{Slot}
@@ -8,11 +8,10 @@ use Rattle.plan_text.specs.declared.step.Planned.{Planned}
 use Rattle.plan_text.specs.Steps.{is_slot, mirror_of}
 use Rattle.plan_stage.specs.Each.{step_at}
 use Rattle.plan_runs.specs.declared.event.Event.{Event}
-use Rattle.plan_runs.specs.declared.event.Event.TheVariants.{Do, OpenCopy, ChunkCopy, CloseCopy, AbortCopy, Lose}
+use Rattle.plan_runs.specs.declared.event.Event.TheVariants.{Do, OpenCopy, ChunkCopy, CloseCopy, AbortCopy, Write}
 use Rattle.plan_runs.specs.declared.event.Entry.{Entry}
 use Rattle.plan_runs.specs.declared.event.Reply.{Reply}
 use Rattle.plan_runs.specs.declared.event.Reply.TheVariants.{Ticket}
-use Rattle.plan_past.specs.declared.lowering.Lowered.{Lowered}
 use Rattle.plan_runs.specs.declared.back.Back.{Back}
 use Rattle.plan_runs.specs.declared.back.Back.TheVariants.{Never, Allowed}
 
@@ -63,48 +62,63 @@ may_go back old numbers (Do n) = is_some (number_in numbers n) || (allows back &
 may_go back old numbers (CloseCopy n) = is_some (number_in numbers n)
 may_go back old numbers e = true
 
--- ---- generations of slots whose mirrors are taken back
+-- ---- mirrors that are taken back
 
--- the slot's generation without these mirrors
-abbrev pub lowered : List Lowered → Slot → ℕ → ℕ
-lowered [] s g = g
-lowered (l ∷ less) s g = lowered less s (if is_slot s l.slot then g - l.by else g)
+-- whether step n sets a mirror of the slot
+abbrev pub sets_mirror : List Planned → ℕ → Slot → Bool
+sets_mirror plan n s = elim (mirror_in plan n) [ Some m ↦ is_slot s m.0 | None ↦ false ]
 
--- a ticket is of that generation; no other reply changes
-abbrev pub lowered_reply : List Lowered → Reply → Reply
-lowered_reply less (Ticket s g) = Ticket s (lowered less s g)
-lowered_reply less r = r
+-- the slots of which a mirror was taken back, after an event: a mirror without a number is taken back there
+abbrev pub taken_after : List Planned → List (Option ℕ) → (Slot → Bool) → Event → Slot → Bool
+taken_after old numbers taken (Do n) s = (not (is_some (number_in numbers n)) && sets_mirror old n s) || taken s
+taken_after old numbers taken e s = taken s
 
--- one more where the node is that one
-abbrev pub raised : NodeId → Lowered → Lowered
-raised x l = if x.0 == l.node.0 then record { slot = l.slot; node = l.node; by = l.by + 1 } else l
+-- ---- entries
 
--- with the mirror that step n sets, if it sets one
-abbrev pub with_taken : List Lowered → List Planned → ℕ → List Lowered
-with_taken less old n = elim (mirror_in old n) [ Some m ↦ less ++ record { slot = m.0; node = m.1; by = 1 } ∷ [] | None ↦ less ]
+-- another ticket of a slot of which a mirror was taken back
+abbrev pub IsOtherTicket : (Slot → Bool) → Reply → Reply → Type 0
+IsOtherTicket taken (Ticket s g) (Ticket t h) = (t ≡ s) × (taken s ≡ true)
+IsOtherTicket taken r q = ⊥
 
--- the mirrors after an event: a mirror without a number is taken back there, and the loss of the store of one that was counts no more
-abbrev pub lowered_after : List Planned → List (Option ℕ) → List Lowered → Event → List Lowered
-lowered_after old numbers less (Do n) = elim (number_in numbers n) [ Some m ↦ less | None ↦ with_taken less old n ]
-lowered_after old numbers less (Lose x) = map (raised x) less
-lowered_after old numbers less e = less
+-- a reply is told by an equal one, or by such a ticket
+abbrev pub TellsReply : (Slot → Bool) → Reply → Reply → Type 0
+TellsReply taken r q = (q ≡ r) ⊎ IsOtherTicket taken r q
+
+-- whether the entry is a write that got a ticket
+abbrev pub is_write : Entry → Bool
+is_write x = writes x.event && is_ticket x.reply
+  where
+    writes : Event → Bool
+    writes (Write v i) = true
+    writes e = false
+
+    is_ticket : Reply → Bool
+    is_ticket (Ticket s g) = true
+    is_ticket r = false
+
+-- in the place of a chunk that is left out there may be writes, and nothing in the place of another event
+abbrev pub StandFor : Event → List Entry → Type 0
+StandFor (ChunkCopy n c) told = list_all is_write told ≡ true
+StandFor e told = told ≡ []
+
+-- the entry is told by these: by one of its event by the other plan, with a reply that tells its reply; or, if it is left out, by what stands in its place
+abbrev pub IsToldBy : List (Option ℕ) → (Slot → Bool) → Entry → List Entry → Type 0
+IsToldBy numbers taken x told = MatchOption (renamed numbers x.event) (StandFor x.event told)
+    (λ e. (r : Reply) × (told ≡ record { event = e; reply = r } ∷ []) × TellsReply taken x.reply r)
 
 -- ---- histories
 
--- the entry by the other plan, if it does not go
-abbrev pub told : List (Option ℕ) → List Lowered → Entry → List Entry
-told numbers less x = elim (renamed numbers x.event) [ Some e ↦ record { event = e; reply = lowered_reply less x.reply } ∷ [] | None ↦ [] ]
+-- the later history tells the earlier one entry by entry, where mirrors of these slots were taken back before
+abbrev pub Tells : List Planned → List (Option ℕ) → (Slot → Bool) → List Entry → List Entry → Type 0
+Tells old numbers taken [] later = later ≡ []
+Tells old numbers taken (x ∷ xs) later = (told rest : List Entry) × (later ≡ told ++ rest) × IsToldBy numbers taken x told
+    × Tells old numbers (taken_after old numbers taken x.event) xs rest
 
--- the entries by the other plan
-abbrev pub past : List Planned → List (Option ℕ) → List Lowered → List Entry → List Entry
-past old numbers less [] = []
-past old numbers less (x ∷ xs) = told numbers less x ++ past old numbers (lowered_after old numbers less x.event) xs
-
--- the later history is the earlier one by another plan: its steps are renamed one to one, each to the same step; entries of copies that are not done may go, and where that is allowed
--- those of mirrors, of whose slots the later tickets are lower by what these mirrors counted
+-- the later history tells the earlier one by another plan: its steps are renamed one to one, each to the same step; entries of copies that are not done may be left out, and where that
+-- is allowed those of mirrors, of whose slots the later tickets may be others; and writes may stand in the place of chunks that are left out
 pub record IsSamePast (back : Back) (old new : List Planned) (earlier later : List Entry) : Type 0 where
   pub numbers : List (Option ℕ)
   pub same : (k n : ℕ) → number_in numbers k ≡ Some n → AreSame old new k n
   pub once : (j k n : ℕ) → number_in numbers j ≡ Some n → number_in numbers k ≡ Some n → j ≡ k
   pub gone : list_all (λ x. may_go back old numbers x.event) earlier ≡ true
-  pub past : later ≡ past old numbers [] earlier
+  pub told : Tells old numbers (λ s. false) earlier later

@@ -1,14 +1,14 @@
-//! The same past by another plan: a history whose steps are renamed to those of the other plan, without entries of copies that begin anew and of mirrors that are
-//! taken back.
+//! Whether a history by one plan tells what a history by another plan tells: its steps are renamed, entries of copies that begin again and of mirrors that are
+//! taken back are left out, and writes stand in the place of chunks.
 #![tactic(auto)]
 
-mod lowering;
 mod names;
 mod past;
 mod renaming;
 mod same;
-mod sums;
+mod taken;
+mod telling;
 
-pub use lowering::Lowered;
-pub use past::{SamePast, same_past};
+pub use past::{SamePast, Told, is_same_past};
+pub use renaming::renamed;
 pub use same::have_same;

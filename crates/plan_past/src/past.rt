@@ -1,13 +1,15 @@
-//! The history of the other plan.
+//! Whether one history tells another.
 
-ghost use Rattle.std.specs.Prelude.{◌≡◌, [], IfOk};
+ghost use Rattle.std.specs.Prelude.{◌≡◌, ◌≤◌, ◌++◌, false, length, IsTrue, IfOk, IfSome, OnOk};
 ghost use Rattle.std.specs.List.{list_all};
-ghost use Rattle.plan_past.specs.Past.{may_go, past, IsSamePast};
+ghost use Rattle.ring_names.specs.declared.ids.Slot.{Slot as TheSlot};
+ghost use Rattle.plan_past.specs.Past.{may_go, taken_after, IsSamePast, Tells};
+ghost use Rattle.plan_past.specs.Taken.{is_in};
 
-use crate::lowering::{lowered_after, none_taken};
 use crate::names::{allows, mirror_in, number_in};
-use crate::renaming::told;
 use crate::same::keep_all;
+use crate::taken::Taken;
+use crate::telling::is_told;
 use plan_runs::{Back, Entry, Event};
 use plan_text::Plan;
 use ring_names::Refusal;
@@ -18,14 +20,22 @@ use std::alloc::Global;
 pub struct SamePast<'a> {
     pub old: &'a Plan,
     pub new: &'a Plan,
-    /// By step of the first plan, its number in the second; none where its entries go.
+    /// By step of the first plan, its number in the second; none if its entries are left out.
     pub numbers: &'a [Option<u32>],
     /// By step of the second plan, its number in the first.
     pub olds: &'a [u32],
     pub back: Back,
 }
 
-// Whether the entries of the event's step may go where it has no number.
+/// A history that tells an earlier one.
+#[derive(Clone, Copy)]
+pub struct Told<'a> {
+    pub entries: &'a [Entry],
+    /// By entry of the earlier history, how many of these tell it.
+    pub counts: &'a [u32],
+}
+
+// Whether the entries of the event's step may be left out if it has no number.
 fn may_go(back: Back, old: &Plan, numbers: &[Option<u32>], event: &Event) -> bool
     ensures { result ≡ may_go back old.now numbers.now event.now }
 {
@@ -38,7 +48,7 @@ fn may_go(back: Back, old: &Plan, numbers: &[Option<u32>], event: &Event) -> boo
     }
 }
 
-// Whether nothing goes but entries of copies that are not done, and where that is allowed of mirrors.
+// Whether nothing is left out but entries of copies that are not done, and where that is allowed of mirrors.
 fn may_all_go(back: Back, old: &Plan, numbers: &[Option<u32>], history: &[Entry]) -> bool
     ensures { result ≡ list_all (λ x. may_go back old.now numbers.now x.event) history.now }
 {
@@ -47,37 +57,84 @@ fn may_all_go(back: Back, old: &Plan, numbers: &[Option<u32>], history: &[Entry]
         .all(|entry| may_go(back, old, numbers, &entry.event))
 }
 
-// The entries by the other plan.
-fn past(
-    alloc: Global,
+// Adds the slot of a mirror that the event sets, if the mirror is taken back.
+fn take_back(
+    taken: &mut Taken,
     old: &Plan,
     numbers: &[Option<u32>],
-    history: &[Entry],
-) -> Result<Vec<Entry>, Refusal>
-    ensures { IfOk result (λ v. v.items ≡ past old.now numbers.now [] history.now) }
+    event: &Event,
+) -> Result<(), Refusal>
+    ensures { OnOk result ((s : TheSlot) → is_in taken.new s ≡ taken_after old.now numbers.now (is_in taken.old) event.now s) }
 {
-    let mut out = Vec::new(alloc);
-    let mut taken = none_taken(alloc);
-    let mut rest = history;
-    'entries: while let Some((first, later)) = rest.split_first() {
-        if let Some(entry) = told(alloc, numbers, &taken, first)? {
-            out.push(entry)?;
-        }
-        taken = lowered_after(alloc, taken, old, numbers, &first.event)?;
-        rest = later;
+    let Event::Do(step) = event else {
+        return Ok(());
+    };
+    if number_in(numbers, *step).is_some() {
+        return Ok(());
     }
-    Ok(out)
+    match mirror_in(old, *step) {
+        Some((slot, _)) => taken.add(slot),
+        None => Ok(()),
+    }
 }
 
-/// The history of the second plan that is the first one's with its steps renamed. `NoPlan` where a step is not the same in both, and where an entry would go that
-/// may not: of a step that is done, but for a mirror that may be taken back.
-pub fn same_past(alloc: Global, it: &SamePast, history: &[Entry]) -> Result<Vec<Entry>, Refusal>
-    ensures { IfOk result (λ v. IsSamePast it.now.back it.now.old.now it.now.new.now history.now v.items) }
+// The first entries, so many, and the others, if there are so many.
+fn cut(entries: &[Entry], count: u32) -> Option<(&[Entry], &[Entry])>
+    ensures { IfSome result (λ parts. entries.now ≡ parts.0.now ++ parts.1.now) }
+{
+    if entries.len() < count as usize {
+        return None;
+    }
+    Some(entries.split_at(count as usize))
+}
+
+// Whether the entries tell the earlier ones, one after the other, where no mirror was taken back before.
+fn are_told(
+    taken: &mut Taken,
+    old: &Plan,
+    numbers: &[Option<u32>],
+    earlier: &[Entry],
+    told: &Told,
+) -> Result<bool, Refusal>
+    requires { (s : TheSlot) → is_in taken.old s ≡ false }
+    ensures { IfOk result (λ b. IsTrue b → Tells old.now numbers.now (λ s. false) earlier.now told.now.entries.now) }
+{
+    let mut rest = earlier;
+    let mut left = told.entries;
+    let mut counts = told.counts;
+    'entries: while let Some((first, later)) = rest.split_first() {
+        let Some((count, other)) = counts.split_first() else {
+            return Ok(false);
+        };
+        let Some((front, behind)) = cut(left, *count) else {
+            return Ok(false);
+        };
+        if !is_told(numbers, taken, first, front)? {
+            return Ok(false);
+        }
+        take_back(taken, old, numbers, &first.event)?;
+        rest = later;
+        left = behind;
+        counts = other;
+    }
+    Ok(left.is_empty())
+}
+
+/// Whether the entries tell the earlier history by the second plan. `false` if a step is not the same in both plans, if an entry is left out that may not be: of
+/// a step that is done, but for a mirror that may be taken back; or if an entry is not told by as many of these as is said. Costs one pass over both histories.
+pub fn is_same_past(
+    alloc: Global,
+    it: &SamePast,
+    earlier: &[Entry],
+    told: &Told,
+) -> Result<bool, Refusal>
+    ensures { IfOk result (λ b. IsTrue b → IsSamePast it.now.back it.now.old.now it.now.new.now earlier.now told.now.entries.now) }
 {
     if !keep_all(it.old, it.new, it.numbers, it.olds)
-        || !may_all_go(it.back, it.old, it.numbers, history)
+        || !may_all_go(it.back, it.old, it.numbers, earlier)
     {
-        return Err(Refusal::NoPlan);
+        return Ok(false);
     }
-    past(alloc, it.old, it.numbers, history)
+    let mut taken = Taken::new(alloc);
+    are_told(&mut taken, it.old, it.numbers, earlier, told)
 }

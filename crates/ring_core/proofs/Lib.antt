@@ -4,6 +4,7 @@ pub mod HintsKept
 pub mod SlotOwners
 pub mod KeepersCover
 pub mod SlotHoldsPut
+pub mod NodeStoresPut
 pub mod Masks
 pub mod SoundAfterEvent
 pub mod OpenCopies

@@ -1,6 +1,7 @@
 pub mod Tables
 pub mod Numbers
 pub mod Transfers
+pub mod Mirrors
 pub mod World
 pub mod Promises
 pub mod Faults

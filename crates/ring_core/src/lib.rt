@@ -4,6 +4,7 @@
 
 mod events;
 mod following;
+mod mirrors;
 mod queue;
 mod reads;
 mod replaying;

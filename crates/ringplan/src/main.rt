@@ -1,7 +1,7 @@
 //! Plans, checks, shows, runs and judges changes of the members of a replicated store.
 #![tactic(auto)]
 
-use ringplan_run::{Screen, end_without_memory, end_without_words, run};
+use ringplan_run::{Screen, end_without_memory, end_without_words, run_advised};
 use std::env;
 use std::env::{Env, FillError};
 use std::io::{ErrorKind, IsTerminal, Read, Result as IoResult};
@@ -15,14 +15,14 @@ fn main(rt: HostRuntime) -> ExitCode {
         is_over: false,
     };
     let status = match words(&rt) {
-        Ok(words) => run(&rt, screen(&rt), words.as_slice(), &mut input, &mut output),
+        Ok(words) => run_advised(&rt, screen(&rt), words.as_slice(), &mut input, &mut output),
         Err(ErrorKind::InvalidData) => end_without_words(&mut output),
         Err(_) => end_without_memory(&mut output),
     };
     ExitCode::from(status)
 }
 
-// Standard output has colours where it is a terminal and the environment has no NO_COLOR, or an empty one (no-color.org).
+// Standard output has colours if it is a terminal and the environment has no NO_COLOR, or an empty one (no-color.org).
 fn screen(rt: &HostRuntime) -> Screen {
     let mut first = [0u8; 1];
     let is_forbidden = match rt.var("NO_COLOR", &mut first) {
@@ -30,8 +30,11 @@ fn screen(rt: &HostRuntime) -> Screen {
         Err(FillError::TooLong) => true,
         Err(FillError::NotPresent) => false,
     };
-    if is_forbidden || !rt.stdout().is_terminal() {
+    if !rt.stdout().is_terminal() {
         return Screen::Plain;
+    }
+    if is_forbidden {
+        return Screen::Bare;
     }
     Screen::Colored
 }

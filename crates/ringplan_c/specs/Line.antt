@@ -1,11 +1,6 @@
 -- The command line that a call stands for.
-use Rattle.std.specs.Prelude.{◌==◌, ℕ, List, [], ◌∷◌, Option, None, codes, if◌then◌else◌, length, String}
-use Rattle.std.specs.Global.{Global}
+use Rattle.std.specs.Prelude.{◌==◌, ℕ, List, [], ◌∷◌, codes, if◌then◌else◌, length}
 use Rattle.std.specs.List.{slice_split}
-use Rattle.ringplan_job.specs.declared.making.Making.{Making}
-use Rattle.ringplan_job.specs.declared.making.Making.TheVariants.{Goal, Show, State}
-use Rattle.ringplan_job.specs.declared.making.Statement.{Statement}
-use Rattle.ringplan_job.specs.declared.making.Statement.TheVariants as stated
 
 -- the parts but for the last one where that is empty
 abbrev pub but_empty_last : List (List ℕ) → List (List ℕ)
@@ -20,15 +15,3 @@ words_in options = but_empty_last (slice_split (λ b. b == 0) options)
 -- the words of the command line: the program's name, the command's, and the options
 abbrev pub line_of : List ℕ → List ℕ → List (List ℕ)
 line_of command options = codes "ringplan" ∷ command ∷ words_in options
-
--- the file of sizes that is named for a statement, or for what is made
-abbrev pub sizes_stated : Statement → Option (String Global)
-sizes_stated (stated.Goal options exit) = options.sizes_file
-sizes_stated (stated.Show wish) = wish.options.sizes_file
-sizes_stated stated.Why = None
-
-abbrev pub sizes_named : Making → Option (String Global)
-sizes_named (Goal options exit) = options.sizes_file
-sizes_named (Show wish) = wish.options.sizes_file
-sizes_named (State statement) = sizes_stated statement
-sizes_named making = None

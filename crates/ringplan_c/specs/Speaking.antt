@@ -4,37 +4,38 @@ use Rattle.std.specs.Str.{IsUtf8}
 use Rattle.std.specs.Global.{Vec}
 use Rattle.ring_names.specs.Refusals.{line_of as refusal_line}
 use Rattle.ring_names.specs.declared.refusal.Refusal.TheVariants.{OutOfMemory}
-use Rattle.ringplan_c.specs.Line.{line_of, sizes_named}
+use Rattle.ringplan_c.specs.Line.{line_of}
 use Rattle.ringplan_c.specs.Room.{Fills}
 use Rattle.ringplan_command.specs.Command.{Answers, AsksMaking, IsRefused, WantsHelp, asked}
 use Rattle.ringplan_command.specs.Files.{Names, files_of, no_files}
 use Rattle.ringplan_command.specs.declared.command.Request.{Request}
 use Rattle.ringplan_command.specs.declared.command.Request.TheVariants as request
 use Rattle.ringplan_job.specs.declared.making.Making.{Making}
+use Rattle.change_text.specs.declared.options.Options.{Options}
 use Rattle.ringplan_jobs.specs.Io.{max_input}
 use Rattle.ringplan_people.specs.Made.{IsReport}
 
--- no file is named: none that is read or written, and none of sizes
-abbrev pub NamesNone : Names → Making → Type 0
-NamesNone files making = (files ≡ no_files) × (sizes_named making ≡ None)
+-- no file is named: none that is read or written, and none that has a layout
+abbrev pub NamesNone : Names → Options → Type 0
+NamesNone files options = (files ≡ no_files) × (options.layout_file ≡ None)
 
 -- nothing is printed on standard output, by the status of a line that is refused
 abbrev pub IsTurnedAway : List ℕ → ℕ → Type 0
 IsTurnedAway text status = (text ≡ []) × (status ≡ 2)
 
 -- what is printed of the bytes, and the status: their report; or none of too many bytes, or where a file is named
-pub data Reports (files : Names) (making : Making) (bytes text : List ℕ) (status : ℕ) : Type 0 where
-  read : NamesNone files making → length bytes ≤ max_input → IsReport making bytes text status → Reports files making bytes text status
-  too_large : NamesNone files making → max_input < length bytes → IsTurnedAway text status → Reports files making bytes text status
-  filed : (NamesNone files making → ⊥) → IsTurnedAway text status → Reports files making bytes text status
+pub data Reports (files : Names) (making : Making) (options : Options) (bytes text : List ℕ) (status : ℕ) : Type 0 where
+  read : NamesNone files options → length bytes ≤ max_input → IsReport making options bytes text status → Reports files making options bytes text status
+  too_large : NamesNone files options → max_input < length bytes → IsTurnedAway text status → Reports files making options bytes text status
+  filed : (NamesNone files options → ⊥) → IsTurnedAway text status → Reports files making options bytes text status
 
 -- a request for something else than a making, help or a refusal: for a job, a part, a drive, or a text about the program
 abbrev pub IsForOthers : Request → Type 0
-IsForOthers r = ((making : Making) → r ≢ request.Make making) × ((text : Vec ℕ) → r ≢ request.Help text) × ((text : Vec ℕ) → r ≢ request.Mistaken text) × (r ≢ request.OutOfMemory)
+IsForOthers r = ((making : Making) (options : Options) → r ≢ request.Make making options) × ((text : Vec ℕ) → r ≢ request.Help text) × ((text : Vec ℕ) → r ≢ request.Mistaken text) × (r ≢ request.OutOfMemory)
 
 -- what a call prints, and its status: what its line makes of the bytes, or help; nothing if the line is refused, is for others or is not text
 pub data Says (command options bytes text : List ℕ) (status : ℕ) : Type 0 where
-  reported : (making : Making) → AsksMaking (asked (line_of command options)) making → Reports (files_of (line_of command options)) making bytes text status → Says command options bytes text status
+  reported : (making : Making) (known : Options) → AsksMaking (asked (line_of command options)) making known → Reports (files_of (line_of command options)) making known bytes text status → Says command options bytes text status
   helped : WantsHelp (asked (line_of command options)).faults → status ≡ 0 → Says command options bytes text status
   refused : IsRefused (asked (line_of command options)) → IsTurnedAway text status → Says command options bytes text status
   for_others : (r : Request) → IsForOthers r → Answers (asked (line_of command options)) r → IsTurnedAway text status → Says command options bytes text status

@@ -1,13 +1,12 @@
 //! The command line that a call stands for.
 
 ghost use Rattle.std.specs.List.{slice_split};
-ghost use Rattle.std.specs.Prelude.{◌==◌, ◌≡◌, IfOk, is_some, map};
-ghost use Rattle.ringplan_c.specs.Line.{line_of, sizes_named, words_in};
+ghost use Rattle.std.specs.Prelude.{◌==◌, ◌≡◌, IfOk, map};
+ghost use Rattle.ringplan_c.specs.Line.{line_of, words_in};
 ghost use Rattle.ringplan_command.specs.Command.{Answers, asked};
 ghost use Rattle.ringplan_command.specs.Files.{IsJob, files_in, files_of};
 
 use ringplan_command::{CommandLine, parse};
-use ringplan_job::{Making, Statement};
 use std::alloc::{AllocError, Global};
 
 // The parts of the options between the bytes 0.
@@ -61,18 +60,4 @@ pub(crate) fn read_line(
 {
     let words = write_line(alloc, command, options)?;
     Ok(parse(alloc, words.as_slice()))
-}
-
-/// Whether the making names a file of sizes.
-pub(crate) fn names_sizes(making: &Making) -> bool
-    ensures { result ≡ is_some (sizes_named making.now) }
-{
-    match making {
-        Making::Goal(options, _) => options.sizes_file.is_some(),
-        Making::State(Statement::Goal(options, _)) => options.sizes_file.is_some(),
-        Making::Show(wish) | Making::State(Statement::Show(wish)) => {
-            wish.options.sizes_file.is_some()
-        }
-        _ => false,
-    }
 }

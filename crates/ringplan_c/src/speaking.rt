@@ -5,8 +5,9 @@ ghost use Rattle.ringplan_c.specs.Speaking.{IsSaid, IsTurnedAway, Reports, Says,
 ghost use Rattle.ringplan_command.specs.Files.{files_in};
 
 use crate::calls::{FAILED, NO_MEMORY};
-use crate::line::{names_sizes, read_line};
+use crate::line::read_line;
 use crate::room::fill;
+use change_text::Options;
 use ring_names::Refusal;
 use ringplan_command::{CommandLine, Files, NO_WORDS, Request};
 use ringplan_job::Making;
@@ -40,19 +41,20 @@ fn turned_away(alloc: Global, words: &[u8]) -> Result<Report, Refusal>
 // The report of what is made of the input. Named files are refused. So is an input of more bytes than the program reads, as the program refuses it.
 fn report_making(
     alloc: Global,
-    making: &Making,
+    making: Making,
+    options: &Options,
     files: &Files,
     input: &[u8],
 ) -> Result<Report, Refusal>
-    ensures { IfOk result (λ r. Reports (files_in files.now) making.now input.now r.output.items r.status) }
+    ensures { IfOk result (λ r. Reports (files_in files.now) making options.now input.now r.output.items r.status) }
 {
-    if files.input.is_some() || files.output.is_some() || names_sizes(making) {
+    if !files.inputs.is_empty() || files.output.is_some() || options.layout_file.is_some() {
         return turned_away(alloc, NO_FILES);
     }
     if input.len() > MAX_INPUT {
         return report_unread(alloc, Refusal::TooLarge(0));
     }
-    report_bundle(alloc, making, input)
+    report_bundle(alloc, making, options, input)
 }
 
 // The report of a text of help.
@@ -72,7 +74,7 @@ fn report_line(alloc: Global, command: &str, options: &str, input: &[u8]) -> Res
 {
     let CommandLine { request, files } = read_line(alloc, command, options)?;
     match request {
-        Request::Make(making) => report_making(alloc, &making, &files, input),
+        Request::Make(making, known) => report_making(alloc, making, &known, &files, input),
         Request::Help(text) => Ok(report_help(alloc, text)),
         Request::Mistaken(text) => turned_away(alloc, text.as_slice()),
         Request::OutOfMemory => Err(Refusal::OutOfMemory),

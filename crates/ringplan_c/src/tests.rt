@@ -181,7 +181,7 @@ fn refuses_options(rt: HostRuntime) {
     let files = "error: a call reads and writes no files\n\nFor more information, try '--help'.\n";
     let color =
         "error: invalid value for '--color <WHEN>': not auto, always or never\n\nFor more information, try '--help'.\n";
-    let (output, sizes) = ("-o\0plan", "--format\0json\0--sizes\0sizes");
+    let (output, sizes) = ("-o\0plan", "--format\0json\0--layout\0layout");
     says(&rt, "goal", output, CHANGE, &mut [0; 77], (2, 77, files));
     says(&rt, "goal", sizes, CHANGE, &mut [0; 77], (2, 77, files));
     says(&rt, "show", sizes, CHANGE, &mut [0; 77], (2, 77, files));

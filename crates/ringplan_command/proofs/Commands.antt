@@ -1,8 +1,9 @@
 -- What `clap` makes of the program's command lines.
 use Rattle.std.proofs.Common.{◌≡◌, ◌≢◌, ◌⊎◌, MatchOption, ℕ, [], ◌∷◌, List, Result, Ok, Err, Option, Some, None, IfOk, true, false, codes, option_map, refl, sym, ap, ◌∙◌, subst, drop, inl, inr}
+use Rattle.std.specs.Prelude.{unwrap_or}
 use Rattle.std.specs.Str.{bytes_eq}
 use Rattle.std.specs.Str.Parse.{ParsesUnsigned}
-use Rattle.clap.specs.Words.{App, FailsBy, IsAmong, Kinds, Row, TriesOne, fault_of, is_simple, is_simple_and_free, built, first_of, first_value, one_of, one_text, rows_of, subcommand_of, subcommand_rows_of, HasMatchesOf}
+use Rattle.clap.specs.Words.{App, FailsBy, IsAmong, Kinds, Row, TriesOne, all_of, fault_of, is_simple, is_simple_and_free, built, first_of, first_value, one_of, one_text, rows_of, subcommand_of, subcommand_rows_of, HasMatchesOf}
 use Rattle.clap.specs.Simple.{names_of, entered}
 use Rattle.clap.specs.Walk.{stop_after}
 use Rattle.clap.specs.Faults.{built_fault}
@@ -17,7 +18,7 @@ use Rattle.clap.proofs.WalkLemmas.{first_value-rows, one_text-rows}
 use Rattle.clap.proofs.OnLiterals.{clap_on_literals}
 use Rattle.ring_names.proofs.AtBytes.{same_bytes}
 use Rattle.ringplan_command.specs.Tree.{ringplan, word_of}
-use Rattle.ringplan_command.specs.Files.{IsJob, Names, files_named, files_of, no_files, text_named}
+use Rattle.ringplan_command.specs.Files.{IsJob, Names, files_named, files_of, no_files, text_named, texts_named}
 use Rattle.ringplan_command.specs.declared.word.Guide.{Guide}
 use Rattle.ringplan_command.specs.declared.word.Word.{Word}
 use Rattle.ringplan_command.specs.declared.command.Format.{Format}
@@ -92,6 +93,11 @@ named_there (Some x) rows id e = let same : rows ≡ x.1 = cc in rw same refl
 pub text_there : (sub : Option (List ℕ × List Row)) (rows : List Row) (id : List ℕ) → Some rows ≡ option_map (λ p. p.1) sub → text_named id sub ≡ first_of id rows
 text_there None rows id e = absurd cc
 text_there (Some x) rows id e = let same : rows ≡ x.1 = cc in rw same refl
+
+-- the texts of an argument likewise
+pub texts_there : (sub : Option (List ℕ × List Row)) (rows : List Row) (id : List ℕ) → Some rows ≡ option_map (λ p. p.1) sub → texts_named id sub ≡ unwrap_or (all_of id rows) []
+texts_there None rows id e = absurd cc
+texts_there (Some x) rows id e = let same : rows ≡ x.1 = cc in rw same refl
 
 -- one without the option names none
 pub none_given : (sub : Option (List ℕ × List Row)) → task_named sub ≡ to_do Check → option_named (codes "workers") sub ≡ None → format_named sub ≡ None → asked_by [] sub ≡ only Check
@@ -182,7 +188,7 @@ turned_away asked (State _) h is = absurd is
 turned_away asked (StateBy _) h is = absurd is
 turned_away asked (Part _) h is = absurd is
 turned_away asked (Drive _ _) h is = absurd is
-turned_away asked (Make _) h is = absurd is
+turned_away asked (Make _ _) h is = absurd is
 turned_away asked (Describe _) h is = absurd is
 turned_away asked (Help _) h is = absurd is
 turned_away asked OutOfMemory h is = absurd is
@@ -213,7 +219,7 @@ formed asked json format plain stated (Err e) means none some bad is = tt
 
 -- what a command for people makes answers a line that asks for it, and so does its refusal
 pub of_word : {E : Type 0} (asked : Asked) (w : Word) (rows : List Row) (r : Result Request E) → AsksWord asked w rows → IfOk r (IsOfWord w rows) → IfOk r (Answers asked)
-of_word asked w rows (Ok (Make making)) e h = (rows, e ∙ ap (λ (v : Word). asks_just (to_make v rows)) (sym h.0), h.1)
+of_word asked w rows (Ok (Make making options)) e h = (rows, e ∙ ap (λ (v : Word). asks_just (to_make v rows)) (sym h.0), h.1)
 of_word asked w rows (Ok (Mistaken text)) e h = inr (inr (inr (to_make w rows, e, h)))
 of_word asked w rows (Ok (Do _)) e h = absurd h
 of_word asked w rows (Ok (CheckBy _)) e h = absurd h
@@ -246,7 +252,7 @@ color_stays (Some text) c d same (inr (inr (e, is))) = inr (inr (e, same (λ bad
 pub of_guide : {E : Type 0} (asked : Asked) (guide : Guide) (r : Result Request E) → AsksGuide asked guide → IfOk r (IsOfGuide guide) → IfOk r (Answers asked)
 of_guide asked guide (Ok (Describe text)) e h = (guide, e)
 of_guide asked guide (Ok (Mistaken text)) e h = inr (inr (inr (to_describe guide, e, h)))
-of_guide asked guide (Ok (Make _)) e h = absurd h
+of_guide asked guide (Ok (Make _ _)) e h = absurd h
 of_guide asked guide (Ok (Do _)) e h = absurd h
 of_guide asked guide (Ok (CheckBy _)) e h = absurd h
 of_guide asked guide (Ok (State _)) e h = absurd h
@@ -294,7 +300,7 @@ no_job (State _) is job = is
 no_job (StateBy _) is job = is
 no_job (Part _) is job = is
 no_job (Drive _ _) is job = is
-no_job (Make _) is job = is
+no_job (Make _ _) is job = is
 no_job (Describe _) is job = is
 no_job (Help _) is job = job
 no_job OutOfMemory is job = job
@@ -314,7 +320,7 @@ job_asked job asked (Drive k form) e h =
     let same : by_drive h.0 h.1 ≡ only job = sym h.2 ∙ e in
     let task : to_drive ≡ to_do job = ap (λ x. x.task) same in
     absurd cc
-job_asked job asked (Make making) e h = let task : to_make (word_of_making making) h.0 ≡ to_do job = ap (λ x. x.task) (sym h.1 ∙ e) in absurd cc
+job_asked job asked (Make making options) e h = let task : to_make (word_of_making making) h.0 ≡ to_do job = ap (λ x. x.task) (sym h.1 ∙ e) in absurd cc
 job_asked job asked (Describe text) e h = let task : to_describe h.0 ≡ to_do job = ap (λ x. x.task) (sym h.1 ∙ e) in absurd cc
 job_asked job asked (Help text) e h = absurd (none_helped _ (ap (λ x. x.faults) e) h)
 job_asked job asked (Mistaken text) e h = absurd (none_refused job asked e h)

@@ -6,9 +6,11 @@ use Rattle.clap.specs.Words.{IsAmong, Kinds, Row, fault_of, first_of, one_of, su
 use Rattle.clap.specs.declared.error.kind.ErrorKind.{ErrorKind}
 use Rattle.clap.specs.declared.error.kind.ErrorKind.TheVariants.{DisplayHelp, DisplayVersion}
 use Rattle.ringplan_command.specs.Files.{text_named}
-use Rattle.ringplan_command.specs.Makings.{MeansMaking, but_text}
+use Rattle.change_text.specs.declared.options.Options.{Options}
+use Rattle.ringplan_command.specs.Makings.{HasNoRacks, MeansMaking, NamesNoDetour, but_text, left_texts}
 use Rattle.ringplan_command.specs.Numbers.{HasNoNumber, IsCount, IsNumberTo}
 use Rattle.ringplan_command.specs.Parts.{MeansPart, PartTexts}
+use Rattle.ringplan_command.specs.Slots.{HasNoSlot}
 use Rattle.ringplan_command.specs.Tree.{drive_word, part_word, ringplan, word_of}
 use Rattle.ringplan_command.specs.declared.command.Request.{Request}
 use Rattle.ringplan_command.specs.declared.command.Request.TheVariants.{Do, CheckBy, State, StateBy, Part, Drive, Make, Describe, Help, Mistaken, OutOfMemory}
@@ -32,18 +34,18 @@ use Rattle.ringplan_job.specs.declared.job.Job.TheVariants.{Check, Migrate, Plan
 abbrev pub word_of_statement : Statement → Word
 word_of_statement stated.Why = people.Why
 word_of_statement (stated.Show wish) = people.Show
-word_of_statement (stated.Goal options exit) = people.Goal
+word_of_statement (stated.Goal exit) = people.Goal
 
 -- the command for people by which a making is asked for
 abbrev pub word_of_making : Making → Word
 word_of_making (Why color) = people.Why
 word_of_making (StateMaking statement) = word_of_statement statement
 word_of_making (Show wish) = people.Show
-word_of_making (Draw wish) = people.Draw
+word_of_making (Draw shown) = people.Draw
 word_of_making Steps = people.Steps
 word_of_making Moves = people.Steps
-word_of_making (Goal options exit) = people.Goal
-word_of_making (Around options back) = people.Around
+word_of_making (Goal exit) = people.Goal
+word_of_making (Around detour) = people.Around
 word_of_making (Windows cut) = people.Windows
 word_of_making Cert = people.Cert
 word_of_making After = people.After
@@ -211,9 +213,9 @@ asks_just task = record { faults = []; task = task; workers = None; json = None 
 abbrev pub AsksWord : Asked → Word → List Row → Type 0
 AsksWord asked w rows = asked ≡ asks_just (to_make w rows)
 
--- what is asked is that making: its command by its word, and all else by the options
-abbrev pub AsksMaking : Asked → Making → Type 0
-AsksMaking asked making = (rows : List Row) × AsksWord asked (word_of_making making) rows × MeansMaking rows making
+-- what is asked is that making by these options: its command by its word, and all else by the options of the line
+abbrev pub AsksMaking : Asked → Making → Options → Type 0
+AsksMaking asked making options = (rows : List Row) × AsksWord asked (word_of_making making) rows × MeansMaking rows making options
 
 -- what is asked is just that text about the program
 abbrev pub AsksGuide : Asked → Guide → Type 0
@@ -229,7 +231,9 @@ TakesValues (to_make people.Why rows) = ⊤
 TakesValues (to_make people.Show rows) = ⊤
 TakesValues (to_make people.Draw rows) = ⊤
 TakesValues (to_make people.Goal rows) = ⊤
-TakesValues (to_make people.Windows rows) = HasNoNumber 1000000 (one_of (codes "rounds") rows) ⊎ HasNoNumber 1000000 (one_of (codes "only") rows)
+TakesValues (to_make people.Steps rows) = HasNoRacks rows
+TakesValues (to_make people.Around rows) = HasNoRacks rows ⊎ (HasNoSlot (left_texts rows) ⊎ NamesNoDetour rows)
+TakesValues (to_make people.Windows rows) = HasNoRacks rows ⊎ (HasNoNumber 1000000 (one_of (codes "rounds") rows) ⊎ HasNoNumber 1000000 (one_of (codes "only") rows))
 TakesValues (to_describe Completions) = ⊤
 TakesValues (to_part texts) = (wish : PartWish) → MeansPart texts wish → ⊥
 TakesValues task = ⊥
@@ -246,7 +250,7 @@ Answers asked (State job) = asked ≡ in_json (only job)
 Answers asked (StateBy workers) = AsksJsonBy asked workers
 Answers asked (Part wish) = AsksPart asked wish
 Answers asked (Drive workers form) = AsksDrive asked workers form
-Answers asked (Make making) = AsksMaking asked making
+Answers asked (Make making options) = AsksMaking asked making options
 Answers asked (Describe text) = (guide : Guide) × AsksGuide asked guide
 Answers asked (Help text) = WantsHelp asked.faults
 Answers asked (Mistaken text) = IsRefused asked
@@ -265,7 +269,7 @@ IsInFormat format.Unknown plain stated line = IsTurnedAway line
 
 -- what that command for people makes by its options, or a line that is refused for the value of one of them
 abbrev pub IsOfWord : Word → List Row → Request → Type 0
-IsOfWord w rows (Make making) = (word_of_making making ≡ w) × MeansMaking rows making
+IsOfWord w rows (Make making options) = (word_of_making making ≡ w) × MeansMaking rows making options
 IsOfWord w rows (Mistaken text) = TakesValues (to_make w rows)
 IsOfWord w rows _ = ⊥
 

@@ -4,3 +4,4 @@ pub mod Tree
 pub mod Numbers
 pub mod Parts
 pub mod Makings
+pub mod Slots

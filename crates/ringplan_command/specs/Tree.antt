@@ -53,9 +53,9 @@ cut_option word = number_option word 1 1000000
 abbrev pub rate_option : Rule
 rate_option = number_option (codes "rate") 1 4294967295
 
--- the file that is read
+-- the files that are read, one after the other
 abbrev pub file_argument : Rule
-file_argument = record (new_rule (codes "file")) { value_names = 1 }
+file_argument = record (new_rule (codes "file")) { value_names = 1; action = Some Append }
 
 -- `-o FILE`, the file that is written
 abbrev pub output_option : Rule
@@ -96,29 +96,31 @@ words_app word = with_rule (with_rule (job_app word) (text_option (codes "format
 abbrev pub why_app : App
 why_app = words_app (codes "why")
 
+-- a subcommand that is told of nodes and partitions
+abbrev pub known_app : App → App
+known_app app = with_rule (with_rule (with_rule app (text_option (codes "layout"))) (list_option (codes "dead"))) (text_option (codes "racks-behind"))
+
 abbrev pub show_app : App
-show_app = with_rule (with_rule (with_rule (with_rule (words_app (codes "show")) (flag_option (codes "all"))) (text_option (codes "racks-behind")))
-    (text_option (codes "sizes"))) rate_option
+show_app = with_rule (with_rule (known_app (words_app (codes "show"))) (flag_option (codes "all"))) rate_option
 
 abbrev pub draw_app : App
-draw_app = with_rule (with_rule (job_app (codes "draw")) (flag_option (codes "map"))) (text_option (codes "racks-behind"))
+draw_app = with_rule (known_app (job_app (codes "draw"))) (flag_option (codes "map"))
 
 abbrev pub steps_app : App
-steps_app = with_rule (job_app (codes "steps")) (flag_option (codes "moves"))
+steps_app = with_rule (known_app (job_app (codes "steps"))) (flag_option (codes "moves"))
 
 abbrev pub windows_app : App
-windows_app = with_rule (with_rule (job_app (codes "windows")) (record (cut_option (codes "rounds")) { required = true })) (cut_option (codes "only"))
-
--- a goal, with what it must know of nodes; and with what it prints
-abbrev pub nodes_app : App
-nodes_app = with_rule (with_rule (with_rule (with_rule (job_app (codes "goal")) (list_option (codes "dead"))) (list_option (codes "weight"))) (text_option (codes "racks-behind")))
-    (text_option (codes "sizes"))
+windows_app = with_rule (with_rule (known_app (job_app (codes "windows"))) (record (cut_option (codes "rounds")) { required = true })) (cut_option (codes "only"))
 
 abbrev pub goal_app : App
-goal_app = with_rule (with_rule nodes_app (flag_option (codes "exit-code"))) (text_option (codes "format"))
+goal_app = with_rule (with_rule (with_rule (known_app (job_app (codes "goal"))) (flag_option (codes "partial"))) (flag_option (codes "exit-code"))) (text_option (codes "format"))
+
+-- a subcommand that is told what changes in a plan that has begun
+abbrev pub changed_app : App → App
+changed_app app = with_rule (with_rule app (list_option (codes "leave"))) (flag_option (codes "rest"))
 
 abbrev pub around_app : App
-around_app = with_rule (with_rule (job_app (codes "around")) (record (list_option (codes "dead")) { required = true })) (flag_option (codes "back"))
+around_app = with_rule (with_rule (changed_app (known_app (job_app (codes "around")))) (flag_option (codes "back"))) (flag_option (codes "all"))
 
 -- the program's name, which wants a subcommand, and its version
 abbrev pub top_app : App

@@ -8,6 +8,7 @@ ghost use Rattle.ringplan_command.specs.Command.{IsTurnedAway, MeansFormat, part
 ghost use Rattle.ringplan_command.specs.Tree.{word_of};
 ghost use Rattle.ringplan_command.specs.Files.{IsJob, files_in, files_named, files_of, no_files};
 ghost use Rattle.ringplan_job.specs.declared.job.Job.{Job};
+ghost use Rattle.change_text.specs.declared.options.Options.{Options as OptionsValue};
 
 use crate::counts::{Count, MOST_WORKERS, count_of};
 use crate::files::Files;
@@ -19,6 +20,7 @@ use crate::parts::{PartWish, part_of};
 use crate::reading::text_of;
 use crate::tree::command;
 use crate::word::{Guide, Word, guide_of, people_word};
+use change_text::Options;
 use clap::error::ErrorKind;
 use clap::{ArgMatches, Error};
 use ringplan_job::{Job, Making, Screen};
@@ -47,8 +49,8 @@ pub enum Request {
     Part(PartWish),
     /// To run a bundle's plan by that many workers, 1 to 64, with a client for each script, and to print its outcome in that form.
     Drive(u32, Form),
-    /// To make something of a bundle for people.
-    Make(Making),
+    /// To make something of a bundle for people, by what is known of nodes and partitions.
+    Make(Making, Options),
     /// To print this text about the program.
     Describe(Vec<u8>),
     /// To be told how to use the program, or its version, by this text.
@@ -62,7 +64,7 @@ pub enum Request {
 // The making with words that have colours always or never, as they have on that screen.
 fn painted(making: Making, screen: Screen) -> Making
     ensures word { word_of_making result ≡ word_of_making making }
-    ensures means { (rows : List Row) → MeansMaking rows making → MeansMaking rows result }
+    ensures means { (rows : List Row) (options : OptionsValue) → MeansMaking rows making options → MeansMaking rows result options }
 {
     match making {
         Making::Why(color) => Making::Why(color.on(screen)),
@@ -77,7 +79,7 @@ impl Request {
         ensures { (asked : Asked) → Answers asked self → Answers asked result }
     {
         match self {
-            Request::Make(making) => Request::Make(painted(making, screen)),
+            Request::Make(making, options) => Request::Make(painted(making, screen), options),
             other => other,
         }
     }
@@ -89,7 +91,7 @@ impl Request {
         match self {
             Request::Do(_) | Request::CheckBy(_) | Request::Drive(_, _) => true,
             Request::State(_) | Request::StateBy(_) => true,
-            Request::Part(_) | Request::Make(_) | Request::Describe(_) => true,
+            Request::Part(_) | Request::Make(_, _) | Request::Describe(_) => true,
             Request::Help(_) | Request::Mistaken(_) | Request::OutOfMemory => false,
         }
     }
@@ -106,18 +108,18 @@ pub fn parse<S: AsStr>(alloc: Global, words: &[S]) -> CommandLine
 {
     match try_parse(alloc, words) {
         Ok(line) => line,
-        Err(_) => alone(Request::OutOfMemory),
+        Err(_) => alone(alloc, Request::OutOfMemory),
     }
 }
 
 // A line that names no files.
-fn alone(request: Request) -> CommandLine
+fn alone(alloc: Global, request: Request) -> CommandLine
     ensures request { result.request ≡ request }
     ensures files { files_in result.files ≡ no_files }
 {
     CommandLine {
         request,
-        files: Files::none(),
+        files: Files::none(alloc),
     }
 }
 
@@ -131,11 +133,12 @@ fn try_parse<S: AsStr>(alloc: Global, words: &[S]) -> Result<CommandLine, AllocE
         Err(error) => {
             let text = with_successor(format!(in alloc; "{error}")?)?;
             match error.kind() {
-                ErrorKind::OutOfMemory => Ok(alone(Request::OutOfMemory)),
-                ErrorKind::DisplayHelp | ErrorKind::DisplayVersion => Ok(alone(Request::Help(
-                    text,
-                ))),
-                _ => Ok(alone(Request::Mistaken(text))),
+                ErrorKind::OutOfMemory => Ok(alone(alloc, Request::OutOfMemory)),
+                ErrorKind::DisplayHelp | ErrorKind::DisplayVersion => Ok(alone(
+                    alloc,
+                    Request::Help(text),
+                )),
+                _ => Ok(alone(alloc, Request::Mistaken(text))),
             }
         }
     }
@@ -160,7 +163,7 @@ fn line_of(alloc: Global, matches: &ArgMatches) -> Result<CommandLine, AllocErro
 {
     let request = request_of(alloc, matches)?;
     if !request.is_job() {
-        return Ok(alone(request));
+        return Ok(alone(alloc, request));
     }
     let files = Files::of(alloc, matches)?;
     Ok(CommandLine { request, files })

@@ -1,28 +1,31 @@
 //! The files that a command line names.
 
-ghost use Rattle.std.specs.Prelude.{◌≡◌, IfOk, option_map, string_bytes};
-ghost use Rattle.clap.specs.Words.{first_value, found_of, subcommand_rows_of};
-ghost use Rattle.ringplan_command.specs.Files.{but_dash, files_in, files_named, no_files};
+ghost use Rattle.std.specs.Prelude.{◌≡◌, [], IfOk, codes, map, option_map, string_bytes, unwrap_or};
+ghost use Rattle.std.specs.List.{list_all};
+ghost use Rattle.std.specs.Str.{bytes_eq};
+ghost use Rattle.clap.specs.Words.{all_of, first_value, found_of, rows_of, subcommand_rows_of};
+ghost use Rattle.ringplan_command.specs.Files.{are_dashes, but_dash, but_dashes, files_in, files_named, no_files};
 
+use crate::naming::texts_of;
 use clap::ArgMatches;
 use std::alloc::{AllocError, Global};
 
 /// The files that a command line names.
 #[derive(Debug, Drop)]
 pub struct Files {
-    /// What is read; standard input where there is none.
-    pub input: Option<String>,
-    /// What is written; standard output where there is none.
+    /// What is read, one file after the other, with `-` for standard input. If there are none, standard input is read.
+    pub inputs: Vec<String>,
+    /// What is written; standard output if there is none.
     pub output: Option<String>,
 }
 
 impl Files {
     /// No files.
-    pub(crate) fn none() -> Files
+    pub(crate) fn none(alloc: Global) -> Files
         ensures { files_in result ≡ no_files }
     {
         Files {
-            input: None,
+            inputs: Vec::new(alloc),
             output: None,
         }
     }
@@ -32,12 +35,45 @@ impl Files {
         ensures { IfOk result (λ f. files_in f ≡ files_named (subcommand_rows_of matches.now)) }
     {
         let Some((_, options)) = matches.subcommand() else {
-            return Ok(Files::none());
+            return Ok(Files::none(alloc));
         };
-        let input = named(alloc, options, "file")?;
+        let inputs = inputs_of(alloc, options)?;
         let output = named(alloc, options, "output")?;
-        Ok(Files { input, output })
+        Ok(Files { inputs, output })
     }
+}
+
+// The files that are read; none if all of them are `-`.
+fn inputs_of(alloc: Global, options: &ArgMatches) -> Result<Vec<String>, AllocError>
+    ensures { IfOk result (λ inputs. map string_bytes inputs.items
+        ≡ but_dashes (unwrap_or (all_of (codes "file") (rows_of (found_of options.now))) [])) }
+{
+    let texts = texts_of(alloc, options, "file")?;
+    if are_dashes(texts.as_slice()) {
+        return Ok(Vec::new(alloc));
+    }
+    Ok(texts)
+}
+
+// Whether the text is `-`.
+fn is_dash(text: &String) -> bool
+    ensures { result ≡ bytes_eq (string_bytes text.now) (codes "-") }
+{
+    text.as_str() == "-"
+}
+
+// Whether each of the texts is.
+fn each_is_dash(texts: &[String]) -> bool
+    ensures { result ≡ list_all (λ text. bytes_eq (string_bytes text) (codes "-")) texts.now }
+{
+    texts.iter().all(|text| is_dash(text))
+}
+
+// Whether the names are all `-`.
+fn are_dashes(texts: &[String]) -> bool
+    ensures { result ≡ are_dashes (map string_bytes texts.now) }
+{
+    each_is_dash(texts)
 }
 
 /// The text of an argument; `-` stands for a standard stream, as no text does.

@@ -8,7 +8,8 @@ pub(crate) const ABOUT: &str =
 
 pub(crate) const MORE: &str = "With --help: the formats, an example and the exit statuses.";
 
-pub(crate) const FILE: &str = "The bundle; with `-` or without it standard input is read";
+pub(crate) const FILE: &str =
+    "The bundle; several files are read one after the other, as one text; with `-` or without it standard input is read";
 
 pub(crate) const OUTPUT: &str =
     "Writes to FILE in place of standard output: all of the text, or with another exit status than 0 and 4 nothing; links and permissions stay";
@@ -17,7 +18,7 @@ pub(crate) const GOAL: &str =
     "Prints a plan that leads to a goal ring, by racks, weights and dead nodes, with its certificate";
 
 pub(crate) const AROUND: &str =
-    "Prints another plan around nodes that died in the middle of a change, with the history that goes on by it";
+    "Prints another plan for a change that has begun, around dead nodes, at rest, or with slots left out, with the history that goes on by it";
 
 pub(crate) const SHOW: &str =
     "Prints a summary of the plan, and with a history how far it has come";
@@ -27,9 +28,6 @@ pub(crate) const DRAW: &str =
 
 pub(crate) const MAP: &str =
     "Draws who owns what before the plan and after it, in place of who gives what to whom";
-
-pub(crate) const RACK_COLUMNS: &str =
-    "Groups the nodes of a map by rack; a rack is what follows the last C of a node's name";
 
 pub(crate) const CHECK: &str = "Says whether the checker accepts the plan";
 
@@ -103,32 +101,34 @@ pub(crate) const MOVES: &str =
 pub(crate) const ALL: &str =
     "Shows every node, round and copy; without it at most 24 nodes, 12 rounds and 6 entries of a round";
 
-pub(crate) const RACKS: &str =
-    "Says how many partitions have two slots in one rack; a rack is what follows the last C of a node's name";
+pub(crate) const LAYOUT: &str =
+    "What is known of nodes and partitions, as a text: racks, weights, sizes, aliases and dead nodes; docs/FORMATS.md has its lines";
 
-pub(crate) const MOVED_SIZES: &str =
-    "Says how much moves by sizes: lines of a partition and a number, ascending; the others have 1, and 0 is a partition without keys";
+pub(crate) const RACKS: &str =
+    "The racks of nodes: what follows the last C of a node's name, or none, or auto; without it auto: as the layout or the names show them";
 
 pub(crate) const RATE: &str =
-    "Says when the plan can end at the earliest, where one transfer copies N of a size in a second, 1 to 4294967295";
+    "Says when the plan can end at the earliest, if one transfer copies N of a size in a second, 1 to 4294967295; wants --layout";
 
 pub(crate) const DEAD: &str =
-    "A node that is dead for good: it leaves, its slots are read from others, and it does not join, drop or retire; write a name that begins with - as --dead=-NAME";
+    "A node that is dead for good: a plan that is made asks nothing of it and lets it leave, and what is shown counts it as dead; write a name that begins with - as --dead=-NAME";
 
 pub(crate) const GONE: &str =
-    "A node that is dead from here on: no step that is to come asks anything of it; at least one is named; write a name that begins with - as --dead=-NAME";
+    "A node that is dead from here on: no step that is to come asks anything of it; write a name that begins with - as --dead=-NAME";
 
 pub(crate) const BACK: &str =
-    "Takes mirrors back that no copy can fill any more: the store must let go of them, as docs/STORES.md says";
+    "Takes mirrors back that no copy can fill any more: the store must let go of them, as docs/STORES.md says; with --rest also those whose copies have no chunk";
 
-pub(crate) const WEIGHT: &str =
-    "A node's name, `=` and how many parts of the slots it shall have, 1 to 1000; the others have 1";
+pub(crate) const REST: &str = "Ends the moves that have begun, and begins no others";
 
-pub(crate) const RACKS_APART: &str =
-    "Keeps the slots of a partition in different racks as far as possible; a rack is what follows the last C of a node's name";
+pub(crate) const LEAVE: &str =
+    "A slot that stays with its owner, by its partition and its index; a mirror of it is taken back; may stand several times";
 
-pub(crate) const SIZES: &str =
-    "Makes the goal ring even by sizes: lines of a partition and a number, ascending; the others have 1, and 0 is a partition without keys";
+pub(crate) const ALL_SLOTS: &str =
+    "Says in a line for each slot what becomes of it; without it only how many slots there are at each node";
+
+pub(crate) const PARTIAL: &str =
+    "Plans the rest if partitions cannot be read, since fewer than R of their owners live: the slots of these stay as they are";
 
 pub(crate) const EXIT_CODE: &str =
     "Ends with status 4 where the plan that is printed has steps, and with 0 where it has none";
@@ -143,11 +143,8 @@ pub(crate) const NO_WORKERS: &[u8; 105] =
 pub(crate) const NO_PART: &[u8; 153] =
     b"error: a part is named by '--of <K>' and '--part <I>' with I below K, or by '--partitions <A-B>' with A not above B\n\nFor more information, try '--help'.\n";
 
-pub(crate) const NO_WEIGHT: &[u8; 127] =
-    b"error: invalid value for '--weight <NODE=K>': not a name, '=' and a number from 1 to 1000\n\nFor more information, try '--help'.\n";
-
-pub(crate) const NO_BYTE: &[u8; 102] =
-    b"error: invalid value for '--racks-behind <C>': not one character\n\nFor more information, try '--help'.\n";
+pub(crate) const NO_RACKS: &[u8; 116] =
+    b"error: invalid value for '--racks-behind <C>': not one character, none or auto\n\nFor more information, try '--help'.\n";
 
 pub(crate) const NO_FORMAT: &[u8; 100] =
     b"error: invalid value for '--format <FORMAT>': not text or json\n\nFor more information, try '--help'.\n";
@@ -155,11 +152,17 @@ pub(crate) const NO_FORMAT: &[u8; 100] =
 pub(crate) const NO_COLOR: &[u8; 106] =
     b"error: invalid value for '--color <WHEN>': not auto, always or never\n\nFor more information, try '--help'.\n";
 
-pub(crate) const NO_RATE: &[u8; 80] =
-    b"error: '--rate <N>' wants '--sizes <FILE>'\n\nFor more information, try '--help'.\n";
+pub(crate) const NO_RATE: &[u8; 81] =
+    b"error: '--rate <N>' wants '--layout <FILE>'\n\nFor more information, try '--help'.\n";
 
 pub(crate) const NO_WINDOW: &[u8; 111] =
     b"error: invalid value for '--rounds <K>' or '--only <W>': not 1 to 1000000\n\nFor more information, try '--help'.\n";
+
+pub(crate) const NO_DETOUR: &[u8; 138] =
+    b"error: what changes is said by '--dead <NODE>', a layout that names one, '--leave <P.I>' or '--rest'\n\nFor more information, try '--help'.\n";
+
+pub(crate) const NO_SLOT: &[u8; 121] =
+    b"error: invalid value for '--leave <P.I>': not a partition and an index, such as 3.1\n\nFor more information, try '--help'.\n";
 
 /// What is said of words or options that are no text.
 pub const NO_WORDS: &[u8; 123] =
@@ -169,7 +172,7 @@ pub(crate) const NO_SHELL: &[u8; 95] =
     b"error: invalid value for '<SHELL>': not bash, zsh or fish\n\nFor more information, try '--help'.\n";
 
 /// How the text of a line begins whose word there was once, its command where that is one of an option, and the line that says what to type instead.
-pub(crate) const SUCCESSORS: &[(&str, &str, &str); 4] = &[
+pub(crate) const SUCCESSORS: &[(&str, &str, &str); 6] = &[
     (
         "error: unrecognized subcommand 'judge'",
         "",
@@ -190,10 +193,20 @@ pub(crate) const SUCCESSORS: &[(&str, &str, &str); 4] = &[
         "Usage: ringplan drive ",
         "ringplan: there is no `drive --json`: use `drive --format json`\n",
     ),
+    (
+        "error: unexpected argument '--sizes'",
+        "",
+        "ringplan: there is no `--sizes`: use `--layout`, with `size` lines\n",
+    ),
+    (
+        "error: unexpected argument '--weight'",
+        "",
+        "ringplan: there is no `--weight`: use `--layout`, with `weight` lines\n",
+    ),
 ];
 
 pub(crate) const STREAMS: &str = "\
-Example: ringplan goal --racks-behind . examples/plan_grow.bundle
+Example: ringplan goal examples/plan_grow.bundle
 
 A bundle is the text of a ring, then one of these: a change; a plan and its certificate; these and then a script or a history.
 Standard output has what the command prints. `plan`, `check`, `play`, `drive`, `replay` and `migrate` print their refusals there too:
@@ -314,8 +327,9 @@ pub(crate) const CERT_STREAMS: &str = "\
 Example: ringplan cert examples/no_certificate.bundle -o certified.bundle
 
 Input: a bundle: a ring with a change, or with a plan. What follows the plan, as a certificate, is not read.
-Standard output: the texts of the ring, the plan and a certificate for it, which `ringplan check` accepts. Standard error: else what `why` prints of
-the bundle with the best certificate that was found. Chains are as few as the plan's order allows: where a node has too many, no certificate exists.
+Standard output: the texts of the ring, the plan and a certificate for it, which `ringplan check` accepts. If none is printed, standard error has what
+`why` prints of the bundle with the best certificate that was found. Chains are as few as the plan's order allows: where a node has too many, no
+certificate exists.
 
 Exit status: 0 printed, 1 no plan or one that is refused, 2 a text or the command line is refused, 3 memory, input or output";
 
@@ -329,13 +343,13 @@ done: the next change begins with it. A move that a history has begun and not sw
 Exit status: 0 printed, 1 no plan, one that is refused, or an open move, 2 a text or the command line is refused, 3 memory, input or output";
 
 pub(crate) const SHOW_STREAMS: &str = "\
-Example: ringplan show --racks-behind . examples/plan_grow.bundle
+Example: ringplan show examples/plan_grow.bundle
 
 Input: a bundle: a ring with a change, or with a plan and its certificate, and perhaps a history.
 Standard output: who joins and leaves, what moves in how many rounds, what becomes of balance, racks and failures, the nodes that take part, and the
-copies of each round; with a history who is down, and what is done, open and next. Of a ring alone each node with its slots, allowance and state.
-With `--sizes` how much moves in all, by node and by round, and the most that copies which wait for one another have. With `--rate` also the second
-in which the plan ends at the earliest.
+copies of each round; with a history what is done, open and next; and who is dead or down. Of a ring alone each node with its alias, rack, state, slots,
+size and allowance. If the layout has sizes, how much moves in all, by node and by round, and the most that copies which wait for one another have. With
+`--rate` also when the plan ends at the earliest; with a history both are of what is left.
 Partitions, slots, steps and rounds are numbers; `5.1` is slot 1 of partition 5.
 
 Exit status: 0 printed, 1 no plan, one that is refused, or a history that is no run, 2 a text or the command line is refused, 3 memory, input or output";
@@ -345,8 +359,9 @@ Example: ringplan draw examples/plan_grow.bundle -o plan.svg
 
 Input: a bundle: a ring with a change, or with a plan and its certificate, and perhaps a history.
 Standard output: an SVG file that needs no other: a row for each node that takes part, a column for each round, a bar for each copy, which shows its
-step under a pointer; with a history what is copied, open and still to do, and who is down. Above 40 rounds or 90 copies side by side columns and
-rows are summed. With `--map` a row is a partition and a column a node: grey is owned before and after, orange given, blue taken.
+step under a pointer; with a history what is copied, open and still to do. The names of nodes that are dead or down are crossed out. If the layout has
+sizes, how much each node gives and takes. Above 40 rounds or 90 copies side by side columns and rows are summed. With `--map` a row is a partition and
+a column a node: grey is owned before and after, orange given, blue taken.
 
 Exit status: 0 printed, 1 no plan, one that is refused, or a history that is no run, 2 a text or the command line is refused, 3 memory, input or output";
 
@@ -367,21 +382,22 @@ Example: ringplan goal --dead b examples/goal_around_a_dead_node.bundle -o plan.
 
 Input: the text of a ring, and then that of the goal ring, with the same nodes, partitions and quorums; or that of a change, and then the goal ring
 is made: no slot moves without need, and what moves goes where it keeps racks apart and slots even by weight.
-With `--sizes` a slot moves if it is a leaver's, or if it goes to a node that joins and stores no more than its share.
+If the layout has sizes, a slot moves if it is a leaver's, or if it goes to a node that joins and stores no more than its share.
 Standard output: the texts of the first ring, a plan that leads to the goal ring, and its certificate, which `ringplan check` accepts. Standard error:
-else what `why` prints. The slots of a partition are compared as sets. A dead node that shall leave keeps its line `in`: it cannot take part in its
-own retirement.
+by which racks a change was planned, and which slots stay; or why there is no plan. The slots of a partition are compared as sets. A dead node that is
+to leave keeps its line `in`: it cannot take part in its own retirement.
 
 Exit status: 0 printed, with `--exit-code` 4 if the plan has steps, 1 no plan, 2 a text or the command line is refused, 3 memory, input or output";
 
 pub(crate) const AROUND_STREAMS: &str = "\
 Example: ringplan around --dead b begun.bundle -o on.bundle
 
-Input: a ring, a plan, its certificate and a history, which is a run of the plan that stopped or goes on.
-Standard output: the ring, another plan, its certificate and the history by that plan: `check` accepts the plan, and `replay` the history. Steps that
-are done are in both plans, with other numbers: a program that does the plan hands out no step while it changes bundles, and finds what it holds of a
-step by the step's kind, partition, slot and node. Standard error: what becomes of slots that do not go where they were to go; or else why there is no
-such plan.
+Input: a ring, a plan, its certificate and a history, which is a run of the plan that stopped or goes on. At least one of --dead, a layout that names a
+dead node, --leave and --rest.
+Standard output: the ring, another plan, its certificate and the history by that plan: `check` accepts the plan, and `replay` the history, which takes
+the place of the old one from here on. Steps that are done are in both plans, with other numbers: a program that does the plan hands out no step while
+it changes bundles, and finds what it holds of a step by the step's kind, partition, slot and node. Standard error: how many slots do not go where
+they were to go, by node, and with --all each of them; or why there is no such plan.
 
 Exit status: 0 printed, 1 no plan, or one that is refused, or no run of it, 2 a text or the command line is refused, 3 memory, input or output";
 

@@ -13,6 +13,7 @@ mod naming;
 mod parts;
 mod reading;
 mod shells;
+mod slots;
 mod tree;
 mod word;
 

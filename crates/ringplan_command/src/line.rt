@@ -1,21 +1,25 @@
 //! What a line with a command for people asks for.
 
-ghost use Rattle.std.specs.Prelude.{◌≡◌, IfOk, IfSome, Some, codes};
+ghost use Rattle.std.specs.Prelude.{◌≡◌, [], IfOk, IfSome, IsTrue, MatchOption, None, Some, codes};
+ghost use Rattle.change_text.specs.declared.options.RackRule.{RackRule as TheRule};
 ghost use Rattle.clap.specs.Words.{first_of, found_of, rows_of};
-ghost use Rattle.ringplan_command.specs.Command.{IsOfWord, IsTurnedAway, word_of_making};
-ghost use Rattle.ringplan_command.specs.Makings.{MeansBack, MeansByte, MeansColor, MeansExit, MeansLayout, MeansMaking, MeansNodes, MeansPicture, MeansShape, MeansWish};
+ghost use Rattle.ringplan_command.specs.Command.{IsOfWord, IsTurnedAway};
+ghost use Rattle.ringplan_command.specs.Makings.{HasNoRacks, MeansBack, MeansColor, MeansExit, MeansExtent, MeansKnown, MeansPicture, MeansRacks, MeansShape, MeansUnreadable, MeansWish, left_texts};
+ghost use Rattle.ringplan_command.specs.Slots.{AreSlots};
 
 use crate::command::{Format, Request, format_of};
 use crate::counts::Count;
 use crate::files::named;
-use crate::help::{NO_BYTE, NO_COLOR, NO_FORMAT, NO_RATE, NO_WEIGHT, NO_WINDOW};
-use crate::naming::{names_of, weights_of};
+use crate::help::{NO_COLOR, NO_DETOUR, NO_FORMAT, NO_RACKS, NO_RATE, NO_SLOT, NO_WINDOW};
+use crate::naming::names_of;
 use crate::reading::{is_set, number_of, text_of};
+use crate::slots::slots_of;
 use crate::word::Word;
-use change_text::Options;
+use change_text::{Options, RackRule, Unreadable};
 use clap::ArgMatches;
+use layout_text::Layout;
 use plan_runs::Back;
-use ringplan_job::{Color, Cut, DrawWish, Exit, Making, Picture, Shape, Statement, Wish};
+use ringplan_job::{Color, Cut, Detour, Exit, Extent, Making, Picture, Shape, Statement, Wish};
 use std::alloc::{AllocError, Global};
 
 // The most rounds of copies that a window may have, and the most windows.
@@ -31,9 +35,9 @@ pub(crate) fn make_line(
 {
     match word {
         Word::Why => why_line(alloc, options),
-        Word::Cert => Ok(Request::Make(Making::Cert)),
-        Word::After => Ok(Request::Make(Making::After)),
-        Word::Steps => Ok(Request::Make(lines_of(options))),
+        Word::Cert => Ok(Request::Make(Making::Cert, Options::new(alloc))),
+        Word::After => Ok(Request::Make(Making::After, Options::new(alloc))),
+        Word::Steps => steps_line(alloc, options),
         Word::Windows => windows_line(alloc, options),
         Word::Show => show_line(alloc, options),
         Word::Draw => draw_line(alloc, options),
@@ -51,15 +55,17 @@ pub(crate) fn mistaken(alloc: Global, text: &[u8]) -> Result<Request, AllocError
     Ok(Request::Mistaken(text))
 }
 
-// Whether the steps are asked for, or the slots that move.
-fn lines_of(options: &ArgMatches) -> Making
-    ensures word { word_of_making result ≡ Word.Steps }
-    ensures means { MeansMaking (rows_of (found_of options.now)) result }
+// What a line with the word `steps` asks for: the steps, or the slots that move.
+fn steps_line(alloc: Global, matches: &ArgMatches) -> Result<Request, AllocError>
+    ensures { IfOk result (IsOfWord Word.Steps (rows_of (found_of matches.now))) }
 {
-    if is_set(options, "moves") {
-        return Making::Moves;
+    let Some(options) = known_of(alloc, matches)? else {
+        return mistaken(alloc, NO_RACKS);
+    };
+    if is_set(matches, "moves") {
+        return Ok(Request::Make(Making::Moves, options));
     }
-    Making::Steps
+    Ok(Request::Make(Making::Steps, options))
 }
 
 // When words have colours. None where what is named for it is none of the three words.
@@ -95,27 +101,31 @@ fn why_line(alloc: Global, options: &ArgMatches) -> Result<Request, AllocError>
         return mistaken(alloc, NO_COLOR);
     };
     match format_of(options) {
-        Format::Text => Ok(Request::Make(Making::Why(color))),
-        Format::Json => Ok(Request::Make(Making::State(Statement::Why))),
+        Format::Text => Ok(Request::Make(Making::Why(color), Options::new(alloc))),
+        Format::Json => {
+            let making = Making::State(Statement::Why);
+            Ok(Request::Make(making, Options::new(alloc)))
+        }
         Format::Unknown => mistaken(alloc, NO_FORMAT),
     }
 }
 
-// Racks and the file of sizes; no node is named. None where what is given for racks is not one byte.
-fn layout_of(alloc: Global, matches: &ArgMatches) -> Result<Option<Options>, AllocError>
-    ensures { IfOk result (λ o. IfSome o (MeansLayout (rows_of (found_of matches.now)))) }
+// What is known of nodes and partitions. None if what is given for racks is neither one character nor one of the two words.
+fn known_of(alloc: Global, matches: &ArgMatches) -> Result<Option<Options>, AllocError>
+    ensures { IfOk result (λ o. MatchOption o (HasNoRacks (rows_of (found_of matches.now))) (MeansKnown (rows_of (found_of matches.now)))) }
 {
-    let Some(racks_behind) = rack_byte(matches) else {
+    let Some(racks) = racks_of(matches) else {
         return Ok(None);
     };
-    let sizes_file = named(alloc, matches, "sizes")?;
+    let dead = names_of(alloc, matches, "dead")?;
+    let layout_file = named(alloc, matches, "layout")?;
     Ok(Some(Options {
-        dead: Vec::new(alloc),
-        weighed: Vec::new(alloc),
-        weights: Vec::new(alloc),
-        racks_behind,
-        sizes: None,
-        sizes_file,
+        dead,
+        racks,
+        layout: Layout::new(alloc),
+        layout_file,
+        unreadable: Unreadable::Refused,
+        left: Vec::new(alloc),
     }))
 }
 
@@ -123,8 +133,8 @@ fn layout_of(alloc: Global, matches: &ArgMatches) -> Result<Option<Options>, All
 fn show_line(alloc: Global, matches: &ArgMatches) -> Result<Request, AllocError>
     ensures { IfOk result (IsOfWord Word.Show (rows_of (found_of matches.now))) }
 {
-    let Some(options) = layout_of(alloc, matches)? else {
-        return mistaken(alloc, NO_BYTE);
+    let Some(options) = known_of(alloc, matches)? else {
+        return mistaken(alloc, NO_RACKS);
     };
     let Some(color) = color_of(matches) else {
         return mistaken(alloc, NO_COLOR);
@@ -134,26 +144,31 @@ fn show_line(alloc: Global, matches: &ArgMatches) -> Result<Request, AllocError>
         Count::Many(rate) => Some(rate),
         Count::NoNumber => return mistaken(alloc, NO_RATE),
     };
-    if rate.is_some() && options.sizes_file.is_none() {
+    if rate.is_some() && options.layout_file.is_none() {
         return mistaken(alloc, NO_RATE);
     }
     let wish = Wish {
         shape: shape_of(matches),
         color,
-        options,
         rate,
     };
-    show_of(alloc, matches, wish)
+    show_of(alloc, matches, wish, options)
 }
 
 // A summary in words or JSON.
-fn show_of(alloc: Global, matches: &ArgMatches, wish: Wish) -> Result<Request, AllocError>
-    requires { MeansWish (rows_of (found_of matches.now)) wish }
+fn show_of(
+    alloc: Global,
+    matches: &ArgMatches,
+    wish: Wish,
+    options: Options,
+) -> Result<Request, AllocError>
+    requires wish { MeansWish (rows_of (found_of matches.now)) wish }
+    requires options { MeansKnown (rows_of (found_of matches.now)) options }
     ensures { IfOk result (IsOfWord Word.Show (rows_of (found_of matches.now))) }
 {
     match format_of(matches) {
-        Format::Text => Ok(Request::Make(Making::Show(wish))),
-        Format::Json => Ok(Request::Make(Making::State(Statement::Show(wish)))),
+        Format::Text => Ok(Request::Make(Making::Show(wish), options)),
+        Format::Json => Ok(Request::Make(Making::State(Statement::Show(wish)), options)),
         Format::Unknown => mistaken(alloc, NO_FORMAT),
     }
 }
@@ -169,17 +184,13 @@ fn shape_of(options: &ArgMatches) -> Shape
 }
 
 // What a line with the word `draw` asks for.
-fn draw_line(alloc: Global, options: &ArgMatches) -> Result<Request, AllocError>
-    ensures { IfOk result (IsOfWord Word.Draw (rows_of (found_of options.now))) }
+fn draw_line(alloc: Global, matches: &ArgMatches) -> Result<Request, AllocError>
+    ensures { IfOk result (IsOfWord Word.Draw (rows_of (found_of matches.now))) }
 {
-    let Some(racks_behind) = rack_byte(options) else {
-        return mistaken(alloc, NO_BYTE);
+    let Some(options) = known_of(alloc, matches)? else {
+        return mistaken(alloc, NO_RACKS);
     };
-    let picture = picture_of(options);
-    Ok(Request::Make(Making::Draw(DrawWish {
-        picture,
-        racks_behind,
-    })))
+    Ok(Request::Make(Making::Draw(picture_of(matches)), options))
 }
 
 fn picture_of(options: &ArgMatches) -> Picture
@@ -192,59 +203,119 @@ fn picture_of(options: &ArgMatches) -> Picture
 }
 
 // What a line with the word `windows` asks for. Both numbers are from 1 to 1,000,000, and the first is there.
-fn windows_line(alloc: Global, options: &ArgMatches) -> Result<Request, AllocError>
-    ensures { IfOk result (IsOfWord Word.Windows (rows_of (found_of options.now))) }
+fn windows_line(alloc: Global, matches: &ArgMatches) -> Result<Request, AllocError>
+    ensures { IfOk result (IsOfWord Word.Windows (rows_of (found_of matches.now))) }
 {
-    let rounds = match number_of(options, "rounds", MOST_ROUNDS) {
+    let Some(options) = known_of(alloc, matches)? else {
+        return mistaken(alloc, NO_RACKS);
+    };
+    let rounds = match number_of(matches, "rounds", MOST_ROUNDS) {
         Count::Unnamed => 1,
         Count::Many(rounds) => rounds,
         Count::NoNumber => return mistaken(alloc, NO_WINDOW),
     };
-    let only = match number_of(options, "only", MOST_ROUNDS) {
+    let only = match number_of(matches, "only", MOST_ROUNDS) {
         Count::Unnamed => None,
         Count::Many(only) => Some(only),
         Count::NoNumber => return mistaken(alloc, NO_WINDOW),
     };
-    Ok(Request::Make(Making::Windows(Cut { rounds, only })))
+    let cut = Cut { rounds, only };
+    Ok(Request::Make(Making::Windows(cut), options))
 }
 
 // What a line with the word `goal` asks for.
 fn goal_line(alloc: Global, matches: &ArgMatches) -> Result<Request, AllocError>
     ensures { IfOk result (IsOfWord Word.Goal (rows_of (found_of matches.now))) }
 {
-    let Some(weights) = weights_of(alloc, matches)? else {
-        return mistaken(alloc, NO_WEIGHT);
+    let Some(mut options) = known_of(alloc, matches)? else {
+        return mistaken(alloc, NO_RACKS);
     };
-    let Some(layout) = layout_of(alloc, matches)? else {
-        return mistaken(alloc, NO_BYTE);
-    };
-    let mut options = layout;
-    options.dead = names_of(alloc, matches, "dead")?;
-    options.weighed = weights.names;
-    options.weights = weights.numbers;
+    options.unreadable = unreadable_of(matches);
     goal_of(alloc, matches, options)
 }
 
 // A plan that leads to the goal ring, as text or JSON.
 fn goal_of(alloc: Global, matches: &ArgMatches, options: Options) -> Result<Request, AllocError>
-    requires { MeansNodes (rows_of (found_of matches.now)) options }
+    requires known { MeansKnown (rows_of (found_of matches.now)) options }
+    requires unreadable { MeansUnreadable (rows_of (found_of matches.now)) options.unreadable }
     ensures { IfOk result (IsOfWord Word.Goal (rows_of (found_of matches.now))) }
 {
     let exit = exit_of(matches);
     match format_of(matches) {
-        Format::Text => Ok(Request::Make(Making::Goal(options, exit))),
-        Format::Json => Ok(Request::Make(Making::State(Statement::Goal(options, exit)))),
+        Format::Text => Ok(Request::Make(Making::Goal(exit), options)),
+        Format::Json => Ok(Request::Make(Making::State(Statement::Goal(exit)), options)),
         Format::Unknown => mistaken(alloc, NO_FORMAT),
     }
 }
 
-// What a line with the word `around` asks for. A dead node is named.
+// What becomes of partitions that cannot be read.
+fn unreadable_of(matches: &ArgMatches) -> Unreadable
+    ensures { MeansUnreadable (rows_of (found_of matches.now)) result }
+{
+    if is_set(matches, "partial") {
+        return Unreadable::Left;
+    }
+    Unreadable::Refused
+}
+
+// What a line with the word `around` asks for.
 fn around_line(alloc: Global, matches: &ArgMatches) -> Result<Request, AllocError>
     ensures { IfOk result (IsOfWord Word.Around (rows_of (found_of matches.now))) }
 {
-    let mut options = Options::new(alloc);
-    options.dead = names_of(alloc, matches, "dead")?;
-    Ok(Request::Make(Making::Around(options, back_of(matches))))
+    let Some(mut options) = known_of(alloc, matches)? else {
+        return mistaken(alloc, NO_RACKS);
+    };
+    let Some(left) = slots_of(alloc, matches)? else {
+        return mistaken(alloc, NO_SLOT);
+    };
+    options.left = left;
+    around_of(alloc, matches, options)
+}
+
+// How a plan that has begun goes on. Something is to change: a node is dead, or a layout may name one, a slot stays with its owner, or only what has begun is ended.
+fn around_of(alloc: Global, matches: &ArgMatches, options: Options) -> Result<Request, AllocError>
+    requires known { MeansKnown (rows_of (found_of matches.now)) options }
+    requires left { AreSlots (left_texts (rows_of (found_of matches.now))) options.left.items }
+    ensures { IfOk result (IsOfWord Word.Around (rows_of (found_of matches.now))) }
+{
+    let detour = detour_of(matches);
+    if names_nothing(&options, detour.extent) {
+        return mistaken(alloc, NO_DETOUR);
+    }
+    Ok(Request::Make(Making::Around(detour), options))
+}
+
+// Whether nothing is to change by the options, and all of the plan is to be done.
+fn names_nothing(options: &Options, extent: Extent) -> bool
+    ensures { IsTrue result → (options.now.dead.items ≡ []) × (options.now.layout_file ≡ None) × (options.now.left.items ≡ []) × (extent ≡ Extent.Whole) }
+{
+    options.dead.is_empty()
+        && options.layout_file.is_none()
+        && options.left.is_empty()
+        && extent == Extent::Whole
+}
+
+// How the plan goes on, by the flags of the line.
+fn detour_of(matches: &ArgMatches) -> Detour
+    ensures back { MeansBack (rows_of (found_of matches.now)) result.back }
+    ensures extent { MeansExtent (rows_of (found_of matches.now)) result.extent }
+    ensures shape { MeansShape (rows_of (found_of matches.now)) result.shape }
+{
+    Detour {
+        back: back_of(matches),
+        extent: extent_of(matches),
+        shape: shape_of(matches),
+    }
+}
+
+// How much of the plan is still to be done.
+fn extent_of(matches: &ArgMatches) -> Extent
+    ensures { MeansExtent (rows_of (found_of matches.now)) result }
+{
+    if is_set(matches, "rest") {
+        return Extent::Begun;
+    }
+    Extent::Whole
 }
 
 // Whether the line lets mirrors be taken back.
@@ -267,15 +338,28 @@ fn exit_of(matches: &ArgMatches) -> Exit
     Exit::Printed
 }
 
-// The byte in front of racks, if they are asked for. None where what is given for it is no one byte.
-fn rack_byte(options: &ArgMatches) -> Option<Option<u8>>
-    ensures { IfSome result (MeansByte (first_of (codes "racks-behind") (rows_of (found_of options.now)))) }
+// How racks are known. None if what is given for them is neither one character nor one of the two words.
+fn racks_of(options: &ArgMatches) -> Option<RackRule>
+    ensures { MatchOption result (HasNoRacks (rows_of (found_of options.now)))
+        (MeansRacks (first_of (codes "racks-behind") (rows_of (found_of options.now)))) }
 {
     match text_of(options, "racks-behind") {
-        None => Some(None),
-        Some(text) => match text.as_bytes() {
-            [byte] => Some(Some(*byte)),
-            _ => None,
-        },
+        None => Some(RackRule::Auto),
+        Some(text) => racks_named(text),
+    }
+}
+
+fn racks_named(text: &str) -> Option<RackRule>
+    ensures { MatchOption result ((rule : TheRule) → MeansRacks (Some text.now) rule → ⊥) (MeansRacks (Some text.now)) }
+{
+    if text == "auto" {
+        return Some(RackRule::Auto);
+    }
+    if text == "none" {
+        return Some(RackRule::Off);
+    }
+    match text.as_bytes() {
+        [byte] => Some(RackRule::Behind(*byte)),
+        _ => None,
     }
 }

@@ -52,7 +52,7 @@ fn script(alloc: Global, shell: Shell, program: &Command) -> Result<Vec<u8>, All
 
 // Whether the argument names a file, as those that `Files` reads do.
 fn names_file(arg: &Arg) -> bool {
-    matches!(arg.get_id(), "file" | "output" | "sizes")
+    matches!(arg.get_id(), "file" | "output" | "layout")
 }
 
 // Whether the argument is an option with a value.

@@ -2,19 +2,18 @@
 
 ghost use Rattle.std.specs.Prelude.{◌≡◌, false, codes, IfOk};
 ghost use Rattle.clap.specs.Words.{App, rule_of, with_rule, with_subcommand};
-ghost use Rattle.ringplan_command.specs.Tree.{IsApp, cut_option, draw_app, drive_app, flag_option, goal_app, job_app, ringplan, show_app};
-ghost use Rattle.ringplan_command.specs.Tree.{around_app, check_app, file_argument, output_option, rate_option, steps_app, text_option, top_app};
-ghost use Rattle.ringplan_command.specs.Tree.{completions_app, guide_app, nodes_app, number_option, part_app, replay_app, shell_argument, why_app, windows_app, words_app, workers_option};
+ghost use Rattle.ringplan_command.specs.Tree.{IsApp, cut_option, draw_app, drive_app, flag_option, goal_app, job_app, known_app, ringplan, show_app};
+ghost use Rattle.ringplan_command.specs.Tree.{around_app, changed_app, check_app, file_argument, list_option, output_option, rate_option, steps_app, text_option, top_app};
+ghost use Rattle.ringplan_command.specs.Tree.{completions_app, guide_app, number_option, part_app, replay_app, shell_argument, why_app, windows_app, words_app, workers_option};
 
 use crate::help::{
-    ABOUT, AFTER, AFTER_STREAMS, ALL, AROUND, AROUND_STREAMS, BACK, CERT, CERT_STREAMS, CHECK,
-    CHECK_STREAMS, COLOR, COMPLETIONS, COMPLETIONS_STREAMS, DEAD, DRAW, DRAW_STREAMS, DRIVE,
-    DRIVE_STREAMS, DRIVERS, ENTRY, EXIT_CODE, FILE, FORMAT, GOAL, GOAL_STREAMS, GONE, MANUAL,
-    MANUAL_STREAMS, MAP, MIGRATE, MIGRATE_STREAMS, MORE, MOVED_SIZES, MOVES, OF, ONLY, OUTPUT,
-    PART, PART_NUMBER, PART_STREAMS, PARTITIONS, PLAN, PLAN_STREAMS, PLAY, PLAY_STREAMS,
-    RACK_COLUMNS, RACKS, RACKS_APART, RATE, REPLAY, REPLAY_STREAMS, REPORT, ROUNDS, SHELL, SHOW,
-    SHOW_STREAMS, SIZES, STEPS, STEPS_STREAMS, STREAMS, VERSION, WEIGHT, WHY, WHY_STREAMS, WINDOWS,
-    WINDOWS_STREAMS, WORKERS,
+    ABOUT, AFTER, AFTER_STREAMS, ALL, ALL_SLOTS, AROUND, AROUND_STREAMS, BACK, CERT, CERT_STREAMS,
+    CHECK, CHECK_STREAMS, COLOR, COMPLETIONS, COMPLETIONS_STREAMS, DEAD, DRAW, DRAW_STREAMS, DRIVE,
+    DRIVE_STREAMS, DRIVERS, ENTRY, EXIT_CODE, FILE, FORMAT, GOAL, GOAL_STREAMS, GONE, LAYOUT,
+    LEAVE, MANUAL, MANUAL_STREAMS, MAP, MIGRATE, MIGRATE_STREAMS, MORE, MOVES, OF, ONLY, OUTPUT,
+    PART, PART_NUMBER, PART_STREAMS, PARTIAL, PARTITIONS, PLAN, PLAN_STREAMS, PLAY, PLAY_STREAMS,
+    RACKS, RATE, REPLAY, REPLAY_STREAMS, REPORT, REST, ROUNDS, SHELL, SHOW, SHOW_STREAMS, STEPS,
+    STEPS_STREAMS, STREAMS, VERSION, WHY, WHY_STREAMS, WINDOWS, WINDOWS_STREAMS, WORKERS,
 };
 use clap::{Arg, ArgAction, Command, value_parser};
 use std::alloc::{AllocError, Global};
@@ -108,12 +107,31 @@ fn number<'a>(alloc: Global, word: &'a str, value: &'a str, help: &'a str) -> Ar
     option(alloc, word, value, help).value_parser(value_parser!(u32).range(1..=1_000_000))
 }
 
-// The bundle's file.
+// The bundle's files.
 fn file<'a>(alloc: Global) -> Arg<'a>
     ensures rule { rule_of result ≡ file_argument }
     ensures local { result.global ≡ false }
 {
-    Arg::new(alloc, "file").value_name("FILE").help(FILE)
+    Arg::new(alloc, "file")
+        .value_name("FILE")
+        .help(FILE)
+        .action(ArgAction::Append)
+}
+
+// `--dead NODE`, which may stand several times; the text says what a dead node is.
+fn dead<'a>(alloc: Global, help: &'a str) -> Arg<'a>
+    ensures rule { rule_of result ≡ list_option (codes "dead") }
+    ensures local { result.global ≡ false }
+{
+    option(alloc, "dead", "NODE", help).action(ArgAction::Append)
+}
+
+// `--leave P.I`, which may stand several times.
+fn leave<'a>(alloc: Global) -> Arg<'a>
+    ensures rule { rule_of result ≡ list_option (codes "leave") }
+    ensures local { result.global ≡ false }
+{
+    option(alloc, "leave", "P.I", LEAVE).action(ArgAction::Append)
 }
 
 // `-o FILE`.
@@ -205,6 +223,15 @@ fn words<'a>(alloc: Global, word: &'a str, about: &'a str, streams: &'a str) -> 
     with_arg(command, option(alloc, "color", "WHEN", COLOR))
 }
 
+// The command, told of nodes and partitions; the text says what a dead node is.
+fn known<'a>(alloc: Global, command: Made<'a>, help: &'a str) -> Made<'a>
+    ensures { (app : App) → IfOk command.entry (IsApp app) → IfOk result (IsApp (known_app app)) }
+{
+    let command = with_arg(command, option(alloc, "layout", "FILE", LAYOUT));
+    let command = with_arg(command, dead(alloc, help));
+    with_arg(command, option(alloc, "racks-behind", "C", RACKS))
+}
+
 fn why<'a>(alloc: Global) -> Made<'a>
     ensures { IfOk result (IsApp why_app) }
 {
@@ -214,63 +241,56 @@ fn why<'a>(alloc: Global) -> Made<'a>
 fn show<'a>(alloc: Global) -> Made<'a>
     ensures { IfOk result (IsApp show_app) }
 {
-    let command = words(alloc, "show", SHOW, SHOW_STREAMS);
+    let command = known(alloc, words(alloc, "show", SHOW, SHOW_STREAMS), DEAD);
     let command = with_arg(command, flag(alloc, "all", ALL));
-    let command = with_arg(command, option(alloc, "racks-behind", "C", RACKS));
-    let command = with_arg(command, option(alloc, "sizes", "FILE", MOVED_SIZES));
     with_arg(command, rate(alloc))
 }
 
 fn draw<'a>(alloc: Global) -> Made<'a>
     ensures { IfOk result (IsApp draw_app) }
 {
-    let command = job(alloc, "draw", DRAW, DRAW_STREAMS);
-    let command = with_arg(command, flag(alloc, "map", MAP));
-    with_arg(command, option(alloc, "racks-behind", "C", RACK_COLUMNS))
+    let command = known(alloc, job(alloc, "draw", DRAW, DRAW_STREAMS), DEAD);
+    with_arg(command, flag(alloc, "map", MAP))
 }
 
 fn steps<'a>(alloc: Global) -> Made<'a>
     ensures { IfOk result (IsApp steps_app) }
 {
-    let command = job(alloc, "steps", STEPS, STEPS_STREAMS);
+    let command = known(alloc, job(alloc, "steps", STEPS, STEPS_STREAMS), DEAD);
     with_arg(command, flag(alloc, "moves", MOVES))
 }
 
 fn windows<'a>(alloc: Global) -> Made<'a>
     ensures { IfOk result (IsApp windows_app) }
 {
-    let command = job(alloc, "windows", WINDOWS, WINDOWS_STREAMS);
+    let command = known(alloc, job(alloc, "windows", WINDOWS, WINDOWS_STREAMS), DEAD);
     let command = with_arg(command, number(alloc, "rounds", "K", ROUNDS).required(true));
     with_arg(command, number(alloc, "only", "W", ONLY))
-}
-
-// A goal, with what it must know of nodes.
-fn goal_of_nodes<'a>(alloc: Global) -> Made<'a>
-    ensures { IfOk result (IsApp nodes_app) }
-{
-    let dead = option(alloc, "dead", "NODE", DEAD).action(ArgAction::Append);
-    let weight = option(alloc, "weight", "NODE=K", WEIGHT).action(ArgAction::Append);
-    let command = job(alloc, "goal", GOAL, GOAL_STREAMS);
-    let command = with_arg(with_arg(command, dead), weight);
-    let command = with_arg(command, option(alloc, "racks-behind", "C", RACKS_APART));
-    with_arg(command, option(alloc, "sizes", "FILE", SIZES))
 }
 
 fn goal<'a>(alloc: Global) -> Made<'a>
     ensures { IfOk result (IsApp goal_app) }
 {
-    let command = goal_of_nodes(alloc);
+    let command = known(alloc, job(alloc, "goal", GOAL, GOAL_STREAMS), DEAD);
+    let command = with_arg(command, flag(alloc, "partial", PARTIAL));
     let command = with_arg(command, flag(alloc, "exit-code", EXIT_CODE));
     with_arg(command, option(alloc, "format", "FORMAT", FORMAT))
+}
+
+// The command, told what changes in a plan that has begun.
+fn changed<'a>(alloc: Global, command: Made<'a>) -> Made<'a>
+    ensures { (app : App) → IfOk command.entry (IsApp app) → IfOk result (IsApp (changed_app app)) }
+{
+    let command = with_arg(command, leave(alloc));
+    with_arg(command, flag(alloc, "rest", REST))
 }
 
 fn around<'a>(alloc: Global) -> Made<'a>
     ensures { IfOk result (IsApp around_app) }
 {
-    let dead = option(alloc, "dead", "NODE", GONE).action(ArgAction::Append);
-    let command = job(alloc, "around", AROUND, AROUND_STREAMS);
-    let command = with_arg(command, dead.required(true));
-    with_arg(command, flag(alloc, "back", BACK))
+    let command = known(alloc, job(alloc, "around", AROUND, AROUND_STREAMS), GONE);
+    let command = with_arg(changed(alloc, command), flag(alloc, "back", BACK));
+    with_arg(command, flag(alloc, "all", ALL_SLOTS))
 }
 
 // The program's own line, which wants a subcommand.

@@ -5,4 +5,6 @@ mod job;
 mod making;
 
 pub use job::Job;
-pub use making::{Color, Cut, DrawWish, Exit, Making, Picture, Screen, Shape, Statement, Wish};
+pub use making::{
+    Color, Cut, Detour, Exit, Extent, Making, Picture, Screen, Shape, Statement, Wish,
+};

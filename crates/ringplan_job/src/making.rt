@@ -2,7 +2,6 @@
 
 ghost use Rattle.std.specs.Prelude.{◌≡◌, ◌≢◌};
 
-use change_text::Options;
 use plan_runs::Back;
 
 /// Where a text for people goes.
@@ -10,6 +9,8 @@ use plan_runs::Back;
 pub enum Screen {
     /// To a terminal whose user wants colours.
     Colored,
+    /// To a terminal whose user wants none.
+    Bare,
     /// To anything else.
     Plain,
 }
@@ -17,7 +18,7 @@ pub enum Screen {
 /// Whether a text for people has colours.
 #[derive(Clone, Copy, Debug, PartialEq, Eq)]
 pub enum Color {
-    /// Where the screen has them; nowhere where no screen is known.
+    /// Where the screen has them; nowhere if no screen is known.
     Auto,
     /// Wherever it goes.
     Always,
@@ -32,7 +33,7 @@ impl Color {
     {
         match (self, screen) {
             (Color::Always, _) | (Color::Auto, Screen::Colored) => Color::Always,
-            (Color::Never, _) | (Color::Auto, Screen::Plain) => Color::Never,
+            (Color::Never, _) | (Color::Auto, Screen::Bare | Screen::Plain) => Color::Never,
         }
     }
 }
@@ -47,33 +48,24 @@ pub enum Shape {
 }
 
 /// What a summary is to show.
-#[derive(Debug, Drop)]
+#[derive(Clone, Copy, Debug)]
 pub struct Wish {
     pub shape: Shape,
     pub color: Color,
-    /// By which byte nodes have racks, and the sizes of partitions; no node is named.
-    pub options: Options,
-    /// How much one transfer copies in a second, in the unit of the sizes: from 1 on, and there only with sizes.
+    /// How much one transfer copies in a second, in the unit of the layout's sizes: from 1 on, and only with a layout.
     pub rate: Option<u32>,
 }
 
 impl Wish {
     /// The wish, with the colours that it has on that screen.
     pub fn on(self, screen: Screen) -> Wish
-        ensures same { (result.shape ≡ self.shape) × (result.options ≡ self.options) × (result.rate ≡ self.rate) }
+        ensures same { (result.shape ≡ self.shape) × (result.rate ≡ self.rate) }
         ensures color { self.color ≢ Color.Auto → result.color ≡ self.color }
     {
-        let Wish {
-            shape,
-            color,
-            options,
-            rate,
-        } = self;
         Wish {
-            shape,
-            color: color.on(screen),
-            options,
-            rate,
+            shape: self.shape,
+            color: self.color.on(screen),
+            rate: self.rate,
         }
     }
 }
@@ -85,14 +77,6 @@ pub enum Picture {
     Rounds,
     /// Who owns what before the plan and after it.
     Map,
-}
-
-/// What is to be drawn.
-#[derive(Clone, Copy, Debug)]
-pub struct DrawWish {
-    pub picture: Picture,
-    /// The byte after which a node's name names its rack, where a map is to be grouped by rack.
-    pub racks_behind: Option<u8>,
 }
 
 /// How a plan is to be cut.
@@ -113,19 +97,38 @@ pub enum Exit {
     Steps,
 }
 
+/// How much of a plan that has begun is still to be done.
+#[derive(Clone, Copy, Debug, PartialEq, Eq)]
+pub enum Extent {
+    /// All that it has.
+    Whole,
+    /// Only the moves that have begun.
+    Begun,
+}
+
+/// How another plan goes on where one stopped.
+#[derive(Clone, Copy, Debug)]
+pub struct Detour {
+    /// Whether mirrors may be taken back.
+    pub back: Back,
+    pub extent: Extent,
+    /// How much is said of slots that do not go where they were to go: sums by node, or a line for each.
+    pub shape: Shape,
+}
+
 /// What is stated of a bundle as one object of JSON.
-#[derive(Debug, Drop)]
+#[derive(Clone, Copy, Debug)]
 pub enum Statement {
     /// Why it is refused, or what a yes says.
     Why,
     /// What the plan does to each node, and how far a history has come; of a ring alone, its nodes. Whatever the shape and the colours, it is all.
     Show(Wish),
     /// A plan that leads to the ring that is wished for, and how much it moves.
-    Goal(Options, Exit),
+    Goal(Exit),
 }
 
 /// What can be made of a bundle.
-#[derive(Debug, Drop)]
+#[derive(Clone, Copy, Debug)]
 pub enum Making {
     /// Why it is refused, or what a yes says.
     Why(Color),
@@ -136,7 +139,7 @@ pub enum Making {
     /// A summary.
     Show(Wish),
     /// A picture.
-    Draw(DrawWish),
+    Draw(Picture),
     /// The plan's steps as lines of JSON.
     Steps,
     /// The slots that move, as lines of JSON.
@@ -144,9 +147,9 @@ pub enum Making {
     /// The plan in parts, or one of these.
     Windows(Cut),
     /// A plan that leads to the ring that is wished for.
-    Goal(Options, Exit),
-    /// Another plan around nodes that died in the middle of a change, with the history that goes on by it.
-    Around(Options, Back),
+    Goal(Exit),
+    /// Another plan for a change that has begun, with the history that goes on by it.
+    Around(Detour),
     /// An object of JSON.
     State(Statement),
 }

@@ -5,7 +5,6 @@ use Rattle.ringplan_job.specs.declared.making.Exit.{Exit}
 use Rattle.ringplan_job.specs.declared.making.Exit.TheVariants as exits
 use Rattle.ringplan_job.specs.declared.making.Making.{Making}
 use Rattle.ringplan_job.specs.declared.making.Making.TheVariants.{Goal}
-use Rattle.change_text.specs.declared.options.Options.{Options}
 use Rattle.ringplan_people.specs.Made.{IsMadeWith}
 
 -- a fact holds where there is a value
@@ -19,9 +18,9 @@ both P Q (Ok x) p q = (p, q)
 both P Q (Err e) p q = tt
 
 -- the status at a goal
-pub at_goal : (making : Making) (options : Options) (exit : Exit) (status : ℕ) → making ≡ Goal options exit → (status ≡ 0) ⊎ ((status ≡ 4) × (exit ≡ exits.Steps)) → IsMadeWith making status
-at_goal making options exit status is (inl zero) = inl zero
-at_goal making options exit status is (inr (four, steps)) = inr (four, (options, is ∙ ap (λ (e : Exit). Goal options e) steps))
+pub at_goal : (making : Making) (exit : Exit) (status : ℕ) → making ≡ Goal exit → (status ≡ 0) ⊎ ((status ≡ 4) × (exit ≡ exits.Steps)) → IsMadeWith making status
+at_goal making exit status is (inl zero) = inl zero
+at_goal making exit status is (inr (four, steps)) = inr (four, is ∙ ap (λ (e : Exit). Goal e) steps)
 
 -- a fact of every value
 pub of_all : {T E : Type 0} {P : T → Type 0} (r : Result T E) → ((x : T) → P x) → IfOk r P

@@ -1,16 +1,12 @@
 -- What is made of a bundle.
-use Rattle.std.specs.Prelude.{◌≡◌, ◌≢◌, ◌≤◌, ◌⊎◌, ℕ, List, [], ◌++◌, Ok, map, ⊤}
+use Rattle.std.specs.Prelude.{◌≡◌, ◌≢◌, ◌≤◌, ◌⊎◌, ℕ, List, [], ◌++◌, ⊤}
 use Rattle.ring_names.specs.declared.refusal.Refusal.{Refusal}
 use Rattle.ring_names.specs.Refusals.{line_of, number_of}
-use Rattle.texts.specs.Left.{whole_text}
 use Rattle.ring_table.specs.Value.{RingValue}
 use Rattle.plan_text.specs.declared.step.Planned.{Planned}
-use Rattle.plan_cert.specs.declared.cert.Cert.{Cert as CertValue}
-use Rattle.change_text.specs.declared.wanted.Wanted.{Wanted}
-use Rattle.change_text.specs.Wanted.{wanted_at}
 use Rattle.plan_check.specs.Approval.{IsApproved}
 use Rattle.plan_goal.specs.declared.proposed.Proposed.{Proposed}
-use Rattle.plan_goal.specs.Proposals.{IsProposed, front_text}
+use Rattle.plan_goal.specs.Proposals.{front_text}
 use Rattle.plan_lines.specs.Lines.{steps_text}
 use Rattle.plan_lines.specs.MoveLines.{moves_text}
 use Rattle.ringplan_jobs.specs.Answers.{refused_status}
@@ -22,15 +18,15 @@ use Rattle.ringplan_job.specs.declared.making.Color.{Color}
 use Rattle.ringplan_job.specs.declared.making.Statement.{Statement}
 use Rattle.ringplan_job.specs.declared.making.Statement.TheVariants as statements
 use Rattle.plan_bundles.specs.Certs.{IsCertifiedText}
-use Rattle.plan_bundles.specs.Goals.{IsLed, IsLedText}
+use Rattle.plan_bundles.specs.Goals.{IsLed, IsLedText, IsWishReached}
 use Rattle.plan_bundles.specs.Windows.{AreAskedOf}
 use Rattle.plan_around.specs.Around.{IsAround}
 use Rattle.ringplan_people.specs.Studies.{IsStudyOf, HasApproved, IsShown, IsLeftBy, IsLeftNow}
 use Rattle.ringplan_people.specs.Why.{HasKept, IsWhy}
 
--- the text is that of the bytes' ring, of a plan that makes their change, and of its certificate
+-- the text is that of the bytes' ring, of a plan that leads to the ring that their change wishes for, by some options, and of its certificate
 abbrev pub IsBundleOf : List ℕ → List ℕ → Type 0
-IsBundleOf bytes text = (w : Wanted) × (plan : List Planned) × (cert : CertValue) × (whole_text wanted_at bytes ≡ Ok w) × IsProposed w.ring w.change plan cert × (text ≡ front_text w.ring plan cert)
+IsBundleOf bytes text = (options : Options) × (p : Proposed) × IsWishReached bytes options p × (text ≡ front_text p.approved.ring p.approved.plan p.cert)
 
 -- the text has a certificate for the ring and the plan with which the bytes begin, or for those of a bundle that is made of their change
 abbrev pub IsCertOf : List ℕ → List ℕ → Type 0
@@ -40,19 +36,19 @@ IsCertOf bytes text = IsCertifiedText bytes text ⊎ ((whole : List ℕ) × IsBu
 abbrev pub OfPlan : (RingValue → List Planned → Type 0) → List ℕ → Type 0
 OfPlan claim bytes = (ring : RingValue) × (plan : List Planned) × IsStudyOf bytes ring plan × IsApproved ring plan × claim ring plan
 
--- the text is what is asked for of the bytes; of a summary and a picture only the plan is promised, or of a summary that the bytes are a ring's
-abbrev pub IsMade : Making → List ℕ → List ℕ → Type 0
-IsMade Cert bytes text = IsCertOf bytes text
-IsMade After bytes text = IsLeftNow bytes text ⊎ IsLeftBy bytes text
-IsMade (Show wish) bytes text = IsShown bytes
-IsMade (Draw wish) bytes text = HasApproved bytes
-IsMade Steps bytes text = OfPlan (λ ring plan. text ≡ steps_text ring plan) bytes
-IsMade Moves bytes text = OfPlan (λ ring plan. text ≡ moves_text ring plan) bytes
-IsMade (Windows cut) bytes text = OfPlan (λ ring plan. AreAskedOf ring plan cut.only text) bytes
-IsMade (Goal options status) bytes text = IsLedText bytes options text
-IsMade (Around options back) bytes text = IsAround bytes (map (λ name. name.items) options.dead.items) back text
-IsMade (Why color) bytes text = ⊥
-IsMade (State statement) bytes text = ⊥
+-- the text is what is asked for of the bytes, by these options; of a summary and a picture only the plan is promised, or of a summary that the bytes are a ring's
+abbrev pub IsMade : Making → Options → List ℕ → List ℕ → Type 0
+IsMade Cert options bytes text = IsCertOf bytes text
+IsMade After options bytes text = IsLeftNow bytes text ⊎ IsLeftBy bytes text
+IsMade (Show wish) options bytes text = IsShown bytes
+IsMade (Draw shown) options bytes text = HasApproved bytes
+IsMade Steps options bytes text = OfPlan (λ ring plan. text ≡ steps_text ring plan) bytes
+IsMade Moves options bytes text = OfPlan (λ ring plan. text ≡ moves_text ring plan) bytes
+IsMade (Windows cut) options bytes text = OfPlan (λ ring plan. AreAskedOf ring plan cut.only text) bytes
+IsMade (Goal status) options bytes text = IsLedText bytes options text
+IsMade (Around detour) options bytes text = IsAround bytes options detour text
+IsMade (Why color) options bytes text = ⊥
+IsMade (State statement) options bytes text = ⊥
 
 -- what is made prints its refusals on standard error
 abbrev pub IsTold : Making → Type 0
@@ -62,22 +58,22 @@ IsTold making = ⊤
 
 -- the status of a statement: why, 0 comes only where the bundle's plan keeps its promises; of a plan or a ring that is shown, only where it is what is shown; of a
 -- goal, 0 and 4 only where a plan leads there, and 4 only where it asks whether the plan has steps
-abbrev pub IsStated : Statement → List ℕ → ℕ → Type 0
-IsStated statements.Why bytes status = (status ≡ 0 → HasKept bytes) × (status ≤ 3)
-IsStated (statements.Show wish) bytes status = (status ≡ 0 → IsShown bytes) × (status ≤ 3)
-IsStated (statements.Goal options how) bytes status = (((status ≡ 0) ⊎ ((status ≡ 4) × (how ≡ exit.Steps))) × ((p : Proposed) × IsLed bytes options p))
+abbrev pub IsStated : Statement → Options → List ℕ → ℕ → Type 0
+IsStated statements.Why options bytes status = (status ≡ 0 → HasKept bytes) × (status ≤ 3)
+IsStated (statements.Show wish) options bytes status = (status ≡ 0 → IsShown bytes) × (status ≤ 3)
+IsStated (statements.Goal how) options bytes status = (((status ≡ 0) ⊎ ((status ≡ 4) × (how ≡ exit.Steps))) × ((p : Proposed) × IsLed bytes options p))
     ⊎ ((status ≢ 0) × (status ≤ 3))
 
 -- the status at what was made: 0, or 4 where a goal asks it to say whether the plan has steps
 abbrev pub IsMadeWith : Making → ℕ → Type 0
-IsMadeWith making status = (status ≡ 0) ⊎ ((status ≡ 4) × ((options : Options) × (making ≡ Goal options exit.Steps)))
+IsMadeWith making status = (status ≡ 0) ⊎ ((status ≡ 4) × (making ≡ Goal exit.Steps))
 
 -- what is printed of the bytes, and the status: why they are refused, or what a yes says; else what is made of them, or nothing where they are refused
-pub data IsReport (making : Making) (bytes : List ℕ) (text : List ℕ) (status : ℕ) : Type 0 where
-  told : (color : Color) → making ≡ Why color → IsWhy bytes text status → status ≤ 3 → IsReport making bytes text status
-  stated : (statement : Statement) → making ≡ State statement → IsStated statement bytes status → IsReport making bytes text status
-  made : IsMade making bytes text → IsMadeWith making status → IsReport making bytes text status
-  refused : IsTold making → text ≡ [] → status ≢ 0 → status ≤ 3 → IsReport making bytes text status
+pub data IsReport (making : Making) (options : Options) (bytes : List ℕ) (text : List ℕ) (status : ℕ) : Type 0 where
+  told : (color : Color) → making ≡ Why color → IsWhy bytes text status → status ≤ 3 → IsReport making options bytes text status
+  stated : (statement : Statement) → making ≡ State statement → IsStated statement options bytes status → IsReport making options bytes text status
+  made : IsMade making options bytes text → IsMadeWith making status → IsReport making options bytes text status
+  refused : IsTold making → text ≡ [] → status ≢ 0 → status ≤ 3 → IsReport making options bytes text status
 
 -- nothing is printed, and on standard error the refusal's line and some words, with the status of the refusal
 abbrev pub IsRefusal : Refusal → List ℕ → List ℕ → ℕ → Type 0

@@ -1,14 +1,14 @@
 -- Whose the ring and the plan of a bundle are.
-use Rattle.std.specs.Prelude.{◌≡◌, ℕ, Bool, true, List, Ok, length}
+use Rattle.std.specs.Prelude.{◌≡◌, ℕ, Bool, List, Ok, length}
 use Rattle.texts.specs.Left.{whole_text}
 use Rattle.ring_table.specs.Value.{RingValue}
 use Rattle.ring_table.specs.Spelling.{ring_text}
 use Rattle.ring_table.specs.Changed.{changed}
 use Rattle.plan_text.specs.declared.step.Planned.{Planned}
-use Rattle.plan_text.specs.Changes.{fulfils}
 use Rattle.plan_runs.specs.declared.event.Entry.{Entry}
-use Rattle.change_text.specs.declared.wanted.Wanted.{Wanted}
-use Rattle.change_text.specs.Wanted.{wanted_at}
+use Rattle.change_text.specs.declared.options.Options.{Options}
+use Rattle.plan_goal.specs.declared.proposed.Proposed.{Proposed}
+use Rattle.plan_bundles.specs.Goals.{IsWishReached}
 use Rattle.history_text.specs.Replays.{Parts, replay_at}
 use Rattle.plan_check.specs.Approval.{IsApproved}
 use Rattle.ring_core.specs.Replays.{IsHistory}
@@ -20,10 +20,10 @@ use Rattle.plan_runs.specs.World.{World, is_member_now}
 use Rattle.ring_core.specs.Tables.{owners_now}
 use Rattle.plan_bundles.specs.Rings.{flags, ring_left}
 
--- the ring and the plan of a bundle without a history: those of its texts, or its ring and a plan that makes its change
+-- the ring and the plan of a bundle without a history: those of its texts, or its ring and a plan that leads to the ring that its change wishes for, by some options
 pub data IsPlanOf (bytes : List ℕ) (ring : RingValue) (plan : List Planned) : Type 0 where
   of_plan : (b : Bundle) → whole_text (bundle_at kind.Check) bytes ≡ Ok b → b.ring ≡ ring → b.plan ≡ plan → IsPlanOf bytes ring plan
-  of_change : (w : Wanted) → whole_text wanted_at bytes ≡ Ok w → w.ring ≡ ring → fulfils plan w.change.joins w.change.leaves ≡ true → IsPlanOf bytes ring plan
+  of_change : (options : Options) → (p : Proposed) → IsWishReached bytes options p → p.approved.ring ≡ ring → p.approved.plan ≡ plan → IsPlanOf bytes ring plan
 
 -- the ring and the plan of a bundle, which may have a history that is a run of the plan
 pub data IsStudyOf (bytes : List ℕ) (ring : RingValue) (plan : List Planned) : Type 0 where

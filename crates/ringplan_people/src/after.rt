@@ -7,7 +7,8 @@ ghost use Rattle.ringplan_people.specs.Studies.{IsLeftAt, IsLeftBy, IsLeftNow, I
 
 use crate::study::{Study, accepted, studied, study_change, study_plan};
 use crate::why::push_words_of;
-use helpers::Words;
+use change_text::Options;
+use helpers::{Words, small};
 use history_text::read_replay;
 use plan_bundles::{Kind, kind_of, ring_after};
 use plan_check::Approved;
@@ -51,33 +52,26 @@ impl Open {
         }
     }
 
-    // The first step that set a mirror which no step has switched.
-    fn first(&self) -> Option<u32> {
-        let mut first = None;
+    // The steps that set mirrors which no step has switched, in the order of their slots.
+    fn steps(&self, alloc: Global) -> Result<Vec<u32>, Refusal> {
+        let mut steps = Vec::new(alloc);
         for row in self.rows.as_slice() {
             for open in row.as_slice() {
-                first = earlier(first, *open);
+                if let Some(step) = open {
+                    steps.push(*step)?;
+                }
             }
         }
-        first
+        Ok(steps)
     }
 }
 
-/// The lesser of two numbers, of those that are there.
-pub(crate) fn earlier(one: Option<u32>, other: Option<u32>) -> Option<u32> {
-    match (one, other) {
-        (Some(one), Some(other)) => Some(one.min(other)),
-        (None, other) => other,
-        (one, None) => one,
-    }
-}
-
-// Asks that each mirror is switched which the plan sets, or those of its steps that are done. Else that is `WrongStage` at the first step that set one.
-fn ask_switched(
+// The steps that set mirrors which no step has switched: of the whole plan, or of those of its steps that are done.
+fn open_steps(
     alloc: Global,
     approved: &Approved,
     progress: Option<&Progress>,
-) -> Result<(), Refusal> {
+) -> Result<Vec<u32>, Refusal> {
     let plan = approved.plan();
     let mut open = Open::of(alloc, approved.ring())?;
     for number in 0..plan.len() {
@@ -89,9 +83,32 @@ fn ask_switched(
             open.act(plan.step(number), number);
         }
     }
-    match open.first() {
+    open.steps(alloc)
+}
+
+// Asks that each mirror is switched which the plan sets, or those of its steps that are done. Otherwise it is `WrongStage` at the first step that set one.
+fn ask_switched(
+    alloc: Global,
+    approved: &Approved,
+    progress: Option<&Progress>,
+) -> Result<(), Refusal> {
+    let steps = open_steps(alloc, approved, progress)?;
+    let mut first = None;
+    for step in steps.as_slice() {
+        first = earlier(first, Some(*step));
+    }
+    match first {
         Some(number) => Err(Refusal::WrongStage(number)),
         None => Ok(()),
+    }
+}
+
+/// The lesser of two numbers, of those that are there.
+pub(crate) fn earlier(one: Option<u32>, other: Option<u32>) -> Option<u32> {
+    match (one, other) {
+        (Some(one), Some(other)) => Some(one.min(other)),
+        (None, other) => other,
+        (one, None) => one,
     }
 }
 
@@ -153,60 +170,100 @@ pub fn after_bundle(alloc: Global, bytes: &[u8]) -> Result<Vec<u8>, Refusal>
     ensures after { IfOk result (λ text. IsLeftNow bytes.now text.items ⊎ IsLeftBy bytes.now text.items) }
 {
     match kind_of(bytes) {
-        Kind::Change => ring_left(alloc, &study_change(alloc, bytes)?, bytes),
+        Kind::Change => {
+            let found = study_change(alloc, bytes, &Options::new(alloc))?;
+            ring_left(alloc, &found, bytes)
+        }
         Kind::Plan => ring_left(alloc, &study_plan(alloc, bytes)?, bytes),
         Kind::History => after_history(alloc, bytes),
     }
 }
 
-/// Adds why `after_bundle` refuses a bundle with `WrongStage` at the step: which steps must come first where a history has begun a move, that the plan leaves a mirror,
-/// or what is wrong with the plan.
+/// Adds why `after_bundle` refuses a bundle with `WrongStage` at the step: each move that a history has begun and not ended, with the steps that are left of it, or that the
+/// plan leaves a mirror, or what is wrong with the plan.
 pub fn push_open(alloc: Global, out: &mut Words, bytes: &[u8], step: u32) -> Result<(), Refusal> {
-    let is_told = match studied(alloc, bytes) {
-        Ok(found) => push_open_of(alloc, out, &found, step)?,
+    match studied(alloc, bytes, &Options::new(alloc)) {
+        Ok(found) => {
+            if push_open_of(alloc, out, &found)? {
+                return Ok(());
+            }
+        }
         Err(Refusal::OutOfMemory) => return Err(Refusal::OutOfMemory),
-        Err(_) => false,
-    };
-    if is_told {
-        return Ok(());
+        Err(_) => {}
     }
     push_words_of(alloc, out, bytes, &Refusal::WrongStage(step))
 }
 
-fn push_open_of(alloc: Global, out: &mut Words, found: &Study, step: u32) -> Result<bool, Refusal> {
-    let plan = found.approved.plan();
-    let Some(slot) = slot_of(plan, step) else {
+// Says which moves are open, and whether some are.
+fn push_open_of(alloc: Global, out: &mut Words, found: &Study) -> Result<bool, Refusal> {
+    let (ring, plan) = (found.approved.ring(), found.approved.plan());
+    let progress = match &found.history {
+        Some(history) => Some(Progress::of(alloc, plan, history.as_slice())?),
+        None => None,
+    };
+    let progress = progress.as_ref();
+    let steps = open_steps(alloc, &found.approved, progress)?;
+    if steps.is_empty() {
         return Ok(false);
-    };
-    let Some(history) = &found.history else {
-        out.fill(
-            b"refused: step # sets a mirror that no step switches, and a ring cannot say that\n",
-            &[],
-            &[step],
-        );
-        return Ok(true);
-    };
-    let progress = Progress::of(alloc, plan, history.as_slice())?;
-    push_left(out, plan, &progress, slot, step);
+    }
+    push_many(
+        out,
+        small(steps.len()),
+        b"refused: # move is",
+        b"refused: # moves are",
+    );
+    out.text(if progress.is_some() {
+        b" open, and a ring cannot say that\n".as_slice()
+    } else {
+        b" open after the last step of the plan, and a ring cannot say that\n".as_slice()
+    });
+    for step in steps.as_slice() {
+        push_move(out, ring, plan, progress, *step);
+    }
+    if progress.is_some() {
+        out.text(REST);
+    }
     Ok(true)
 }
 
-// The slot's steps behind that one, up to its switch, that are not done.
-fn push_left(out: &mut Words, plan: &Plan, progress: &Progress, slot: Slot, step: u32) {
+// How a store comes to rest.
+const REST: &[u8; 118] =
+    b"  To end these and begin no other: `ringplan around --rest FILE` prints a plan. Do its steps, then ask `after` of it.\n";
+
+// The words for one or for more, with the number.
+fn push_many(out: &mut Words, number: u32, one: &[u8], more: &[u8]) {
+    out.fill(if number == 1 { one } else { more }, &[], &[number])
+}
+
+// A move that a step has begun: its slot, where it goes, and which steps are left of it.
+fn push_move(out: &mut Words, ring: &Ring, plan: &Plan, progress: Option<&Progress>, step: u32) {
+    let Some((slot, node)) = mirror_of(plan, step) else {
+        return;
+    };
     out.fill(
-        b"refused: step # has opened a mirror that no step has switched, and a ring cannot say that\n  Finish first:",
-        &[],
-        &[step],
+        b"  slot # of partition #, to @: begun by step #",
+        &[ring.name(node.0)],
+        &[slot.index, slot.partition, step],
     );
-    let mut words: &[u8] = b" step #";
-    for number in plan.slot_steps(slot) {
-        let is_left = *number > step && !progress.is_done(*number);
-        if is_left && !is_drop(plan, *number) {
-            out.fill(words, &[], &[*number]);
-            words = b", step #";
-        }
+    match progress {
+        Some(progress) => push_left(out, plan, progress, slot, step),
+        None => out.text(b", and no step switches it"),
     }
     out.byte(b'\n');
+}
+
+// The slot's steps after that one, up to its switch, that are not done.
+fn push_left(out: &mut Words, plan: &Plan, progress: &Progress, slot: Slot, step: u32) {
+    let mut words: &[u8] = b"; to do: #";
+    for number in plan.slot_steps(slot) {
+        if *number > step && !progress.is_done(*number) {
+            out.fill(words, &[], &[*number]);
+            words = b", #";
+        }
+        if *number > step && is_switch(plan, *number) {
+            return;
+        }
+    }
 }
 
 /// The slot of a step, if there is such a step and it has one.
@@ -221,6 +278,17 @@ pub(crate) fn slot_of(plan: &Plan, number: u32) -> Option<Slot> {
     }
 }
 
-fn is_drop(plan: &Plan, number: u32) -> bool {
-    number < plan.len() && matches!(plan.step(number), Step::Drop(_, _))
+// The slot of a step that sets a mirror, and the mirror.
+fn mirror_of(plan: &Plan, number: u32) -> Option<(Slot, NodeId)> {
+    if number >= plan.len() {
+        return None;
+    }
+    match plan.step(number) {
+        Step::Mirror(slot, node) => Some((*slot, *node)),
+        _ => None,
+    }
+}
+
+fn is_switch(plan: &Plan, number: u32) -> bool {
+    number < plan.len() && matches!(plan.step(number), Step::Switch(_))
 }

@@ -4,10 +4,9 @@ ghost use Rattle.std.specs.Prelude.{IfOk};
 ghost use Rattle.ringplan_people.specs.Made.{IsBundleOf, IsCertOf};
 
 use crate::why::push_words_of;
-use change_text::{Wanted, read_wanted};
+use change_text::Options;
 use helpers::Words;
-use plan_bundles::{Kind, cert_bundle, found_bundle, kind_of, push_excess};
-use plan_goal::propose;
+use plan_bundles::{Kind, cert_bundle, found_bundle, kind_of, push_excess, wish_bundle};
 use ring_names::Refusal;
 use std::alloc::Global;
 
@@ -15,12 +14,11 @@ use std::alloc::Global;
 const GIVEN_UP: &[u8; 268] =
     b"refused: the search for fewer chains was given up after 100,000,000 looks\n  Some node has more chains than it may have transfers open. Fewer may be enough, so a certificate may exist.\n  Let copies of that node wait directly for earlier ones: then no search is needed.\n";
 
-// The ring's text, and behind it a plan that makes the change, with its certificate.
+// The texts of the ring, of a plan that leads to the ring that is wished for, and of its certificate.
 fn planned(alloc: Global, bytes: &[u8]) -> Result<Vec<u8>, Refusal>
     ensures { IfOk result (λ text. IsBundleOf bytes.now text.items) }
 {
-    let Wanted { ring, change } = read_wanted(alloc, bytes)?;
-    let found = propose(alloc, ring, &change)?;
+    let found = wish_bundle(alloc, bytes, &Options::new(alloc))?;
     found.bundle(alloc)
 }
 

@@ -1,19 +1,36 @@
 //! Why no plan leads to the ring that is wished for, in words.
 
-use crate::show::show_bundle;
-use crate::why::push_words_of;
-use change_text::{Options, Wanted, read_wanted};
+use crate::history_words::unless_memory;
+use crate::why::{push_few, push_words_of};
+use change_text::{Options, Unreadable, Wanted, read_wanted};
 use helpers::Words;
-use plan_bundles::{Kind, front, kind_of, nodes_of, wished_goal};
-use plan_goal::{Aim, Goal, Unfit, is_among, read_goal, why_unfit};
-use ring_names::Refusal;
-use ring_table::{Ring, read_ring};
-use ringplan_job::{Color, Shape, Wish};
+use plan_bundles::{Kind, dead_by, front, goal_of, kind_of, nodes_of};
+use plan_goal::{Aim, Goal, Unfit, is_among, why_unfit};
+use ring_names::{NodeId, Refusal};
+use ring_table::Ring;
 use show_why::{Page, Said, push_printed, tell_text};
 use std::alloc::Global;
 
-// Says why no plan leads there, whatever its steps.
-fn push_unfit(out: &mut Words, goal: &Goal, unfit: Unfit) {
+// Adds which partitions are unread, and why that matters.
+fn push_unread(out: &mut Words, ring: &Ring, unread: &[u32]) {
+    out.text(if unread.len() == 1 {
+        b"partition "
+    } else {
+        b"partitions "
+    });
+    for (place, partition) in unread.iter().enumerate() {
+        out.text(if place > 0 { b", " } else { b"" });
+        out.number(*partition);
+    }
+    out.fill(
+        b" cannot be read: a slot of a dead node is copied from # live owners, and fewer are left",
+        &[],
+        &[ring.r()],
+    );
+}
+
+// Says why no plan leads there, whatever its steps. The partitions are those that are unread.
+fn push_unfit(out: &mut Words, goal: &Goal, unread: &[u32], unfit: Unfit) {
     let ring = &goal.ring;
     match unfit {
         Unfit::Space => out.text(
@@ -41,11 +58,11 @@ fn push_unfit(out: &mut Words, goal: &Goal, unfit: Unfit) {
             &[],
             &[slot.index, slot.partition],
         ),
-        Unfit::Unread(partition) => out.fill(
-            b"refused: in partition # fewer than # slots have owners that are not named dead\n  A slot of a dead node is read from # others, as a read is answered by so many.\n",
-            &[],
-            &[partition, ring.r(), ring.r()],
-        ),
+        Unfit::Unread(_) => {
+            out.text(b"refused: ");
+            push_unread(out, ring, unread);
+            out.text(b"\n  `goal --partial` plans the rest, and leaves these as they are.\n");
+        }
     }
 }
 
@@ -54,9 +71,11 @@ fn push_no_plan(
     alloc: Global,
     out: &mut Words,
     goal: &Goal,
+    unread: &[u32],
     options: &Options,
 ) -> Result<(), Refusal> {
-    let dead = nodes_of(alloc, &goal.ring, options.dead.as_slice())?;
+    let names = dead_by(alloc, options)?;
+    let dead = nodes_of(alloc, &goal.ring, names.as_slice())?;
     let unfit = why_unfit(&Aim {
         alloc,
         ring: &goal.ring,
@@ -64,32 +83,10 @@ fn push_no_plan(
         dead: dead.as_slice(),
     });
     match unfit {
-        Some(unfit) => push_unfit(out, goal, unfit),
+        Some(unfit) => push_unfit(out, goal, unread, unfit),
         None => out.text(b"refused: the planner found no plan\n"),
     }
     Ok(())
-}
-
-// The rings of a bundle, or the ring of a change and the one that is wished for.
-fn goal_of(alloc: Global, bytes: &[u8], options: &Options) -> Result<Goal, Refusal> {
-    match kind_of(bytes) {
-        Kind::Change => wished_goal(alloc, bytes, options),
-        Kind::Plan | Kind::History => read_goal(alloc, bytes),
-    }
-}
-
-// Says which name the ring does not declare.
-fn push_unknown(out: &mut Words, ring: &Ring, options: &Options) {
-    for names in [options.dead.as_slice(), options.weighed.as_slice()] {
-        for name in names {
-            if ring.number_of(name.as_slice()).is_none() {
-                out.text(b"refused: the command line names ");
-                push_printed(out, name.as_slice());
-                out.text(b", and the ring declares no such node\n");
-                return;
-            }
-        }
-    }
 }
 
 // The refusal of a line, as many lines less.
@@ -105,6 +102,14 @@ fn behind(refusal: &Refusal, lines: u32) -> Option<Refusal> {
         _ => None,
     }
 }
+
+// What is said of a ring alone.
+const NO_CHANGE: &[u8; 160] =
+    b"refused: a change is missing after the ring\n  A change is `change 1`, lines `join <node>`, then lines `leave <node>`, and `end`. Or the goal ring stands there.\n";
+
+// What is said of a bundle with a plan.
+const HAS_PLAN: &[u8; 141] =
+    b"refused: the bundle has a plan already\n  `ringplan show` says what the plan does. For another plan put a change or a goal ring in its place.\n";
 
 // Whether the text begins as one of a ring.
 fn begins_a_ring(text: &[u8]) -> bool {
@@ -125,6 +130,14 @@ fn push_fault(
     let second = &bytes[front(bytes, 1)..];
     let lines = Page { bytes: first }.count();
     match behind(refusal, lines) {
+        Some(Refusal::BadLine(1)) if second.is_empty() && !first.is_empty() => {
+            out.text(NO_CHANGE);
+            Ok(())
+        }
+        Some(Refusal::BadLine(1)) if second.starts_with(b"plan ") => {
+            out.text(HAS_PLAN);
+            Ok(())
+        }
         Some(Refusal::BadLine(1)) if begins_a_ring(second) => {
             out.text(b"refused: behind the ring stands another one, and a change is wanted\n");
             Ok(())
@@ -166,92 +179,45 @@ fn push_by_goal(
     options: &Options,
     refusal: &Refusal,
 ) -> Result<(), Refusal> {
-    match goal_of(alloc, bytes, options) {
-        Ok(goal) => push_no_plan(alloc, out, &goal, options),
-        Err(Refusal::OutOfMemory) => Err(Refusal::OutOfMemory),
-        Err(_) => push_words_of(alloc, out, bytes, refusal),
-    }
-}
-
-/// Says which name of the command line is unknown.
-pub(crate) fn push_names(
-    alloc: Global,
-    out: &mut Words,
-    bytes: &[u8],
-    options: &Options,
-) -> Result<(), Refusal> {
-    match read_ring(alloc, &bytes[..front(bytes, 1)]) {
-        Ok(ring) => {
-            push_unknown(out, &ring, options);
-            Ok(())
-        }
-        Err(Refusal::OutOfMemory) => Err(Refusal::OutOfMemory),
-        Err(_) => Ok(()),
-    }
-}
-
-/// Says which partition of the sizes the ring does not have. Answers whether there is one.
-pub(crate) fn push_unlisted(out: &mut Words, ring: &Ring, options: &Options) -> bool {
-    let Some(sizes) = &options.sizes else {
-        return false;
-    };
-    let mut line = 0u32;
-    for size in sizes.iter() {
-        line = line.saturating_add(1);
-        if size.partition >= ring.q() {
-            out.fill(
-                b"refused: line # of the sizes names partition #, and the ring has # partitions\n",
-                &[],
-                &[line, size.partition, ring.q()],
-            );
-            return true;
-        }
-    }
-    false
-}
-
-// Says what is wrong with the sizes, or with a text.
-fn push_limit(
-    alloc: Global,
-    out: &mut Words,
-    bytes: &[u8],
-    options: &Options,
-    refusal: &Refusal,
-) -> Result<(), Refusal> {
-    let is_said = match read_wanted(alloc, bytes) {
-        Ok(wanted) => push_unlisted(out, &wanted.ring, options),
-        Err(Refusal::OutOfMemory) => return Err(Refusal::OutOfMemory),
-        Err(_) => false,
-    };
-    if is_said {
+    if push_few_left(alloc, out, bytes, options)? {
         return Ok(());
     }
-    push_fault(alloc, out, bytes, refusal)
+    match goal_of(alloc, bytes, options) {
+        Ok((goal, unread)) => push_no_plan(alloc, out, &goal, unread.as_slice(), options),
+        Err(Refusal::OutOfMemory) => Err(Refusal::OutOfMemory),
+        Err(_) => push_words_of(alloc, out, bytes, refusal),
+    }
 }
 
-/// Says what is wrong with the sizes of a bundle that is shown, or with its texts.
-pub(crate) fn push_shown_limit(
+// Says that too few members would be left, and whether that is so.
+fn push_few_left(
     alloc: Global,
     out: &mut Words,
     bytes: &[u8],
     options: &Options,
-    refusal: &Refusal,
-) -> Result<(), Refusal> {
-    let plain = Wish {
-        shape: Shape::Short,
-        color: Color::Never,
-        options: Options::new(alloc),
-        rate: None,
-    };
-    match show_bundle(alloc, bytes, &plain) {
-        Ok(_) => {
-            let ring = read_ring(alloc, &bytes[..front(bytes, 1)])?;
-            let _ = push_unlisted(out, &ring, options);
-            Ok(())
-        }
-        Err(Refusal::OutOfMemory) => Err(Refusal::OutOfMemory),
-        Err(_) => push_words_of(alloc, out, bytes, refusal),
+) -> Result<bool, Refusal> {
+    if kind_of(bytes) != Kind::Change {
+        return Ok(false);
     }
+    match wanted_with(alloc, bytes, options) {
+        Ok((wanted, dead)) => push_few(alloc, out, &wanted, dead.as_slice()),
+        Err(refusal) => {
+            unless_memory(refusal)?;
+            Ok(false)
+        }
+    }
+}
+
+// What a change asks for, and the nodes that are named dead.
+fn wanted_with(
+    alloc: Global,
+    bytes: &[u8],
+    options: &Options,
+) -> Result<(Wanted, Vec<NodeId>), Refusal> {
+    let wanted = read_wanted(alloc, bytes)?;
+    let names = dead_by(alloc, options)?;
+    let dead = nodes_of(alloc, &wanted.ring, names.as_slice())?;
+    Ok((wanted, dead))
 }
 
 /// Adds which of the nodes that are named dead leave though the change does not say so.
@@ -261,11 +227,12 @@ pub fn push_dead_leavers(
     bytes: &[u8],
     options: &Options,
 ) -> Result<(), Refusal> {
-    if options.dead.is_empty() || kind_of(bytes) != Kind::Change {
+    let names = dead_by(alloc, options)?;
+    if names.is_empty() || kind_of(bytes) != Kind::Change {
         return Ok(());
     }
     let Wanted { ring, change } = read_wanted(alloc, bytes)?;
-    for node in nodes_of(alloc, &ring, options.dead.as_slice())?.as_slice() {
+    for node in nodes_of(alloc, &ring, names.as_slice())?.as_slice() {
         if ring.is_member(*node) && !is_among(change.leaves.as_slice(), *node) {
             out.fill(
                 b"ringplan: @ is dead, so it leaves, though the change does not say so\n",
@@ -273,6 +240,25 @@ pub fn push_dead_leavers(
                 &[],
             );
         }
+    }
+    Ok(())
+}
+
+/// Adds which partitions stay as they are, since they cannot be read.
+pub fn push_left(
+    alloc: Global,
+    out: &mut Words,
+    bytes: &[u8],
+    options: &Options,
+) -> Result<(), Refusal> {
+    if options.unreadable == Unreadable::Refused {
+        return Ok(());
+    }
+    let (goal, unread) = goal_of(alloc, bytes, options)?;
+    if !unread.is_empty() {
+        out.text(b"ringplan: ");
+        push_unread(out, &goal.ring, unread.as_slice());
+        out.text(b": so no slot of these moves\n");
     }
     Ok(())
 }
@@ -287,8 +273,6 @@ pub fn push_goal_words(
 ) -> Result<(), Refusal> {
     match refusal {
         Refusal::NoPlan => push_by_goal(alloc, out, bytes, options, refusal),
-        Refusal::UnknownNode(0) => push_names(alloc, out, bytes, options),
-        Refusal::TooLarge(_) => push_limit(alloc, out, bytes, options, refusal),
         _ => push_fault(alloc, out, bytes, refusal),
     }
 }

@@ -7,6 +7,7 @@ mod goal_words;
 mod history_words;
 mod object;
 mod painting;
+mod racks;
 mod reporting;
 mod show;
 mod stating;

@@ -64,7 +64,10 @@ fn paint_of(line: &[u8]) -> Paint {
     if line.starts_with(b"accepted: ") || line.starts_with(b"  mend: ") || is_new(line) {
         return Paint::Good;
     }
-    if line.starts_with(b"  down ") || line.ends_with(b"   WORSE\n") {
+    if line.starts_with(b"  down ")
+        || line.starts_with(b"  dead ")
+        || line.ends_with(b"   WORSE\n")
+    {
         return Paint::Fault;
     }
     match mark_of(line) {

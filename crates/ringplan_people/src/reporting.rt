@@ -7,7 +7,8 @@ ghost use Rattle.ringplan_people.specs.Why.{IsWhy};
 
 use crate::after::{after_bundle, push_open};
 use crate::cert::{cert_of, push_why_none};
-use crate::goal_words::{push_dead_leavers, push_goal_words, push_names, push_shown_limit};
+use crate::goal_words::{push_dead_leavers, push_goal_words, push_left};
+use crate::racks::{is_of_options, push_misfits, push_racks};
 use crate::show::{draw_bundle, show_bundle};
 use crate::stating::state_bundle;
 use crate::steps::{moves_bundle, steps_bundle};
@@ -16,10 +17,11 @@ use crate::windows::{push_windows_words, windows_bundle};
 use change_text::Options;
 use helpers::Words;
 use plan_around::around_bundle;
-use plan_bundles::led_bundle;
+use plan_bundles::{Kind, front, kind_of, led_bundle};
 use ring_names::Refusal;
 use ringplan_job::{Color, Exit, Making, Statement};
 use ringplan_jobs::{Answer, answer_of};
+use show_why::Page;
 use std::alloc::Global;
 
 /// What is printed on standard output and on standard error, and the exit status.
@@ -47,7 +49,9 @@ fn make_goal(
     ensures { IfOk result (λ text. IsLedText bytes.now options.now text.items) }
 {
     let found = led_bundle(alloc, bytes, options)?;
+    push_racks(alloc, &mut notes.words, bytes, &found.approved, options)?;
     push_dead_leavers(alloc, &mut notes.words, bytes, options)?;
+    push_left(alloc, &mut notes.words, bytes, options)?;
     notes.has_steps = found.approved.plan().len() > 0;
     if !notes.has_steps {
         notes.words.text(b"ringplan: the plan has no steps: the ring is as wanted already\n");
@@ -58,32 +62,25 @@ fn make_goal(
 // What is made of the bundle. Adds what standard error says of it.
 fn make_of(
     alloc: Global,
-    making: &Making,
+    making: Making,
+    options: &Options,
     bytes: &[u8],
     notes: &mut Notes,
 ) -> Result<Vec<u8>, Refusal>
-    requires { IsTold making.now }
-    ensures { IfOk result (λ text. IsMade making.now bytes.now text.items) }
+    requires { IsTold making }
+    ensures { IfOk result (λ text. IsMade making options.now bytes.now text.items) }
 {
     match making {
         Making::Why(_) | Making::State(_) => unreachable!(),
         Making::Cert => cert_of(alloc, bytes),
         Making::After => after_bundle(alloc, bytes),
-        Making::Show(wish) => show_bundle(alloc, bytes, wish),
-        Making::Draw(wish) => draw_bundle(alloc, bytes, *wish),
-        Making::Steps => steps_bundle(alloc, bytes),
-        Making::Moves => moves_bundle(alloc, bytes),
-        Making::Windows(cut) => windows_bundle(alloc, bytes, *cut),
-        Making::Goal(options, _) => make_goal(alloc, bytes, options, notes),
-        Making::Around(options, back) => {
-            around_bundle(
-                alloc,
-                bytes,
-                options.dead.as_slice(),
-                *back,
-                &mut notes.words,
-            )
-        }
+        Making::Show(wish) => show_bundle(alloc, bytes, wish, options, &mut notes.words),
+        Making::Draw(shown) => draw_bundle(alloc, bytes, shown, options, &mut notes.words),
+        Making::Steps => steps_bundle(alloc, bytes, options, &mut notes.words),
+        Making::Moves => moves_bundle(alloc, bytes, options, &mut notes.words),
+        Making::Windows(cut) => windows_bundle(alloc, bytes, cut, options, &mut notes.words),
+        Making::Goal(_) => make_goal(alloc, bytes, options, notes),
+        Making::Around(detour) => { around_bundle(alloc, bytes, options, detour, &mut notes.words) }
     }
 }
 
@@ -103,18 +100,18 @@ pub(crate) fn goal_status(exit: Exit, has_steps: bool) -> u8
 }
 
 // The exit status at what was made.
-fn made_status(making: &Making, has_steps: bool) -> u8
-    ensures { IsMadeWith making.now result }
+fn made_status(making: Making, has_steps: bool) -> u8
+    ensures { IsMadeWith making result }
 {
     match making {
-        Making::Goal(_, exit) => goal_status(*exit, has_steps),
+        Making::Goal(exit) => goal_status(exit, has_steps),
         _ => 0,
     }
 }
 
 // The report of what was made, with these notes.
-fn made(making: &Making, output: Vec<u8>, notes: Notes) -> Result<Report, Refusal>
-    ensures { IfOk result (λ r. (r.output.items ≡ output.items) × IsMadeWith making.now r.status) }
+fn made(making: Making, output: Vec<u8>, notes: Notes) -> Result<Report, Refusal>
+    ensures { IfOk result (λ r. (r.output.items ≡ output.items) × IsMadeWith making r.status) }
 {
     let Notes { words, has_steps } = notes;
     let errors = words.end()?;
@@ -145,44 +142,107 @@ fn refused_with(alloc: Global, refusal: Refusal, words: Words) -> Result<Report,
 pub(crate) fn push_said(
     alloc: Global,
     out: &mut Words,
-    making: &Making,
+    making: Making,
+    options: &Options,
     bytes: &[u8],
     refusal: &Refusal,
 ) -> Result<(), Refusal> {
-    match (making, refusal) {
-        (_, Refusal::OutOfMemory) => Err(Refusal::OutOfMemory),
-        (Making::Cert, _) => push_why_none(alloc, out, bytes, refusal),
-        (Making::After, Refusal::WrongStage(step)) => push_open(alloc, out, bytes, *step),
-        (Making::Windows(_), _) => push_windows_words(alloc, out, bytes, refusal),
-        (Making::Goal(options, _), _) => push_goal_words(alloc, out, bytes, options, refusal),
-        (Making::Show(wish), Refusal::TooLarge(_)) => {
-            push_shown_limit(alloc, out, bytes, &wish.options, refusal)
-        }
-        (Making::Around(options, _), Refusal::UnknownNode(0)) => {
-            push_names(alloc, out, bytes, options)
-        }
-        (Making::Around(_, _), Refusal::NoPlan) => {
-            out.text(b"refused: no plan was found by which the history goes on\n");
-            Ok(())
-        }
+    if is_of_options(refusal) && push_misfits(alloc, out, bytes, options)? {
+        return Ok(());
+    }
+    if let Refusal::OutOfMemory = refusal {
+        return Err(Refusal::OutOfMemory);
+    }
+    match making {
+        Making::Cert => push_why_none(alloc, out, bytes, refusal),
+        Making::After => push_unmade(alloc, out, bytes, refusal),
+        Making::Windows(cut) => push_windows_words(alloc, out, bytes, cut, options, refusal),
+        Making::Goal(_) => push_goal_words(alloc, out, bytes, options, refusal),
+        Making::Around(_) => push_unturned(alloc, out, bytes, refusal),
         _ => push_words_of(alloc, out, bytes, refusal),
     }
 }
 
+// Says why `after` has no ring.
+fn push_unmade(
+    alloc: Global,
+    out: &mut Words,
+    bytes: &[u8],
+    refusal: &Refusal,
+) -> Result<(), Refusal> {
+    match refusal {
+        Refusal::WrongStage(step) => push_open(alloc, out, bytes, *step),
+        _ => push_words_of(alloc, out, bytes, refusal),
+    }
+}
+
+// Says why `around` has no other plan, if `around_bundle` has not said it.
+fn push_unturned(
+    alloc: Global,
+    out: &mut Words,
+    bytes: &[u8],
+    refusal: &Refusal,
+) -> Result<(), Refusal> {
+    match refusal {
+        Refusal::BadLine(line) => push_unbegun(alloc, out, bytes, *line),
+        Refusal::NoPlan => Ok(()),
+        _ => push_words_of(alloc, out, bytes, refusal),
+    }
+}
+
+// What the notes say of a refusal: `around_bundle` says itself why there is no plan.
+fn said_before(alloc: Global, making: Making, refusal: &Refusal, notes: Notes) -> Words {
+    let Notes { words, .. } = notes;
+    match (making, refusal) {
+        (Making::Around(_), Refusal::NoPlan) => words,
+        _ => Words::new(alloc),
+    }
+}
+
+// What goes around dead nodes before the first step.
+const GOAL_DEAD: &[u8; 76] =
+    b"  Before the first step `ringplan goal --dead NODE` goes around dead nodes.\n";
+
+// Says why the line of a bundle is refused where a history should go on, and what to do if there is none.
+fn push_unbegun(alloc: Global, out: &mut Words, bytes: &[u8], line: u32) -> Result<(), Refusal> {
+    let is_over = line > Page { bytes }.count();
+    if kind_of(bytes) == Kind::Change {
+        out.text(
+            b"refused: `around` goes on from a plan and its history, and the bundle has a change\n",
+        );
+    } else if is_over && !bytes.is_empty() && front(bytes, 1) == bytes.len() {
+        out.text(
+            b"refused: `around` goes on from a plan and its history, and the bundle has a ring only\n",
+        );
+    } else {
+        push_words_of(alloc, out, bytes, &Refusal::BadLine(line))?;
+        if !is_over || kind_of(bytes) == Kind::History {
+            return Ok(());
+        }
+    }
+    out.text(GOAL_DEAD);
+    Ok(())
+}
+
 // The report of what is made of the bundle, or of why nothing is.
-fn report_made(alloc: Global, making: &Making, bytes: &[u8]) -> Result<Report, Refusal>
-    requires { IsTold making.now }
-    ensures { IfOk result (λ r. IsReport making.now bytes.now r.output.items r.status) }
+fn report_made(
+    alloc: Global,
+    making: Making,
+    options: &Options,
+    bytes: &[u8],
+) -> Result<Report, Refusal>
+    requires { IsTold making }
+    ensures { IfOk result (λ r. IsReport making options.now bytes.now r.output.items r.status) }
 {
     let mut notes = Notes {
         words: Words::new(alloc),
         has_steps: false,
     };
-    match make_of(alloc, making, bytes, &mut notes) {
+    match make_of(alloc, making, options, bytes, &mut notes) {
         Ok(output) => made(making, output, notes),
         Err(refusal) => {
-            let mut words = Words::new(alloc);
-            push_said(alloc, &mut words, making, bytes, &refusal)?;
+            let mut words = said_before(alloc, making, &refusal, notes);
+            push_said(alloc, &mut words, making, options, bytes, &refusal)?;
             refused_with(alloc, refusal, words)
         }
     }
@@ -211,23 +271,33 @@ fn report_why(alloc: Global, color: Color, bytes: &[u8]) -> Result<Report, Refus
 }
 
 // The report of a statement.
-fn report_stated(alloc: Global, statement: &Statement, bytes: &[u8]) -> Result<Report, Refusal>
-    ensures { IfOk result (λ r. IsStated statement.now bytes.now r.status) }
+fn report_stated(
+    alloc: Global,
+    statement: Statement,
+    options: &Options,
+    bytes: &[u8],
+) -> Result<Report, Refusal>
+    ensures { IfOk result (λ r. IsStated statement options.now bytes.now r.status) }
 {
-    let answer = state_bundle(alloc, statement, bytes)?;
+    let answer = state_bundle(alloc, statement, options, bytes)?;
     Ok(silent(alloc, answer))
 }
 
-/// What is printed of a bundle, where `making` is asked for. On standard output stands what is made of the bundle, and the status is 0, or 4 for a plan
+/// What is printed of a bundle, if `making` is asked for by these options. On standard output stands what is made of the bundle, and the status is 0, or 4 for a plan
 /// with steps where a goal asks so; or it is empty, and on standard error stand the refusal's line and why. `why` and a statement print both on standard output.
 /// The only refusal is `OutOfMemory`.
-pub fn report_bundle(alloc: Global, making: &Making, bytes: &[u8]) -> Result<Report, Refusal>
-    ensures { IfOk result (λ r. IsReport making.now bytes.now r.output.items r.status) }
+pub fn report_bundle(
+    alloc: Global,
+    making: Making,
+    options: &Options,
+    bytes: &[u8],
+) -> Result<Report, Refusal>
+    ensures { IfOk result (λ r. IsReport making options.now bytes.now r.output.items r.status) }
 {
     match making {
-        Making::Why(color) => report_why(alloc, *color, bytes),
-        Making::State(statement) => report_stated(alloc, statement, bytes),
-        _ => report_made(alloc, making, bytes),
+        Making::Why(color) => report_why(alloc, color, bytes),
+        Making::State(statement) => report_stated(alloc, statement, options, bytes),
+        _ => report_made(alloc, making, options, bytes),
     }
 }
 

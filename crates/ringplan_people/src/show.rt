@@ -4,16 +4,20 @@ ghost use Rattle.std.specs.Prelude.{OnOk};
 ghost use Rattle.ringplan_people.specs.Studies.{HasApproved, IsShown};
 
 use crate::painting::painted;
+use crate::racks::racking_of;
 use crate::study::{Study, studied};
 use change_text::Options;
-use plan_bundles::{front, sizes_of};
+use helpers::{Labels, Words};
+use plan_bundles::{
+    Kind, Racking, aliases_of, ask_layout, dead_by, front, has_sizes, kind_of, members_with,
+    nodes_of, racks_of, sizes_of,
+};
 use plan_moves::Progress;
-use plan_text::Plan;
-use ring_names::Refusal;
+use ring_names::{NodeId, Refusal};
 use ring_table::{Ring, read_ring};
-use ringplan_job::{DrawWish, Picture, Shape as Asked, Wish};
+use ringplan_job::{Picture, Shape as Asked, Wish};
 use show_picture::{Sheet, map_picture, picture};
-use show_plan::{Present, Scene, Shape, Sized, View, Volumes, ring_summary, summary};
+use show_plan::{Facts, Present, Scene, Shape, Sized, View, Volumes, ring_summary, summary};
 use std::alloc::Global;
 
 /// What is shown of a bundle's plan, and how far its history has come, where there is one.
@@ -24,31 +28,56 @@ pub(crate) struct Shown {
     pub present: Present,
 }
 
-/// How much an approved plan moves, where the options have sizes. A partition that its ring does not have is `TooLarge`, with its line among the sizes.
+/// How much each partition stores, if the layout has sizes. A partition that the ring does not have is `TooLarge`, with its line in the layout.
+pub(crate) fn sizes_by(
+    alloc: Global,
+    ring: &Ring,
+    options: &Options,
+) -> Result<Option<Vec<u64>>, Refusal> {
+    if !has_sizes(&options.layout) {
+        return Ok(None);
+    }
+    let sizes = sizes_of(alloc, ring.q(), &options.layout)?;
+    Ok(Some(sizes))
+}
+
+/// How much an approved plan moves, if the layout has sizes, and what its history leaves. Refused is what `sizes_by` refuses.
 pub(crate) fn volumes_of(
     alloc: Global,
     found: &Study,
     scene: &Scene,
+    progress: Option<&Progress>,
     options: &Options,
 ) -> Result<Option<Volumes>, Refusal> {
-    let Some(sizes) = &options.sizes else {
+    let (ring, plan) = (found.approved.ring(), found.approved.plan());
+    let Some(sizes) = sizes_by(alloc, ring, options)? else {
         return Ok(None);
     };
-    let (ring, plan) = (found.approved.ring(), found.approved.plan());
-    let sizes = sizes_of(alloc, ring.q(), sizes.as_slice())?;
-    let volumes = Volumes::of(alloc, ring, plan, scene, sizes.as_slice())?;
+    let volumes = Volumes::of(alloc, ring, plan, scene, sizes.as_slice(), progress)?;
     Ok(Some(volumes))
 }
 
+/// The nodes that are named dead. A name that the ring does not declare is `UnknownNode(0)`.
+pub(crate) fn dead_of(
+    alloc: Global,
+    ring: &Ring,
+    options: &Options,
+) -> Result<Vec<NodeId>, Refusal> {
+    let names = dead_by(alloc, options)?;
+    nodes_of(alloc, ring, names.as_slice())
+}
+
 /// What is shown of a plan.
-pub(crate) fn shown_by(alloc: Global, found: &Study) -> Result<Shown, Refusal> {
+pub(crate) fn shown_by(alloc: Global, found: &Study, options: &Options) -> Result<Shown, Refusal> {
     let (ring, plan) = (found.approved.ring(), found.approved.plan());
     let progress = match &found.history {
         Some(history) => Some(Progress::of(alloc, plan, history.as_slice())?),
         None => None,
     };
     let scene = Scene::of(alloc, &found.approved, &found.cert)?;
-    let present = Present::of(alloc, ring, plan, &scene, progress.as_ref())?;
+    let dead = dead_of(alloc, ring, options)?;
+    let run = progress.as_ref();
+    let present = Present::of(alloc, ring, plan, &scene, run, dead.as_slice())?;
     Ok(Shown {
         scene,
         progress,
@@ -64,42 +93,74 @@ fn shape_of(asked: Asked) -> Shape {
     }
 }
 
-/// Asks whether the ring has each partition that the options have a size of.
-pub(crate) fn ask_sizes(alloc: Global, ring: &Ring, options: &Options) -> Result<(), Refusal> {
-    if let Some(sizes) = &options.sizes {
-        let _ = sizes_of(alloc, ring.q(), sizes.as_slice())?;
-    }
-    Ok(())
+/// The racks of a ring of which nothing moves.
+pub(crate) fn racks_at_rest(
+    alloc: Global,
+    ring: &Ring,
+    options: &Options,
+) -> Result<Racking, Refusal> {
+    ask_layout(ring, &options.layout)?;
+    let members = members_with(alloc, ring, &[])?;
+    racks_of(alloc, ring, members.as_slice(), options)
+}
+
+/// What the options say of a ring's nodes and partitions, with these racks. Refused is a name that the ring does not declare, and a partition that it does not have.
+pub(crate) fn facts_of(
+    alloc: Global,
+    ring: &Ring,
+    racks: Option<Labels>,
+    options: &Options,
+) -> Result<Facts, Refusal> {
+    Ok(Facts {
+        racks,
+        aliases: aliases_of(alloc, ring, &options.layout)?,
+        sizes: sizes_by(alloc, ring, options)?,
+        dead: dead_of(alloc, ring, options)?,
+    })
 }
 
 // The summary of a ring alone, of which nothing moves.
-fn show_ring(alloc: Global, bytes: &[u8], wish: &Wish) -> Result<Vec<u8>, Refusal>
+fn show_ring(alloc: Global, bytes: &[u8], options: &Options) -> Result<Vec<u8>, Refusal>
     ensures shown { OnOk result (IsShown bytes.now) }
 {
     let ring = read_ring(alloc, bytes)?;
-    ask_sizes(alloc, &ring, &wish.options)?;
-    ring_summary(alloc, &ring, wish.options.racks_behind)
+    let Racking { racks, .. } = racks_at_rest(alloc, &ring, options)?;
+    let facts = facts_of(alloc, &ring, racks, options)?;
+    ring_summary(alloc, &ring, &facts)
 }
 
 // The summary of a bundle without colours.
-fn show_plain(alloc: Global, bytes: &[u8], wish: &Wish) -> Result<Vec<u8>, Refusal>
+fn show_plain(
+    alloc: Global,
+    bytes: &[u8],
+    wish: Wish,
+    options: &Options,
+    words: &mut Words,
+) -> Result<Vec<u8>, Refusal>
     ensures shown { OnOk result (IsShown bytes.now) }
 {
     // Nothing stands after the first line `end`.
     if front(bytes, 1) == bytes.len() {
-        return show_ring(alloc, bytes, wish);
+        return show_ring(alloc, bytes, options);
     }
-    show_plan(alloc, bytes, wish)
+    show_plan(alloc, bytes, wish, options, words)
 }
 
 /// The summary of a bundle's plan, where the checker accepts it; with a history its progress, and with sizes how much moves. Of a ring and nothing more it is that of
-/// the ring. Refused is what `studied` refuses, or the ring's reader, and then a partition of the sizes that the ring does not have, as `TooLarge` with its line among
-/// them. It may have colours.
-pub fn show_bundle(alloc: Global, bytes: &[u8], wish: &Wish) -> Result<Vec<u8>, Refusal>
+/// the ring. Refused is what `studied` refuses, or the ring's reader; a name that the ring does not declare, and a member without a rack where racks are known, as
+/// `UnknownNode(0)`; and a partition that the ring does not have, as `TooLarge` with its line in the layout. It may have colours. Adds to the words which racks a change was
+/// planned by.
+pub fn show_bundle(
+    alloc: Global,
+    bytes: &[u8],
+    wish: Wish,
+    options: &Options,
+    words: &mut Words,
+) -> Result<Vec<u8>, Refusal>
     // It comes only where the checker accepted the bundle's plan, or the bytes are a ring's text.
     ensures shown { OnOk result (IsShown bytes.now) }
 {
-    let text = show_plain(alloc, bytes, wish)?;
+    let text = show_plain(alloc, bytes, wish, options, words)?;
     painted(alloc, text, wish.color)
 }
 
@@ -111,69 +172,95 @@ fn sized(volumes: Option<&Volumes>, rate: Option<u32>) -> Option<Sized<'_>> {
     }
 }
 
-// What a summary of the plan is made of.
-fn view_of<'a>(
+// The racks of a study's nodes. Adds which they are, if a change was planned.
+fn racks_shown(
     alloc: Global,
-    ring: &'a Ring,
-    plan: &'a Plan,
-    shown: &'a Shown,
-    sized: Option<Sized<'a>>,
-    wish: &Wish,
-) -> View<'a> {
-    View {
-        alloc,
-        ring,
-        plan,
-        scene: &shown.scene,
-        present: &shown.present,
-        progress: shown.progress.as_ref(),
-        shape: shape_of(wish.shape),
-        sized,
-        racks_behind: wish.options.racks_behind,
+    bytes: &[u8],
+    found: &Study,
+    options: &Options,
+    words: &mut Words,
+) -> Result<Option<Labels>, Refusal> {
+    ask_layout(found.approved.ring(), &options.layout)?;
+    let racking = racking_of(alloc, &found.approved, options)?;
+    if kind_of(bytes) == Kind::Change {
+        racking.push(words);
     }
+    Ok(racking.racks)
 }
 
 // The summary of a bundle's plan.
-fn show_plan(alloc: Global, bytes: &[u8], wish: &Wish) -> Result<Vec<u8>, Refusal>
+fn show_plan(
+    alloc: Global,
+    bytes: &[u8],
+    wish: Wish,
+    options: &Options,
+    words: &mut Words,
+) -> Result<Vec<u8>, Refusal>
     ensures shown { OnOk result (IsShown bytes.now) }
 {
-    let found = studied(alloc, bytes)?;
-    let shown = shown_by(alloc, &found)?;
-    let volumes = volumes_of(alloc, &found, &shown.scene, &wish.options)?;
-    let sized = sized(volumes.as_ref(), wish.rate);
-    let (ring, plan) = (found.approved.ring(), found.approved.plan());
-    let view = view_of(alloc, ring, plan, &shown, sized, wish);
-    summary(&view)
-}
-
-/// The picture of a bundle's plan as SVG, or the map of its slots, where the checker accepts it; with a history that of the run's progress.
-/// Refused is what `studied` refuses.
-pub fn draw_bundle(alloc: Global, bytes: &[u8], wish: DrawWish) -> Result<Vec<u8>, Refusal>
-    // It comes only where the checker accepted the bundle's plan.
-    ensures approved { OnOk result (HasApproved bytes.now) }
-{
-    let found = studied(alloc, bytes)?;
+    let found = studied(alloc, bytes, options)?;
+    let racks = racks_shown(alloc, bytes, &found, options, words)?;
     let Shown {
         scene,
         progress,
         present,
-    } = shown_by(alloc, &found)?;
-    let run = progress.as_ref();
+    } = shown_by(alloc, &found, options)?;
+    let volumes = volumes_of(alloc, &found, &scene, progress.as_ref(), options)?;
+    let sized = sized(volumes.as_ref(), wish.rate);
+    let (ring, plan) = (found.approved.ring(), found.approved.plan());
+    let (progress, racks) = (progress.as_ref(), racks.as_ref());
+    let shape = shape_of(wish.shape);
+    let view = View {
+        alloc,
+        ring,
+        plan,
+        scene: &scene,
+        present: &present,
+        progress,
+        shape,
+        sized,
+        racks,
+    };
+    summary(&view)
+}
+
+/// The picture of a bundle's plan as SVG, or the map of its slots, if the checker accepts it; with a history that of the run's progress. Refused is what `studied`
+/// refuses, and what of the options does not fit, as `show_bundle` does. Adds to the words which racks a change was planned by.
+pub fn draw_bundle(
+    alloc: Global,
+    bytes: &[u8],
+    kind: Picture,
+    options: &Options,
+    words: &mut Words,
+) -> Result<Vec<u8>, Refusal>
+    // It comes only where the checker accepted the bundle's plan.
+    ensures approved { OnOk result (HasApproved bytes.now) }
+{
+    let found = studied(alloc, bytes, options)?;
+    let racks = racks_shown(alloc, bytes, &found, options, words)?;
+    let Shown {
+        scene,
+        progress,
+        present,
+    } = shown_by(alloc, &found, options)?;
+    let moved = volumes_of(alloc, &found, &scene, progress.as_ref(), options)?;
+    let (progress, volumes) = (progress.as_ref(), moved.as_ref());
     let sheet = Sheet {
         alloc,
         ring: found.approved.ring(),
         plan: found.approved.plan(),
         scene: &scene,
         present: &present,
-        progress: run,
+        progress,
+        volumes,
     };
-    drawn(&sheet, wish)
+    drawn(&sheet, kind, racks.as_ref())
 }
 
 // The picture that is asked for.
-fn drawn(sheet: &Sheet, wish: DrawWish) -> Result<Vec<u8>, Refusal> {
-    match wish.picture {
+fn drawn(sheet: &Sheet, kind: Picture, racks: Option<&Labels>) -> Result<Vec<u8>, Refusal> {
+    match kind {
         Picture::Rounds => picture(sheet),
-        Picture::Map => map_picture(sheet, wish.racks_behind),
+        Picture::Map => map_picture(sheet, racks),
     }
 }

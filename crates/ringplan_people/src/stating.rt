@@ -5,23 +5,24 @@ ghost use Rattle.plan_bundles.specs.Goals.{IsLed};
 ghost use Rattle.ringplan_people.specs.Made.{IsStated};
 ghost use Rattle.ringplan_people.specs.Studies.{HasApproved, IsShown};
 
-use crate::goal_words::{push_goal_words, push_unlisted};
+use crate::goal_words::push_goal_words;
 use crate::history_words::unless_memory;
 use crate::object::{Object, text_value};
+use crate::racks::{is_of_options, push_misfits, racking_of};
 use crate::reporting::goal_status;
-use crate::show::{Shown, ask_sizes, shown_by, volumes_of};
+use crate::show::{Shown, facts_of, racks_at_rest, shown_by, volumes_of};
 use crate::study::{Study, studied};
 use crate::why::{Outcome, push_accepted, push_why};
 use change_text::Options;
-use helpers::{Words, at, rack, small, word};
-use plan_bundles::{front, led_bundle};
+use helpers::{Labels, Words, at, small, word};
+use plan_bundles::{Racking, ask_layout, front, led_bundle};
 use plan_goal::Proposed;
 use ring_names::Refusal;
-use ring_table::{Ring, read_ring};
+use ring_table::{Allowance, Ring, read_ring};
 use ringplan_job::{Exit, Statement, Wish};
 use ringplan_jobs::{Answer, refusal_members, status_of};
 use serde_json::Value;
-use show_plan::{Present, Scene, Volumes};
+use show_plan::{Facts, Present, Scene, Volumes, stored_by};
 use show_why::Said;
 use std::alloc::Global;
 
@@ -128,7 +129,7 @@ fn state_why(alloc: Global, bytes: &[u8]) -> Result<Answer, Refusal>
     ensures yes { IfOk result (λ answer. answer.status ≡ 0 → HasApproved bytes.now) }
     ensures few { IfOk result (λ answer. answer.status ≤ 3) }
 {
-    match studied(alloc, bytes) {
+    match studied(alloc, bytes, &Options::new(alloc)) {
         Ok(found) => {
             // The plan is approved, which the prover knows once it is read.
             let _ = found.approved.plan();
@@ -138,30 +139,77 @@ fn state_why(alloc: Global, bytes: &[u8]) -> Result<Answer, Refusal>
     }
 }
 
-// The object of a node: its name, its rack where racks are asked for, and whether it is a member.
-fn node_object(
+// What is stated of the nodes of a ring.
+#[derive(Clone, Copy)]
+struct Nodes<'a> {
     alloc: Global,
-    ring: &Ring,
-    present: &Present,
-    node: u32,
-    racks_behind: Option<u8>,
-) -> Result<Object, Refusal> {
-    let mut object = Object::new(alloc);
-    object.text("name", ring.name(node))?;
-    if let Some(behind) = racks_behind {
-        object.text("rack", rack(ring.name(node), behind))?;
+    ring: &'a Ring,
+    present: &'a Present,
+    facts: &'a Facts,
+    // how much each node stores, if that is known
+    stored: &'a Option<Vec<u64>>,
+}
+
+impl<'a> Nodes<'a> {
+    // The object of a node: its name, rack and alias, whether it is a member and dead, what it owns and stores, and how many transfers it bears.
+    fn object(&self, node: u32) -> Result<Object, Refusal> {
+        let present = self.present;
+        let mut object = Object::new(self.alloc);
+        object.text("name", self.ring.name(node))?;
+        put_label(&mut object, "rack", self.facts.racks.as_ref(), node)?;
+        put_label(&mut object, "alias", self.facts.aliases.as_ref(), node)?;
+        object.put("is_member", Value::from(present.is_member(node)))?;
+        object.put("is_dead", Value::from(present.is_dead(node)))?;
+        object.number("slots", at(present.owned.as_slice(), node as usize))?;
+        if let Some(stored) = self.stored {
+            object.long("stored_size", word(stored.as_slice(), node as usize))?;
+        }
+        put_allowance(&mut object, self.ring, node)?;
+        Ok(object)
     }
-    object.put("is_member", Value::from(present.is_member(node)))?;
-    object.number("slots", at(present.owned.as_slice(), node as usize))?;
-    Ok(object)
+}
+
+// Puts the node's label, if it has one.
+fn put_label(
+    object: &mut Object,
+    key: &'static str,
+    labels: Option<&Labels>,
+    node: u32,
+) -> Result<(), Refusal> {
+    match labels {
+        Some(labels) if !labels.name(node).is_empty() => object.text(key, labels.name(node)),
+        _ => Ok(()),
+    }
+}
+
+// Puts how many transfers the node bears: of both kinds together, or of each.
+fn put_allowance(object: &mut Object, ring: &Ring, node: u32) -> Result<(), Refusal> {
+    match ring.nodes().get(node as usize) {
+        Some(declared) => match declared.allowance {
+            Allowance::Joint(most) => object.number("bears", most),
+            Allowance::Split { take, give } => {
+                object.number("bears_in", take)?;
+                object.number("bears_out", give)
+            }
+        },
+        None => Ok(()),
+    }
 }
 
 // The nodes of a ring alone.
-fn ring_object(alloc: Global, ring: &Ring, racks_behind: Option<u8>) -> Result<Object, Refusal> {
-    let present = Present::at_rest(alloc, ring)?;
+fn ring_object(alloc: Global, ring: &Ring, facts: &Facts) -> Result<Object, Refusal> {
+    let present = Present::at_rest(alloc, ring, facts.dead.as_slice())?;
+    let stored = stored_by(alloc, &present, facts.sizes())?;
+    let stated = Nodes {
+        alloc,
+        ring,
+        present: &present,
+        facts,
+        stored: &stored,
+    };
     let mut nodes = Vec::new(alloc);
     for node in 0..small(ring.nodes().len()) {
-        nodes.push(node_object(alloc, ring, &present, node, racks_behind)?.value())?;
+        nodes.push(stated.object(node)?.value())?;
     }
     let mut object = Object::new(alloc);
     object.text("answer", b"yes")?;
@@ -170,17 +218,11 @@ fn ring_object(alloc: Global, ring: &Ring, racks_behind: Option<u8>) -> Result<O
 }
 
 // The nodes of a ring with a plan: what each owns, gives and takes, and whether it is down.
-fn nodes_value(
-    alloc: Global,
-    ring: &Ring,
-    shown: &Shown,
-    volumes: Option<&Volumes>,
-    racks_behind: Option<u8>,
-) -> Result<Value, Refusal> {
+fn nodes_value(stated: &Nodes, shown: &Shown, volumes: Option<&Volumes>) -> Result<Value, Refusal> {
     let loads = &shown.scene.loads;
-    let mut nodes = Vec::new(alloc);
-    for node in 0..small(ring.nodes().len()) {
-        let mut object = node_object(alloc, ring, &shown.present, node, racks_behind)?;
+    let mut nodes = Vec::new(stated.alloc);
+    for node in 0..small(stated.ring.nodes().len()) {
+        let mut object = stated.object(node)?;
         if let Some(volumes) = volumes {
             object.long("gives_size", word(volumes.gives.as_slice(), node as usize))?;
             object.long("takes_size", word(volumes.takes.as_slice(), node as usize))?;
@@ -208,7 +250,7 @@ fn put_change(
     object.number("rounds", scene.round_count())
 }
 
-// Puts how much a plan moves, and when it ends at the earliest.
+// Puts how much a plan moves, what its history leaves, and when that ends at the earliest.
 fn put_volumes(
     object: &mut Object,
     alloc: Global,
@@ -222,31 +264,57 @@ fn put_volumes(
     object.long("moves_size", volumes.moved)?;
     object.put("rounds_size", Value::Array(rounds))?;
     object.long("longest_size", volumes.longest)?;
+    if let Some(left) = &volumes.left {
+        object.long("left_size", left.moved)?;
+        object.long("longest_left_size", left.longest)?;
+    }
     if let Some(rate) = rate {
         object.long("earliest_end", volumes.earliest_end(rate))?;
     }
     Ok(())
 }
 
+// Puts the nodes of a ring with a plan.
+fn put_nodes<'a>(
+    object: &mut Object,
+    alloc: Global,
+    found: &'a Study,
+    shown: &'a Shown,
+    volumes: Option<&Volumes>,
+    options: &Options,
+) -> Result<(), Refusal> {
+    let ring = found.approved.ring();
+    let Racking { racks, .. } = racking_of(alloc, &found.approved, options)?;
+    let facts = facts_of(alloc, ring, racks, options)?;
+    let stored = stored_by(alloc, &shown.present, facts.sizes())?;
+    let stated = Nodes {
+        alloc,
+        ring,
+        present: &shown.present,
+        facts: &facts,
+        stored: &stored,
+    };
+    object.put("nodes", nodes_value(&stated, shown, volumes)?)
+}
+
 // What a plan does to each node, and how far a history has come.
 fn plan_object(
     alloc: Global,
     found: &Study,
-    shown: &Shown,
-    volumes: Option<&Volumes>,
-    wish: &Wish,
+    wish: Wish,
+    options: &Options,
 ) -> Result<Object, Refusal> {
     let (ring, plan) = (found.approved.ring(), found.approved.plan());
+    ask_layout(ring, &options.layout)?;
+    let shown = shown_by(alloc, found, options)?;
+    let run = shown.progress.as_ref();
+    let volumes = volumes_of(alloc, found, &shown.scene, run, options)?;
     let mut object = Object::new(alloc);
     object.text("answer", b"yes")?;
     object.number("steps", plan.len())?;
     put_change(&mut object, alloc, ring, &shown.scene)?;
-    let racks_behind = wish.options.racks_behind;
-    object.put(
-        "nodes",
-        nodes_value(alloc, ring, shown, volumes, racks_behind)?,
-    )?;
-    if let Some(volumes) = volumes {
+    put_nodes(&mut object, alloc, found, &shown, volumes.as_ref(), options)?;
+    if let Some(volumes) = &volumes {
         put_volumes(&mut object, alloc, volumes, wish.rate)?;
     }
     if let Some(progress) = &shown.progress {
@@ -255,10 +323,10 @@ fn plan_object(
     Ok(object)
 }
 
-// The object of a partition of the sizes that the ring does not have.
-fn state_unlisted(
+// What of the options does not fit the bundle.
+fn state_misfit(
     alloc: Global,
-    ring: &Ring,
+    bytes: &[u8],
     options: &Options,
     refusal: &Refusal,
 ) -> Result<Answer, Refusal>
@@ -266,61 +334,93 @@ fn state_unlisted(
 {
     unless_memory(*refusal)?;
     let mut words = Words::new(alloc);
-    let _ = push_unlisted(&mut words, ring, options);
+    let _ = push_misfits(alloc, &mut words, bytes, options)?;
     let object = refused_object(alloc, refusal, words)?;
     refused_answer(object, refusal)
 }
 
 // A ring alone, of which nothing moves.
-fn state_ring(alloc: Global, bytes: &[u8], wish: &Wish) -> Result<Answer, Refusal>
+fn state_ring(alloc: Global, bytes: &[u8], options: &Options) -> Result<Answer, Refusal>
     ensures yes { IfOk result (λ answer. answer.status ≡ 0 → IsShown bytes.now) }
     ensures few { IfOk result (λ answer. answer.status ≤ 3) }
 {
     match read_ring(alloc, bytes) {
-        Ok(ring) => match ask_sizes(alloc, &ring, &wish.options) {
-            Ok(()) => ring_object(alloc, &ring, wish.options.racks_behind)?.answer(0),
-            Err(refusal) => state_unlisted(alloc, &ring, &wish.options, &refusal),
+        Ok(ring) => match ring_stated(alloc, &ring, options) {
+            Ok(object) => object.answer(0),
+            Err(refusal) => state_misfit(alloc, bytes, options, &refusal),
         },
         Err(refusal) => state_refusal(alloc, bytes, &refusal),
     }
 }
 
+// The object of a ring alone, by the options.
+fn ring_stated(alloc: Global, ring: &Ring, options: &Options) -> Result<Object, Refusal> {
+    let Racking { racks, .. } = racks_at_rest(alloc, ring, options)?;
+    let facts = facts_of(alloc, ring, racks, options)?;
+    ring_object(alloc, ring, &facts)
+}
+
 // A plan that the checker accepted.
-fn state_studied(alloc: Global, found: &Study, wish: &Wish) -> Result<Answer, Refusal>
+fn state_studied(
+    alloc: Global,
+    bytes: &[u8],
+    found: &Study,
+    wish: Wish,
+    options: &Options,
+) -> Result<Answer, Refusal>
     ensures { IfOk result (λ answer. answer.status ≤ 3) }
 {
-    let shown = shown_by(alloc, found)?;
-    match volumes_of(alloc, found, &shown.scene, &wish.options) {
-        Ok(volumes) => plan_object(alloc, found, &shown, volumes.as_ref(), wish)?.answer(0),
-        Err(refusal) => { state_unlisted(alloc, found.approved.ring(), &wish.options, &refusal) }
+    match plan_object(alloc, found, wish, options) {
+        Ok(object) => object.answer(0),
+        Err(refusal) => state_misfit(alloc, bytes, options, &refusal),
     }
 }
 
+// Why a bundle is refused, or what of the options does not fit it.
+fn state_unshown(
+    alloc: Global,
+    bytes: &[u8],
+    options: &Options,
+    refusal: &Refusal,
+) -> Result<Answer, Refusal>
+    ensures { IfOk result (λ answer. (answer.status ≢ 0) × (answer.status ≤ 3)) }
+{
+    if is_of_options(refusal) {
+        return state_misfit(alloc, bytes, options, refusal);
+    }
+    state_refusal(alloc, bytes, refusal)
+}
+
 // The plan of a bundle.
-fn state_plan(alloc: Global, bytes: &[u8], wish: &Wish) -> Result<Answer, Refusal>
+fn state_plan(alloc: Global, bytes: &[u8], wish: Wish, options: &Options) -> Result<Answer, Refusal>
     ensures yes { IfOk result (λ answer. answer.status ≡ 0 → IsShown bytes.now) }
     ensures few { IfOk result (λ answer. answer.status ≤ 3) }
 {
-    match studied(alloc, bytes) {
+    match studied(alloc, bytes, options) {
         Ok(found) => {
             // The plan is approved, which the prover knows once it is read.
             let _ = found.approved.plan();
-            state_studied(alloc, &found, wish)
+            state_studied(alloc, bytes, &found, wish, options)
         }
-        Err(refusal) => state_refusal(alloc, bytes, &refusal),
+        Err(refusal) => state_unshown(alloc, bytes, options, &refusal),
     }
 }
 
 // What is shown of a bundle, as `show` takes it.
-fn state_shown(alloc: Global, bytes: &[u8], wish: &Wish) -> Result<Answer, Refusal>
+fn state_shown(
+    alloc: Global,
+    bytes: &[u8],
+    wish: Wish,
+    options: &Options,
+) -> Result<Answer, Refusal>
     ensures yes { IfOk result (λ answer. answer.status ≡ 0 → IsShown bytes.now) }
     ensures few { IfOk result (λ answer. answer.status ≤ 3) }
 {
     // Nothing stands after the first line `end`.
     if front(bytes, 1) == bytes.len() {
-        return state_ring(alloc, bytes, wish);
+        return state_ring(alloc, bytes, options);
     }
-    state_plan(alloc, bytes, wish)
+    state_plan(alloc, bytes, wish, options)
 }
 
 // The bundle of a plan that leads to the goal ring, and how much it moves.
@@ -368,12 +468,17 @@ fn state_goal(alloc: Global, bytes: &[u8], options: &Options, exit: Exit) -> Res
 
 /// What is stated of a bundle, as an object of JSON in one line, and the exit status: that of `why`, of `show` and of `goal`. A refusal is stated by the members
 /// of a check's answer and by `words`; `why` and `show` add the lines at fault and a mend. The only refusal is `OutOfMemory`.
-pub fn state_bundle(alloc: Global, statement: &Statement, bytes: &[u8]) -> Result<Answer, Refusal>
-    ensures { IfOk result (λ answer. IsStated statement.now bytes.now answer.status) }
+pub fn state_bundle(
+    alloc: Global,
+    statement: Statement,
+    options: &Options,
+    bytes: &[u8],
+) -> Result<Answer, Refusal>
+    ensures { IfOk result (λ answer. IsStated statement options.now bytes.now answer.status) }
 {
     match statement {
         Statement::Why => state_why(alloc, bytes),
-        Statement::Show(wish) => state_shown(alloc, bytes, wish),
-        Statement::Goal(options, exit) => state_goal(alloc, bytes, options, *exit),
+        Statement::Show(wish) => state_shown(alloc, bytes, wish, options),
+        Statement::Goal(exit) => state_goal(alloc, bytes, options, exit),
     }
 }

@@ -8,7 +8,10 @@ ghost use Rattle.plan_lines.specs.Lines.{steps_text};
 ghost use Rattle.plan_lines.specs.MoveLines.{moves_text};
 ghost use Rattle.ringplan_people.specs.Studies.{IsStudyOf};
 
+use crate::racks::push_racks;
 use crate::study::studied;
+use change_text::Options;
+use helpers::Words;
 use plan_check::Approved;
 use plan_lines::{write_moves, write_steps};
 use ring_names::Refusal;
@@ -24,12 +27,18 @@ fn steps_of(alloc: Global, approved: &Approved) -> Result<Vec<u8>, Refusal>
 
 /// The steps of a bundle's plan as lines of JSON, where the checker accepts it; where the bundle has a change, a plan is made first, and a history changes
 /// nothing. Refused is what `studied` refuses.
-pub fn steps_bundle(alloc: Global, bytes: &[u8]) -> Result<Vec<u8>, Refusal>
+pub fn steps_bundle(
+    alloc: Global,
+    bytes: &[u8],
+    options: &Options,
+    words: &mut Words,
+) -> Result<Vec<u8>, Refusal>
     // They are those of the bundle's plan, which the checker accepted, in order, and none is left out.
     ensures steps { IfOk result (λ text. (ring : RingValue) × (plan : List Planned)
         × IsStudyOf bytes.now ring plan × IsApproved ring plan × (text.items ≡ steps_text ring plan)) }
 {
-    let found = studied(alloc, bytes)?;
+    let found = studied(alloc, bytes, options)?;
+    push_racks(alloc, words, bytes, &found.approved, options)?;
     steps_of(alloc, &found.approved)
 }
 
@@ -42,11 +51,17 @@ fn moves_of(alloc: Global, approved: &Approved) -> Result<Vec<u8>, Refusal>
 }
 
 /// The slots that a bundle's plan moves as lines of JSON, where the checker accepts it; else as `steps_bundle`.
-pub fn moves_bundle(alloc: Global, bytes: &[u8]) -> Result<Vec<u8>, Refusal>
+pub fn moves_bundle(
+    alloc: Global,
+    bytes: &[u8],
+    options: &Options,
+    words: &mut Words,
+) -> Result<Vec<u8>, Refusal>
     // They are the moves of the bundle's plan, which the checker accepted, in order, and none is left out.
     ensures moves { IfOk result (λ text. (ring : RingValue) × (plan : List Planned)
         × IsStudyOf bytes.now ring plan × IsApproved ring plan × (text.items ≡ moves_text ring plan)) }
 {
-    let found = studied(alloc, bytes)?;
+    let found = studied(alloc, bytes, options)?;
+    push_racks(alloc, words, bytes, &found.approved, options)?;
     moves_of(alloc, &found.approved)
 }

@@ -4,13 +4,13 @@ ghost use Rattle.std.specs.Prelude.{◌≡◌, None, IfOk, IfSome};
 ghost use Rattle.plan_text.specs.Valid.{Suits};
 ghost use Rattle.ringplan_people.specs.Studies.{IsPlanOf, IsStudyOf, IsRecorded};
 
-use change_text::{Wanted, read_wanted};
+use change_text::Options;
 use history_text::read_replay;
 use plan_around::follow;
-use plan_bundles::{Kind, kind_of};
+use plan_bundles::{Kind, kind_of, wish_bundle};
 use plan_cert::Cert;
 use plan_check::{Approved, check};
-use plan_goal::{Proposed, propose};
+use plan_goal::Proposed;
 use plan_runs::Entry;
 use plan_text::Plan;
 use ring_names::Refusal;
@@ -55,13 +55,12 @@ pub(crate) fn study_plan(alloc: Global, bytes: &[u8]) -> Result<Study, Refusal>
     accepted(alloc, bundle.ring, bundle.plan, bundle.cert)
 }
 
-/// A bundle with a change, and a plan that makes it.
-pub(crate) fn study_change(alloc: Global, bytes: &[u8]) -> Result<Study, Refusal>
+/// A bundle with a change, and a plan that leads to the ring that is wished for.
+pub(crate) fn study_change(alloc: Global, bytes: &[u8], options: &Options) -> Result<Study, Refusal>
     ensures of { IfOk result (λ s. IsPlanOf bytes.now s.approved.ring s.approved.plan) }
     ensures history { IfOk result (λ s. s.history ≡ None) }
 {
-    let Wanted { ring, change } = read_wanted(alloc, bytes)?;
-    let Proposed { approved, cert } = propose(alloc, ring, &change)?;
+    let Proposed { approved, cert } = wish_bundle(alloc, bytes, options)?;
     Ok(Study {
         approved,
         cert,
@@ -86,9 +85,9 @@ fn study_history(alloc: Global, bytes: &[u8]) -> Result<Study, Refusal>
     })
 }
 
-/// The plan of a bundle, where the checker accepts it; where the bundle has a change, a plan is made first. Refused is the first fault of the texts, what the
-/// planner or the checker refuses, and a history that is no run of the plan.
-pub fn studied(alloc: Global, bytes: &[u8]) -> Result<Study, Refusal>
+/// The plan of a bundle, if the checker accepts it; if the bundle has a change, a plan is made first, by the options. Refused is the first fault of the texts, what
+/// `wish_bundle` or the checker refuses, and a history that is not a run of the plan.
+pub fn studied(alloc: Global, bytes: &[u8], options: &Options) -> Result<Study, Refusal>
     // The ring and the plan are those of the bundle, or the plan makes its change.
     ensures of { IfOk result (λ s. IsStudyOf bytes.now s.approved.ring s.approved.plan) }
     // What has happened is the bundle's history, and a run of the plan.
@@ -96,7 +95,7 @@ pub fn studied(alloc: Global, bytes: &[u8]) -> Result<Study, Refusal>
         (λ s. IfSome s.history (λ h. IsRecorded bytes.now s.approved.ring s.approved.plan h.items)) }
 {
     match kind_of(bytes) {
-        Kind::Change => study_change(alloc, bytes),
+        Kind::Change => study_change(alloc, bytes, options),
         Kind::Plan => study_plan(alloc, bytes),
         Kind::History => study_history(alloc, bytes),
     }

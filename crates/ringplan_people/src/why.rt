@@ -13,12 +13,13 @@ ghost use Rattle.ringplan_people.specs.Why.{AnswersCheck, BeginsWith, IsWhy};
 use crate::history_words::{tell_history, unless_memory};
 use crate::painting::painted;
 use crate::study::{Study, studied, study_change};
-use change_text::{Wanted, read_wanted};
-use helpers::Words;
+use change_text::{Options, Wanted, read_wanted};
+use helpers::{Words, small};
 use plan_bundles::{Kind, cert_bundle, front, kind_of};
 use plan_cert::Cert;
 use plan_check::{Turned, check};
-use ring_names::Refusal;
+use plan_goal::is_among;
+use ring_names::{NodeId, Refusal};
 use ring_script::Bundle;
 use ringplan_job::Color;
 use ringplan_jobs::{Answer, Kind as Sections, answer_of, check_bundle, read_bundle};
@@ -51,11 +52,11 @@ fn asked(alloc: Global, mended: &[u8], was: &Refusal) -> Result<Outcome, Refusal
             Ok(()) => Ok(Outcome::Accepted),
             Err(refusal) => next(refusal, was),
         },
-        Kind::Change => match study_change(alloc, mended) {
+        Kind::Change => match study_change(alloc, mended, &Options::new(alloc)) {
             Ok(_) => Ok(Outcome::Planned),
             Err(refusal) => next(refusal, was),
         },
-        Kind::History => match studied(alloc, mended) {
+        Kind::History => match studied(alloc, mended, &Options::new(alloc)) {
             Ok(_) => Ok(Outcome::Replayed),
             Err(refusal) => next(refusal, was),
         },
@@ -186,6 +187,29 @@ fn members_left(wanted: &Wanted) -> u32 {
         members = members.saturating_sub(u32::from(wanted.ring.is_member(*node)));
     }
     members
+}
+
+/// Says that too few members would be left that are not dead, and whether that is so.
+pub(crate) fn push_few(
+    alloc: Global,
+    out: &mut Words,
+    wanted: &Wanted,
+    dead: &[NodeId],
+) -> Result<bool, Refusal> {
+    let mut members = members_left(wanted);
+    let leaves = wanted.change.leaves.as_slice();
+    for node in 0..small(wanted.ring.nodes().len()) {
+        let node = NodeId(node);
+        let stays = wanted.ring.is_member(node) && !is_among(leaves, node);
+        members = members.saturating_sub(u32::from(stays && is_among(dead, node)));
+    }
+    if members >= wanted.ring.n() {
+        return Ok(false);
+    }
+    let mut said = Said::new(alloc);
+    tell_few(&mut said, members, wanted.ring.n());
+    said.push(out, Page { bytes: b"" });
+    Ok(true)
 }
 
 // Says why there is no plan for a change.
@@ -359,7 +383,7 @@ fn why_read(alloc: Global, bytes: &[u8], bundle: Bundle, color: Color) -> Result
 fn push_more(alloc: Global, out: &mut Words, bytes: &[u8]) -> Result<Option<Refusal>, Refusal>
     ensures { IfOk result (λ r. IfNone r (HasApproved bytes.now)) }
 {
-    match studied(alloc, bytes) {
+    match studied(alloc, bytes, &Options::new(alloc)) {
         Ok(found) => {
             push_accepted(out, &found);
             // The plan is approved, which the prover knows once it is read.

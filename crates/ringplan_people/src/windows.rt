@@ -7,8 +7,10 @@ ghost use Rattle.plan_check.specs.Approval.{IsApproved};
 ghost use Rattle.plan_bundles.specs.Windows.{AreAskedOf};
 ghost use Rattle.ringplan_people.specs.Studies.{IsStudyOf};
 
-use crate::study::studied;
+use crate::racks::push_racks;
+use crate::study::{Study, studied};
 use crate::why::push_words_of;
+use change_text::Options;
 use helpers::Words;
 use plan_bundles::cut_plan;
 use ring_names::Refusal;
@@ -20,12 +22,19 @@ const TOO_MANY: &[u8; 123] =
     b"refused: the windows have more than 67,108,864 bytes together, as each has the whole ring\n  Let a window have more rounds.\n";
 
 /// The plan of a bundle in windows, or one of these, as `cut_plan` says; a history changes nothing. Refused is what `studied` refuses, and what `cut_plan` does.
-pub fn windows_bundle(alloc: Global, bytes: &[u8], cut: Cut) -> Result<Vec<u8>, Refusal>
+pub fn windows_bundle(
+    alloc: Global,
+    bytes: &[u8],
+    cut: Cut,
+    options: &Options,
+    words: &mut Words,
+) -> Result<Vec<u8>, Refusal>
     // They are windows of the bundle's plan, which the checker accepted, from the ring's text on to its end, or the one of the number that is asked for.
     ensures windows { IfOk result (λ text. (ring : RingValue) × (plan : List Planned)
         × IsStudyOf bytes.now ring plan × IsApproved ring plan × AreAskedOf ring plan cut.only text.items) }
 {
-    let found = studied(alloc, bytes)?;
+    let found = studied(alloc, bytes, options)?;
+    push_racks(alloc, words, bytes, &found.approved, options)?;
     cut_plan(alloc, &found.approved, cut.rounds, cut.only)
 }
 
@@ -34,6 +43,8 @@ pub fn push_windows_words(
     alloc: Global,
     out: &mut Words,
     bytes: &[u8],
+    cut: Cut,
+    options: &Options,
     refusal: &Refusal,
 ) -> Result<(), Refusal> {
     match refusal {
@@ -41,21 +52,56 @@ pub fn push_windows_words(
             out.text(TOO_MANY);
             Ok(())
         }
-        Refusal::NoPlan => push_no_window(alloc, out, bytes),
+        Refusal::NoPlan => push_no_window(alloc, out, bytes, cut, options),
         _ => push_words_of(alloc, out, bytes, refusal),
     }
 }
 
 // Says that there is no such window, where the plan itself is accepted.
-fn push_no_window(alloc: Global, out: &mut Words, bytes: &[u8]) -> Result<(), Refusal> {
-    match studied(alloc, bytes) {
-        Ok(_) => {
-            out.text(
-                b"refused: the plan has no window of that number, or no ring can say what one of its windows leaves\n",
-            );
-            Ok(())
-        }
+fn push_no_window(
+    alloc: Global,
+    out: &mut Words,
+    bytes: &[u8],
+    cut: Cut,
+    options: &Options,
+) -> Result<(), Refusal> {
+    match studied(alloc, bytes, options) {
+        Ok(found) => push_count(alloc, out, &found, cut),
         Err(Refusal::OutOfMemory) => Err(Refusal::OutOfMemory),
         Err(_) => push_words_of(alloc, out, bytes, &Refusal::NoPlan),
     }
+}
+
+// Says how many windows there are, or that no ring can say what one of them leaves.
+fn push_count(alloc: Global, out: &mut Words, found: &Study, cut: Cut) -> Result<(), Refusal> {
+    match cut_plan(alloc, &found.approved, cut.rounds, None) {
+        Ok(text) => {
+            let windows = count_rings(text.as_slice());
+            out.fill(
+                if windows == 1 {
+                    b"refused: there is # window, and none of number #\n"
+                } else {
+                    b"refused: there are # windows, and none of number #\n"
+                },
+                &[],
+                &[windows, cut.only.unwrap_or(0)],
+            );
+        }
+        Err(Refusal::OutOfMemory) => return Err(Refusal::OutOfMemory),
+        Err(_) => out.text(
+            b"refused: the plan has no window of that number, or no ring can say what one of its windows leaves\n",
+        ),
+    }
+    Ok(())
+}
+
+// How many rings begin in the text.
+fn count_rings(text: &[u8]) -> u32 {
+    let mut count = 0u32;
+    for line in text.split(|byte| *byte == b'\n') {
+        if line.starts_with(b"ring ") {
+            count = count.saturating_add(1);
+        }
+    }
+    count
 }

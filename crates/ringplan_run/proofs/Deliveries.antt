@@ -1,17 +1,17 @@
 -- What is printed, or written to a file.
-use Rattle.std.proofs.Common.{◌≡◌, ◌⊎◌, inl, inr, ℕ, List, [], ◌∷◌, ◌++◌, Option, Some, None, drop, refl, sym, ap, ◌∙◌, subst}
+use Rattle.std.proofs.Common.{◌≡◌, ◌≢◌, ◌⊎◌, inl, inr, ℕ, List, [], ◌∷◌, ◌++◌, Option, Some, None, drop, refl, sym, ap, ◌∙◌, subst}
 use Rattle.std.proofs.lemmas.List.{append_assoc, append-nil}
-use Rattle.std.specs.Prelude.{IsSome, String, option_map, string_bytes}
-use Rattle.std.specs.Global.{Global}
+use Rattle.std.specs.Prelude.{IsSome}
 use Rattle.ringplan_command.specs.declared.files.Files.{Files}
 use Rattle.ringplan_job.specs.declared.job.Job.{Job}
 use Rattle.ringplan_job.specs.declared.making.Making.{Making}
+use Rattle.change_text.specs.declared.options.Options.{Options}
 use Rattle.ringplan_jobs.specs.Io.{Prints, AppendsPart, Tells}
 use Rattle.ringplan_command.specs.Command.{Asked, asked, only}
 use Rattle.ringplan_command.specs.Files.{Names, files_in, files_of, no_files}
 use Rattle.ringplan_command.specs.Tree.{word_of}
 use Rattle.ringplan_command.proofs.Commands.{asked_alone, no_files_alone}
-use Rattle.ringplan_run.specs.Run.{Delivers, IsWritten, NamesSizes, Reports, Runs, RunsTo, Shows, failed, filed, no_sizes, printed, told_by}
+use Rattle.ringplan_run.specs.Run.{Delivers, IsWritten, Reports, Runs, RunsTo, Shows, failed, filed, no_layout, printed, told_by, told_unless}
 
 -- nothing is printed, with any status
 pub prints_nothing : (old : Option (List ℕ)) (status : ℕ) → Prints old old [] status status
@@ -55,46 +55,50 @@ only_printed target old new text status result (filed some e zero r) = absurd cc
 
 -- ---- the files of a line
 
--- the names that were read, by the first of them
-pub named_in : {X : Type 0} (found : Files) (input : Option (String Global)) (files : Names) → found.input ≡ input → (files_in found ≡ files) ⊎ ((files_in found ≡ no_files) × X)
-    → (record { input = option_map string_bytes input; output = option_map string_bytes found.output } ≡ files) ⊎ (record { input = option_map string_bytes input; output = option_map string_bytes found.output } ≡ no_files)
-named_in found input files e (inl h) = inl (subst (λ (i : Option (String Global)). record { input = option_map string_bytes i; output = option_map string_bytes found.output } ≡ files) e h)
-named_in found input files e (inr h) = inr (subst (λ (i : Option (String Global)). record { input = option_map string_bytes i; output = option_map string_bytes found.output } ≡ no_files) e h.0)
+-- the names that were read are those of the line, or none
+pub named_in : {X : Type 0} (found : Files) (files : Names) → (files_in found ≡ files) ⊎ ((files_in found ≡ no_files) × X) → (files_in found ≡ files) ⊎ (files_in found ≡ no_files)
+named_in found files (inl h) = inl h
+named_in found files (inr h) = inr h.0
 
 -- a run by a line that names these files
 abbrev pub RanBy : Asked → Names → Option (List ℕ) → Option (List ℕ) → Option (List ℕ) → ℕ → Type 0
 RanBy asked files told old new result = (bytes : List ℕ) × Tells (told_by files told) bytes × Runs asked files bytes old new result
 
--- what was read from the input, where no file is named or none is used
+-- what was read from the input, if no file is named or none is used
 tells_less : (files : Names) (told : Option (List ℕ)) (bytes : List ℕ) → Tells told bytes → Tells (told_by files told) bytes
-tells_less files told bytes h = by files.input
+tells_less files told bytes h = by files.inputs
   where
-    by : (input : Option (List ℕ)) → Tells (told_by (record { input = input; output = files.output }) told) bytes
-    by None = h
-    by (Some name) = tt
+    by : (names : List (List ℕ)) → Tells (told_unless names told) bytes
+    by [] = h
+    by (name ∷ more) = tt
+
+-- nothing is told of what is read from files
+tells_nothing : (names : List (List ℕ)) (told : Option (List ℕ)) (bytes : List ℕ) → names ≢ [] → Tells (told_unless names told) bytes
+tells_nothing [] told bytes some = absurd (some refl)
+tells_nothing (name ∷ more) told bytes some = tt
 
 -- the input was read
-pub ran_input : (asked : Asked) (files : Names) (target told old new : Option (List ℕ)) (result : ℕ) → (record { input = None; output = target } ≡ files) ⊎ (record { input = None; output = target } ≡ no_files)
-    → (bytes : List ℕ) × Tells told bytes × RunsTo asked target bytes old new result → RanBy asked files told old new result
-ran_input asked files target told old new result (inl e) (bytes, tells, runs) =
-    subst (λ (f : Names). RanBy asked f told old new result) e (bytes, tells, inl runs)
-ran_input asked files target told old new result (inr e) (bytes, tells, runs) =
+pub ran_input : (asked : Asked) (files found : Names) (told old new : Option (List ℕ)) (result : ℕ) → (found ≡ files) ⊎ (found ≡ no_files)
+    → (bytes : List ℕ) × Tells told bytes × RunsTo asked found.output bytes old new result → RanBy asked files told old new result
+ran_input asked files found told old new result (inl e) (bytes, tells, runs) =
+    subst (λ (f : Names). RanBy asked f told old new result) e (bytes, tells_less found told bytes tells, inl runs)
+ran_input asked files found told old new result (inr e) (bytes, tells, runs) =
     let none = subst (λ (t : Option (List ℕ)). RunsTo asked t bytes old new result) (ap (λ (f : Names). f.output) e) runs in
     (bytes, tells_less files told bytes tells, inl (none.0, none.1, none.2, only_printed files.output old new none.0 none.1 result none.3))
 
--- a file was read
-pub ran_file : (asked : Asked) (files : Names) (name : List ℕ) (target told other old new : Option (List ℕ)) (result : ℕ)
-    → (record { input = Some name; output = target } ≡ files) ⊎ (record { input = Some name; output = target } ≡ no_files)
-    → (bytes : List ℕ) × Tells other bytes × RunsTo asked target bytes old new result → RanBy asked files told old new result
-ran_file asked files name target told other old new result (inl e) (bytes, tells, runs) = subst (λ (f : Names). RanBy asked f told old new result) e (bytes, tt, inl runs)
-ran_file asked files name target told other old new result (inr e) h = let bad : Some name ≡ None = ap (λ (f : Names). f.input) e in absurd cc
+-- files were read
+pub ran_files : (asked : Asked) (files found : Names) (told other old new : Option (List ℕ)) (result : ℕ) → found.inputs ≢ [] → (found ≡ files) ⊎ (found ≡ no_files)
+    → (bytes : List ℕ) × Tells other bytes × RunsTo asked found.output bytes old new result → RanBy asked files told old new result
+ran_files asked files found told other old new result some (inl e) (bytes, tells, runs) =
+    subst (λ (f : Names). RanBy asked f told old new result) e (bytes, tells_nothing found.inputs told bytes some, inl runs)
+ran_files asked files found told other old new result some (inr e) h = absurd (some (ap (λ (f : Names). f.inputs) e))
 
 -- a file could not be read
-pub ran_unopened : (asked : Asked) (files : Names) (name : List ℕ) (target told old : Option (List ℕ)) (result : ℕ)
-    → (record { input = Some name; output = target } ≡ files) ⊎ (record { input = Some name; output = target } ≡ no_files)
+pub ran_unopened : (asked : Asked) (files found : Names) (told old : Option (List ℕ)) (result : ℕ) → found.inputs ≢ [] → (found ≡ files) ⊎ (found ≡ no_files)
     → (result ≡ 2) ⊎ (result ≡ 3) → RanBy asked files told old old result
-ran_unopened asked files name target told old result (inl e) h = subst (λ (f : Names). RanBy asked f told old old result) e ([], tt, inr (refl, refl, h))
-ran_unopened asked files name target told old result (inr e) h = let bad : Some name ≡ None = ap (λ (f : Names). f.input) e in absurd cc
+ran_unopened asked files found told old result some (inl e) h =
+    subst (λ (f : Names). RanBy asked f told old old result) e ([], tells_nothing found.inputs told [] some, inr (some, refl, h))
+ran_unopened asked files found told old result some (inr e) h = absurd (some (ap (λ (f : Names). f.inputs) e))
 
 -- the word of a job alone asks for just that, and names no file
 pub ran_alone : (job : Job) (words : List (List ℕ)) (told old new : Option (List ℕ)) (result : ℕ) → drop 1 words ≡ word_of job ∷ [] → RanBy (asked words) (files_of words) told old new result
@@ -106,9 +110,9 @@ ran_alone job words told old new result e h =
 -- ---- reports of what was not read
 
 -- nothing is made, whatever the bytes
-pub reports_none : (making : Making) (bytes : List ℕ) (status : ℕ) → NamesSizes making → (status ≡ 2) ⊎ (status ≡ 3) → Reports making bytes [] status
-reports_none making bytes status names (inl two) = no_sizes names refl two
-reports_none making bytes status names (inr three) = failed refl three
+pub reports_none : (making : Making) (options : Options) (bytes : List ℕ) (status : ℕ) → (status ≡ 2) ⊎ (status ≡ 3) → Reports making options bytes [] status
+reports_none making options bytes status (inl two) = no_layout refl two
+reports_none making options bytes status (inr three) = failed refl three
 
 -- whatever the reader tells, some bytes are what it tells
 pub told_bytes : (told : Option (List ℕ)) → (bytes : List ℕ) × Tells told bytes

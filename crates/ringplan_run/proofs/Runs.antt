@@ -25,6 +25,7 @@ use Rattle.ringplan_jobs.specs.Stated.{json_of}
 use Rattle.ringplan_run.specs.Part.{IsCutShown, IsWanted, ShowsCut, ShowsPart, cut, failed}
 use Rattle.ringplan_run.specs.Run.{FindsDrive, PrintsFound, PrintsStated, Says, Shows, ShowsReport, answered, driven, stated, unread, unstated, undriven, parted, reported, out_of_memory}
 use Rattle.ringplan_job.specs.declared.making.Making.{Making}
+use Rattle.change_text.specs.declared.options.Options.{Options}
 
 pub no_memory_line : line_of OutOfMemory ≡ codes "no 60" ++ 10 ∷ []
 unfolding digits
@@ -89,9 +90,9 @@ pub ran_by : (asked : Asked) (k : ℕ) (told old new : Option (List ℕ)) (found
 ran_by asked k told old new found result e h prints = ran_found asked Check told old new found result (inr (refl, (k, e))) h prints
 
 -- what is made for people is printed
-pub ran_report : (asked : Asked) (making : Making) (told old new : Option (List ℕ)) (result : ℕ) → AsksMaking asked making
-    → (bytes : List ℕ) × Tells told bytes × ShowsReport making bytes old new result → Ran asked told old new result
-ran_report asked making told old new result e (bytes, tells, (text, status, reports, prints)) = (bytes, tells, (text, status, reported making e reports, prints))
+pub ran_report : (asked : Asked) (making : Making) (options : Options) (told old new : Option (List ℕ)) (result : ℕ) → AsksMaking asked making options
+    → (bytes : List ℕ) × Tells told bytes × ShowsReport making options bytes old new result → Ran asked told old new result
+ran_report asked making options told old new result e (bytes, tells, (text, status, reports, prints)) = (bytes, tells, (text, status, reported making options e reports, prints))
 
 -- ---- drives
 

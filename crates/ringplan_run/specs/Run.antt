@@ -1,5 +1,5 @@
 -- How a run of the program ends.
-use Rattle.std.specs.Prelude.{◌≡◌, ◌≢◌, ◌⊎◌, ⊤, ℕ, ◌<◌, ◌≤◌, List, [], Option, None, IsSome, is_some, Result, Ok, Err, length, if◌then◌else◌}
+use Rattle.std.specs.Prelude.{◌≡◌, ◌≢◌, ◌⊎◌, ⊤, ℕ, ◌<◌, ◌≤◌, List, [], ◌∷◌, Option, None, IsSome, MatchOption, Result, Ok, Err, length, if◌then◌else◌}
 use Rattle.ring_names.specs.declared.refusal.Refusal.{Refusal}
 use Rattle.ring_names.specs.declared.refusal.Refusal.TheVariants.{TooLarge, OutOfMemory, ReadFailed}
 use Rattle.ring_names.specs.Refusals.{line_of}
@@ -16,11 +16,9 @@ use Rattle.ringplan_command.specs.declared.parts.PartWish.{PartWish}
 use Rattle.ringplan_command.specs.declared.word.Guide.{Guide}
 use Rattle.ringplan_job.specs.declared.job.Job.{Job}
 use Rattle.ringplan_job.specs.declared.making.Making.{Making}
-use Rattle.ringplan_job.specs.declared.making.Making.TheVariants.{Goal, Show, State}
-use Rattle.ringplan_job.specs.declared.making.Statement.{Statement}
-use Rattle.ringplan_job.specs.declared.making.Wish.{Wish}
+use Rattle.layout_text.specs.declared.layout.Layout.{Layout}
+use Rattle.layout_text.specs.Reading.{layout_reading}
 use Rattle.change_text.specs.declared.options.Options.{Options}
-use Rattle.ringplan_job.specs.declared.making.Statement.TheVariants as statements
 use Rattle.ringplan_people.specs.Made.{IsReport}
 
 -- what comes of an input to a drive by so many workers, printed in that form: what the drive makes of it, and of more than the most that may come that it is too large
@@ -32,47 +30,25 @@ abbrev pub FindsDrive : ℕ → Form → List ℕ → Result (List ℕ) Refusal 
 FindsDrive workers form bytes (Ok text) = DriveOutcome workers form bytes (Ok text)
 FindsDrive workers form bytes (Err e) = e ≢ OutOfMemory → e ≢ ReadFailed → DriveOutcome workers form bytes (Err e)
 
--- a statement, or what is made for people, may name a file of sizes
-abbrev pub AreNamedBy : Statement → Type 0
-AreNamedBy (statements.Goal options exit) = ⊤
-AreNamedBy (statements.Show wish) = ⊤
-AreNamedBy statement = ⊥
+-- the options without the layout that was read
+abbrev pub unlaid : Options → Options
+unlaid options = record options { layout = record { entries = [] } }
 
-abbrev pub NamesSizes : Making → Type 0
-NamesSizes (Goal options exit) = ⊤
-NamesSizes (Show wish) = ⊤
-NamesSizes (State statement) = AreNamedBy statement
-NamesSizes making = ⊥
+-- the layout was read of some text
+abbrev pub IsRead : Layout → Type 0
+IsRead layout = (text : List ℕ) × (layout_reading text ≡ Ok layout)
 
--- what is asked for without the sizes that were read
-abbrev pub unsized : Options → Options
-unsized options = record options { sizes = None }
+-- the layout was read if a file of one is named, and says nothing if none is
+abbrev pub HasLayout : Options → Type 0
+HasLayout options = MatchOption options.layout_file (options.layout.entries ≡ []) (λ name. IsRead options.layout)
 
-abbrev pub unsized_wish : Wish → Wish
-unsized_wish wish = record wish { options = unsized wish.options }
-
--- sizes are there just if a file of them is named
-abbrev pub HasSizesOf : Options → Type 0
-HasSizesOf options = is_some options.sizes ≡ is_some options.sizes_file
-
-abbrev pub StatesSizes : Statement → Type 0
-StatesSizes (statements.Goal options exit) = HasSizesOf options
-StatesSizes (statements.Show wish) = HasSizesOf wish.options
-StatesSizes statement = ⊤
-
-abbrev pub HasSizes : Making → Type 0
-HasSizes (Goal options exit) = HasSizesOf options
-HasSizes (Show wish) = HasSizesOf wish.options
-HasSizes (State statement) = StatesSizes statement
-HasSizes making = ⊤
-
--- what is printed for people, and the status: a report of the bytes; or nothing if the sizes that are named are refused, if there are too many bytes, or if memory or a
--- read failed
-pub data Reports (making : Making) (bytes : List ℕ) (text : List ℕ) (status : ℕ) : Type 0 where
-  read : HasSizes making → IsReport making bytes text status → Reports making bytes text status
-  no_sizes : NamesSizes making → text ≡ [] → status ≡ 2 → Reports making bytes text status
-  too_large : max_input < length bytes → text ≡ [] → status ≡ 2 → Reports making bytes text status
-  failed : text ≡ [] → status ≡ 3 → Reports making bytes text status
+-- what is printed for people, and the status: a report of the bytes, by the options with the layout that was read; or nothing if the layout that is named is refused, if there
+-- are too many bytes, or if memory or a read failed
+pub data Reports (making : Making) (options : Options) (bytes : List ℕ) (text : List ℕ) (status : ℕ) : Type 0 where
+  read : (made : Options) → unlaid made ≡ unlaid options → HasLayout made → IsReport making made bytes text status → Reports making options bytes text status
+  no_layout : text ≡ [] → status ≡ 2 → Reports making options bytes text status
+  too_large : max_input < length bytes → text ≡ [] → status ≡ 2 → Reports making options bytes text status
+  failed : text ≡ [] → status ≡ 3 → Reports making options bytes text status
 
 -- the text and the status of a run, by what its command line asks and the bytes of its input
 pub data Says (asked : Asked) (bytes : List ℕ) (text : List ℕ) (status : ℕ) : Type 0 where
@@ -86,7 +62,7 @@ pub data Says (asked : Asked) (bytes : List ℕ) (text : List ℕ) (status : ℕ
   unread : (job : Job) → Asks asked job → text ≡ line_of ReadFailed → status ≡ 3 → Says asked bytes text status
   undriven : (workers : ℕ) (form : Form) → AsksDrive asked workers form → text ≡ line_of ReadFailed → status ≡ 3 → Says asked bytes text status
   parted : (wish : PartWish) → AsksPart asked wish → Parts wish bytes text status → Says asked bytes text status
-  reported : (making : Making) → AsksMaking asked making → Reports making bytes text status → Says asked bytes text status
+  reported : (making : Making) (options : Options) → AsksMaking asked making options → Reports making options bytes text status → Says asked bytes text status
   out_of_memory : text ≡ line_of OutOfMemory → status ≡ 3 → Says asked bytes text status
 
 -- something is said and printed
@@ -94,8 +70,8 @@ abbrev pub Shows : Asked → List ℕ → Option (List ℕ) → Option (List ℕ
 Shows asked bytes old new result = (text : List ℕ) × (status : ℕ) × Says asked bytes text status × Prints old new text status result
 
 -- what is made of the bytes for people is printed
-abbrev pub ShowsReport : Making → List ℕ → Option (List ℕ) → Option (List ℕ) → ℕ → Type 0
-ShowsReport making bytes old new result = (text : List ℕ) × (status : ℕ) × Reports making bytes text status × Prints old new text status result
+abbrev pub ShowsReport : Making → Options → List ℕ → Option (List ℕ) → Option (List ℕ) → ℕ → Type 0
+ShowsReport making options bytes old new result = (text : List ℕ) × (status : ℕ) × Reports making options bytes text status × Prints old new text status result
 
 -- a text with that status is written to the file that is named for it
 abbrev pub IsWritten : ℕ → Type 0
@@ -111,16 +87,21 @@ abbrev pub RunsTo : Asked → Option (List ℕ) → List ℕ → Option (List �
 RunsTo asked target bytes old new result = (text : List ℕ) × (status : ℕ) × Says asked bytes text status × Delivers target old new text status result
 
 -- nothing is printed, since a file that is named could not be read
-abbrev pub IsUnopened : Option (List ℕ) → Option (List ℕ) → Option (List ℕ) → ℕ → Type 0
-IsUnopened source old new result = IsSome source × (new ≡ old) × ((result ≡ 2) ⊎ (result ≡ 3))
+abbrev pub IsUnopened : List (List ℕ) → Option (List ℕ) → Option (List ℕ) → ℕ → Type 0
+IsUnopened sources old new result = (sources ≢ []) × (new ≡ old) × ((result ≡ 2) ⊎ (result ≡ 3))
 
--- a run says something and prints it, or writes it to the file that its line names; or it could not read a file
+-- a run says something and prints it, or writes it to the file that its line names; or it could not read one of the files
 abbrev pub Runs : Asked → Names → List ℕ → Option (List ℕ) → Option (List ℕ) → ℕ → Type 0
-Runs asked files bytes old new result = RunsTo asked files.output bytes old new result ⊎ IsUnopened files.input old new result
+Runs asked files bytes old new result = RunsTo asked files.output bytes old new result ⊎ IsUnopened files.inputs old new result
 
--- the bytes that are told of what is read: none are where a file is named
+-- what is told, and nothing if a file is named
+pub told_unless : List (List ℕ) → Option (List ℕ) → Option (List ℕ)
+told_unless [] told = told
+told_unless (name ∷ more) told = None
+
+-- the bytes that are told of what is read: those of the input, and nothing if a file is named
 abbrev pub told_by : Names → Option (List ℕ) → Option (List ℕ)
-told_by files told = if is_some files.input then None else told
+told_by files told = told_unless files.inputs told
 
 -- what was found is printed with its status, or that memory was refused is
 abbrev pub PrintsFound : Option (List ℕ) → Option (List ℕ) → Result (List ℕ) Refusal → ℕ → Type 0

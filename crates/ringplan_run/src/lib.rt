@@ -2,12 +2,15 @@
 //! the exit status.
 #![tactic(auto)]
 
+mod advice;
 mod driving;
 mod files;
+mod layouts;
 mod parting;
 mod program;
-mod sizes;
+mod several;
 
+pub use advice::run_advised;
 pub use driving::drive_bundle;
 pub use program::{end_without_memory, end_without_words, run, run_alone};
 pub use ringplan_job::Screen;

@@ -8,15 +8,18 @@ ghost use Rattle.ringplan_command.specs.Files.{files_of, no_files};
 ghost use Rattle.ringplan_command.specs.Tree.{word_of};
 ghost use Rattle.ringplan_jobs.specs.Io.{Prints, Tells};
 ghost use Rattle.ringplan_jobs.specs.Outcomes.{Finds};
-ghost use Rattle.ringplan_run.specs.Run.{FindsDrive, HasSizes, IsWritten, PrintsFound, PrintsStated, Reports, Runs, RunsTo, Shows, ShowsReport, told_by};
+ghost use Rattle.ringplan_run.specs.Run.{FindsDrive, HasLayout, IsWritten, PrintsFound, PrintsStated, Reports, Runs, RunsTo, Shows, ShowsReport, told_by, unlaid};
+ghost use Rattle.change_text.specs.declared.options.Options.{Options as OptionsValue};
 ghost use Rattle.ringplan_job.specs.declared.job.Job.{Job};
 ghost use Rattle.ringplan_job.specs.declared.making.Making.{Making};
 ghost use Rattle.ringplan_job.specs.declared.job.Job.TheVariants.{Check};
 
 use crate::driving::drive_bundle;
-use crate::files::{Limit, open, save, say};
+use crate::files::{Limit, save, say};
+use crate::layouts::with_layout;
 use crate::parting::print_part;
-use crate::sizes::with_sizes;
+use crate::several::open_all;
+use change_text::Options;
 use ring_names::Refusal;
 use ringplan_command::{CommandLine, Files as Named, Form, NO_WORDS, Request, parse};
 use ringplan_job::{Making, Screen};
@@ -46,7 +49,7 @@ const STEPS: u8 = 4;
 /// refused, 3 where memory, an input or an output failed, and 4 for a plan with steps where `goal --exit-code` asks for that. `plan`, `check`, `play`, `drive`,
 /// `replay` and `migrate` print refusals of a bundle on the output, the other commands on standard error. What is wrong with a command line goes to standard error.
 ///
-/// Words for people have colours where the screen has them, or the line says so. Where the line names a file, that is read in place of the input; where it names one with `-o`, what would be printed with status 0 or 4 is written there. It
+/// Words for people have colours where the screen has them, or the line says so. If the line names files, these are read one after the other in place of the input, which `-` names among them; if it names one with `-o`, what would be printed with status 0 or 4 is written there. It
 /// waits for the threads that `drive` and `check --workers` ask for; every other line that names a job is done by `run_alone`.
 pub fn run<
     RT: AllocGlobal + Files + Eprint + Threads + Wait + Sync,
@@ -63,16 +66,16 @@ pub fn run<
 {
     let CommandLine { request, files } = parse(rt.alloc(), words);
     let Named {
-        input: source,
+        inputs,
         output: target,
     } = files;
     let request = request.on(seen_on(screen, &target));
-    match source {
-        None => run_to(rt, request, target, input, output),
-        Some(name) => match open(rt, name.as_str(), limit_of(&request)) {
-            Ok(mut file) => run_to(rt, request, target, &mut file, output),
-            Err(status) => status,
-        },
+    if inputs.is_empty() {
+        return run_to(rt, request, target, input, output);
+    }
+    match open_all(rt, inputs.as_slice(), limit_of(&request), input) {
+        Ok(mut files) => run_to(rt, request, target, &mut files, output),
+        Err(status) => status,
     }
 }
 
@@ -154,7 +157,7 @@ fn run_request<RT: AllocGlobal + Files + Eprint + Threads + Wait + Sync, R: Read
             let found = drive_of(rt, alloc, workers, form, input);
             tell(alloc, found, output)
         }
-        Request::Make(making) => run_making(rt, making, input, output),
+        Request::Make(making, options) => run_making(rt, making, options, input, output),
         Request::Describe(text) => finish(output, text.as_slice(), 0),
         Request::Help(text) => finish(output, text.as_slice(), 0),
         Request::Mistaken(text) => {
@@ -165,18 +168,19 @@ fn run_request<RT: AllocGlobal + Files + Eprint + Threads + Wait + Sync, R: Read
     }
 }
 
-// Reads the sizes that are named, and does what is asked for with the whole input for people.
+// Reads the layout that is named, and does what is asked for with the whole input for people.
 fn run_making<RT: AllocGlobal + Files + Eprint, R: Read + Drop, W: Write>(
     rt: &RT,
     making: Making,
+    options: Options,
     input: &mut R,
     output: &mut W,
 ) -> u8
-    ensures { (made : Making) × ((asked : Asked) → AsksMaking asked making → AsksMaking asked made) × (bytes : List ℕ)
-        × Tells (R.remaining input.old) bytes × ShowsReport made bytes (W.contents output.old) (W.contents output.new) result }
+    ensures { (bytes : List ℕ) × Tells (R.remaining input.old) bytes
+        × ShowsReport making options bytes (W.contents output.old) (W.contents output.new) result }
 {
-    match with_sizes(rt, making) {
-        Ok(made) => print_report(rt, &made, input, output),
+    match with_layout(rt, options) {
+        Ok(made) => print_report(rt, making, &made, input, output),
         Err(status) => status,
     }
 }
@@ -184,15 +188,16 @@ fn run_making<RT: AllocGlobal + Files + Eprint, R: Read + Drop, W: Write>(
 // Prints what is made of the whole input for people, on standard error why nothing is, and returns the exit status.
 fn print_report<RT: AllocGlobal + Eprint, R: Read + Drop, W: Write>(
     rt: &RT,
-    making: &Making,
+    making: Making,
+    options: &Options,
     input: &mut R,
     output: &mut W,
 ) -> u8
-    requires { HasSizes making.now }
-    ensures { (bytes : List ℕ) × Tells (R.remaining input.old) bytes
-        × ShowsReport making.now bytes (W.contents output.old) (W.contents output.new) result }
+    requires { HasLayout options.now }
+    ensures { (asked : OptionsValue) → unlaid options.now ≡ unlaid asked → (bytes : List ℕ) × Tells (R.remaining input.old) bytes
+        × ShowsReport making asked bytes (W.contents output.old) (W.contents output.new) result }
 {
-    match report_of(rt.alloc(), making, input) {
+    match report_of(rt.alloc(), making, options, input) {
         Ok(report) => {
             say(rt, report.errors.as_slice());
             finish(output, report.output.as_slice(), report.status)
@@ -207,15 +212,16 @@ fn print_report<RT: AllocGlobal + Eprint, R: Read + Drop, W: Write>(
 // What is printed of the whole input for people.
 fn report_of<R: Read + Drop>(
     alloc: Global,
-    making: &Making,
+    making: Making,
+    options: &Options,
     input: &mut R,
 ) -> Result<Report, Refusal>
-    requires { HasSizes making.now }
-    ensures { IfOk result (λ r. (bytes : List ℕ) × Tells (R.remaining input.old) bytes
-        × Reports making.now bytes r.output.items r.status) }
+    requires { HasLayout options.now }
+    ensures { IfOk result (λ r. (asked : OptionsValue) → unlaid options.now ≡ unlaid asked → (bytes : List ℕ) × Tells (R.remaining input.old) bytes
+        × Reports making asked bytes r.output.items r.status) }
 {
     match read_all(alloc, input) {
-        Ok(bytes) => report_bundle(alloc, making, bytes.as_slice()),
+        Ok(bytes) => report_bundle(alloc, making, options, bytes.as_slice()),
         Err(refusal) => report_unread(alloc, refusal),
     }
 }

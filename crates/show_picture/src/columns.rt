@@ -1,7 +1,7 @@
 //! The columns of a map: one for each node, or for many together.
 
 use crate::sheet::Sheet;
-use helpers::{at, rack, small};
+use helpers::{Labels, at, small};
 use ring_names::{NodeId, Refusal};
 
 // How many columns a map has at most.
@@ -20,12 +20,12 @@ pub struct Column {
 
 /// The columns, and the column of each node that is a member before the plan or after it.
 #[derive(Drop)]
-pub struct Columns {
+pub struct Columns<'a> {
     pub columns: Vec<Column>,
     /// Which nodes share a column.
     pub sharing: Sharing,
-    /// The byte behind which a node's name names its rack, where racks are asked for.
-    pub racks_behind: Option<u8>,
+    /// The racks of nodes, if a map is grouped by them.
+    pub racks: Option<&'a Labels>,
     // by node, 1 and its column, or 0
     places: Vec<u32>,
 }
@@ -50,29 +50,14 @@ struct Placed {
     node: u32,
 }
 
-// The number of the node's rack among those seen; the racks are told by a node of each.
-fn rack_of(sheet: &Sheet, seen: &mut Vec<u32>, node: u32, behind: u8) -> Result<u32, Refusal> {
-    let own = rack(sheet.ring.name(node), behind);
-    let mut number = 0u32;
-    for other in seen.as_slice() {
-        if rack(sheet.ring.name(*other), behind) == own {
-            return Ok(number);
-        }
-        number = number.saturating_add(1);
-    }
-    seen.push(node)?;
-    Ok(number)
-}
-
 // The nodes that are members before the plan or after it, by rack, joiners of a rack last.
-fn place_nodes(sheet: &Sheet, racks_behind: Option<u8>) -> Result<Vec<Placed>, Refusal> {
-    let mut seen = Vec::new(sheet.alloc);
+fn place_nodes(sheet: &Sheet, racks: Option<&Labels>) -> Result<Vec<Placed>, Refusal> {
     let mut placed = Vec::new(sheet.alloc);
     for node in 0..small(sheet.ring.nodes().len()) {
         let is_joining = sheet.joins(node);
         if is_joining || sheet.ring.is_member(NodeId(node)) {
-            let rack = match racks_behind {
-                Some(behind) => rack_of(sheet, &mut seen, node, behind)?,
+            let rack = match racks {
+                Some(racks) => racks.of(node),
                 None => 0,
             };
             placed.push(Placed {
@@ -101,23 +86,23 @@ fn count_racks(placed: &[Placed]) -> usize {
 }
 
 // Who shares a column, so that there are not too many.
-fn choose_sharing(placed: &[Placed], racks_behind: Option<u8>) -> Sharing {
+fn choose_sharing(placed: &[Placed], has_racks: bool) -> Sharing {
     if placed.len() <= MOST {
         return Sharing::Nobody;
     }
-    if racks_behind.is_some() && count_racks(placed) <= MOST {
+    if has_racks && count_racks(placed) <= MOST {
         return Sharing::Racks;
     }
     let shared = placed.len().saturating_add(MOST - 2) / (MOST - 1);
     Sharing::Counts(small(shared))
 }
 
-impl Columns {
+impl<'a> Columns<'a> {
     /// A column for each node where there are at most 60; else one for each rack, joiners apart, where racks are asked for and there are no more of these; else
     /// one for so many nodes, joiners apart.
-    pub fn of(sheet: &Sheet, racks_behind: Option<u8>) -> Result<Columns, Refusal> {
-        let mut placed = place_nodes(sheet, racks_behind)?;
-        let sharing = choose_sharing(placed.as_slice(), racks_behind);
+    pub fn of(sheet: &Sheet, racks: Option<&'a Labels>) -> Result<Columns<'a>, Refusal> {
+        let mut placed = place_nodes(sheet, racks)?;
+        let sharing = choose_sharing(placed.as_slice(), racks.is_some());
         if matches!(sharing, Sharing::Counts(_)) {
             for place in 0..placed.len() {
                 if let Some(one) = placed.get_mut(place) {
@@ -129,7 +114,7 @@ impl Columns {
         let mut columns = Columns {
             columns: Vec::new(sheet.alloc),
             sharing,
-            racks_behind,
+            racks,
             places: vec![in sheet.alloc; 0u32; sheet.ring.nodes().len()]?,
         };
         for one in placed.as_slice() {

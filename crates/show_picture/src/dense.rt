@@ -169,9 +169,18 @@ fn label(sheet: &Sheet, band: &Band) -> Words {
         Some(node) => {
             words.text(sign(band.kind));
             words.text(sheet.ring.name(node));
+            if sheet.is_silent(node) {
+                words.byte(b' ');
+                words.text(sheet.present.silence(node));
+            }
         }
         None => match band.kind {
-            0 => push_many(&mut words, band.count, b"more is down", b"more are down"),
+            0 => push_many(
+                &mut words,
+                band.count,
+                b"more does not answer",
+                b"more do not answer",
+            ),
             1 => push_many(&mut words, band.count, b"more leaves", b"more leave"),
             2 => push_many(&mut words, band.count, b"more joins", b"more join"),
             _ => push_many(&mut words, band.count, b"more node", b"more nodes"),
@@ -196,7 +205,11 @@ impl Grid {
         };
         let right = left.saturating_add(column.saturating_mul(columns));
         let rows = small(bands.bands.len());
-        let row = if rows > 18 { 20 } else { 24 };
+        let row = match (sheet.volumes, rows) {
+            (Some(_), _) => 28,
+            (None, 0..=18) => 24,
+            (None, _) => 20,
+        };
         Ok(Grid {
             left,
             column,
@@ -310,14 +323,27 @@ impl Grid {
         let Some(node) = band.node else {
             return;
         };
-        let once = Point::at(self.right.saturating_add(GAP), y);
-        let look = Look::new(b"k", 10, b"");
-        push_fitting(out, once, look, &sheet.at_once(node), AT_ONCE - GAP);
+        self.push_work(sheet, out, node, y);
         let owned = Point::at(
             self.right.saturating_add(GAP + AT_ONCE),
             middle.saturating_sub(5),
         );
         push_slots(sheet, out, node, owned, self.most)
+    }
+
+    // How many transfers a node never has more of at once, and below that how much it gives and takes.
+    fn push_work(&self, sheet: &Sheet, out: &mut Words, node: u32, y: u32) {
+        let look = Look::new(b"k", 10, b"");
+        let x = self.right.saturating_add(GAP);
+        let sizes = sheet.sizes(node);
+        out.heed(&sizes);
+        let lift = if sizes.len() > 0 { 6 } else { 0 };
+        let once = Point::at(x, y.saturating_sub(lift));
+        push_fitting(out, once, look, &sheet.at_once(node), AT_ONCE - GAP);
+        if sizes.len() > 0 {
+            let below = Point::at(x, y.saturating_add(6));
+            push_fitting(out, below, look, &sizes, AT_ONCE - GAP)
+        }
     }
 
     // The bars of a row: takes upwards, gives downwards.

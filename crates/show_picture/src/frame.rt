@@ -7,7 +7,9 @@ use crate::svg::{Area, Caption, MARGIN, Point, WIDE, push_area, push_said, push_
 use crate::widths::width;
 use helpers::{Words, parts_of, small};
 use ring_names::Refusal;
-use show_plan::{fewest_moves, push_change, push_many, push_moves, push_names, push_quorum};
+use show_plan::{
+    fewest_moves, push_change, push_many, push_moves, push_names, push_quorum, push_short,
+};
 
 // How wide the bar of progress is.
 const BAR: u32 = 210;
@@ -31,7 +33,9 @@ fn tell_ring(sheet: &Sheet, out: &mut Words) {
     push_quorum(out, sheet.ring, b", any ", b" and any ");
     out.text(b". The widest round has ");
     push_many(out, scene.widest(), b"copy.", b"copies.");
-    if scene.move_count() > 0 && scene.move_count() == fewest_moves(sheet.ring, scene) {
+    if scene.move_count() > 0
+        && scene.move_count() == fewest_moves(sheet.ring, scene, sheet.present)
+    {
         out.text(b" No plan moves fewer.");
     }
 }
@@ -60,7 +64,30 @@ pub fn push_frame(sheet: &Sheet, out: &mut Words, caption: &Caption) {
     );
     let about = Look::new(b"s", 12, b"");
     push_fitting(out, Point::at(MARGIN, 55), about, &caption.about, ROOM);
+    push_sizes(sheet, out);
     push_progress(sheet, out)
+}
+
+// How much moves, or how much of it is left, if partitions have sizes.
+fn push_sizes(sheet: &Sheet, out: &mut Words) {
+    let Some(volumes) = sheet.volumes else {
+        return;
+    };
+    let mut words = Words::new(sheet.alloc);
+    match &volumes.left {
+        Some(left) => {
+            push_short(&mut words, left.moved);
+            words.text(b" of ");
+            push_short(&mut words, volumes.moved);
+            words.text(b" left to move");
+        }
+        None => {
+            push_short(&mut words, volumes.moved);
+            words.text(b" to move in all");
+        }
+    }
+    let look = Look::new(b"s", 12, b"");
+    push_fitting(out, Point::at(MARGIN, 75), look, &words, ROOM / 2)
 }
 
 // The bar that says how many steps are done.
@@ -101,9 +128,9 @@ pub fn push_key(out: &mut Words, at: Point, class: &[u8], more: &[u8], words: &[
     Point::at(x.saturating_add(width(words, 11)).saturating_add(20), at.y)
 }
 
-/// The class of a node's name: its colour and weight say what it does, and it is crossed out where it is down.
+/// The class of a node's name: its colour and weight say what it does, and it is crossed out if it does not answer.
 pub fn name_class(sheet: &Sheet, node: u32) -> &'static [u8] {
-    match (sheet.is_down(node), sheet.leaves(node), sheet.joins(node)) {
+    match (sheet.is_silent(node), sheet.leaves(node), sheet.joins(node)) {
         (false, true, _) => b"n leaves",
         (false, _, true) => b"n joins",
         (false, _, _) => b"n",
@@ -131,7 +158,7 @@ pub fn push_name(sheet: &Sheet, out: &mut Words, at: Point, node: u32, room: u32
 pub fn push_idle(sheet: &Sheet, out: &mut Words, at: Point) -> Result<(), Refusal> {
     let mut idle = Vec::new(sheet.alloc);
     for node in 0..small(sheet.ring.nodes().len()) {
-        let has_row = sheet.scene.takes_part(node) || sheet.is_down(node);
+        let has_row = sheet.scene.takes_part(node) || sheet.is_silent(node);
         if sheet.present.is_member(node) && !has_row {
             idle.push(node)?;
         }

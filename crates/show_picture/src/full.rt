@@ -21,6 +21,9 @@ const LANE: u32 = 19;
 
 const ROW: u32 = 44;
 
+// The least that a row is if it says how much moves.
+const SIZED_ROW: u32 = 56;
+
 // Where the first row begins, and how far behind the columns the slots that a node owns begin.
 const TOP: u32 = 112;
 
@@ -69,7 +72,11 @@ impl Plot {
             bottom: TOP,
             most: most_owned(sheet, nodes),
         };
-        plot.place(nodes, lanes)?;
+        let least = match sheet.volumes {
+            Some(_) => SIZED_ROW,
+            None => ROW,
+        };
+        plot.place(nodes, lanes, least)?;
         Ok(plot)
     }
 
@@ -78,11 +85,11 @@ impl Plot {
         have_room(sheet, self.column.saturating_sub(4))
     }
 
-    // Gives each node its row.
-    fn place(&mut self, nodes: &[u32], lanes: &Lanes) -> Result<(), Refusal> {
+    // Gives each node its row, which is at least so high.
+    fn place(&mut self, nodes: &[u32], lanes: &Lanes, least: u32) -> Result<(), Refusal> {
         for place in 0..nodes.len() {
             let needed = lanes.needed(place);
-            let height = needed.saturating_mul(LANE).max(ROW);
+            let height = needed.saturating_mul(LANE).max(least);
             self.rows.push(Row {
                 node: nodes[place],
                 y: self.bottom,
@@ -147,29 +154,33 @@ impl Plot {
         push_rule(out, from, Point::at(self.right, line))
     }
 
-    // The name of a row's node, what it does, and how many transfers it never has more of at once.
+    // The name of a row's node, what it does, how many transfers it never has more of at once, and how much it gives and takes.
     fn push_role(&self, sheet: &Sheet, out: &mut Words, node: u32, middle: u32) {
-        let at_once = sheet.at_once(node);
-        out.heed(&at_once);
-        let role = role_of(sheet, node, at_once.len() > 0);
-        let has_three = at_once.len() > 0 && role.len() > 0;
-        let first = middle.saturating_sub(if has_three { 8 } else { 1 });
+        let (role, at_once, sizes) = sides_of(sheet, node);
+        let first = match count_said(&role, &at_once, &sizes) {
+            0 | 1 => middle.saturating_sub(1),
+            2 => middle.saturating_sub(8),
+            _ => middle.saturating_sub(14),
+        };
         let x = self.left.saturating_sub(12);
         let room = self.left.saturating_sub(MARGIN + 12);
         push_name(sheet, out, Point::at(x, first), node, room);
-        self.push_side(out, first.saturating_add(13), &role);
-        self.push_side(out, first.saturating_add(25), &at_once)
+        let y = self.push_side(out, first.saturating_add(13), &role);
+        let y = self.push_side(out, y, &at_once);
+        let _ = self.push_side(out, y, &sizes);
     }
 
-    // Small words before a row.
-    fn push_side(&self, out: &mut Words, y: u32, words: &Words) {
+    // Small words before a row, if there are any. Answers where the next may stand.
+    fn push_side(&self, out: &mut Words, y: u32, words: &Words) -> u32 {
         out.heed(words);
-        if words.len() > 0 {
-            let look = Look::new(b"k", 10, b" text-anchor=\"end\"");
-            let place = Point::at(self.left.saturating_sub(12), y);
-            let room = self.left.saturating_sub(MARGIN + 12);
-            push_fitting(out, place, look, words, room)
+        if words.len() == 0 {
+            return y;
         }
+        let look = Look::new(b"k", 10, b" text-anchor=\"end\"");
+        let place = Point::at(self.left.saturating_sub(12), y);
+        let room = self.left.saturating_sub(MARGIN + 12);
+        push_fitting(out, place, look, words, room);
+        y.saturating_add(12)
     }
 
     // The bar of a copy in a row's lane.
@@ -236,19 +247,33 @@ fn push_plan_keys(out: &mut Words, start: Point) {
 fn words_before(sheet: &Sheet, nodes: &[u32]) -> Result<u32, Refusal> {
     let mut wide = NARROW;
     for node in nodes {
-        let at_once = sheet.at_once(*node);
-        let role = role_of(sheet, *node, at_once.len() > 0);
+        let (role, at_once, sizes) = sides_of(sheet, *node);
         wide = wide.max(width(sheet.ring.name(*node), 12).saturating_mul(9) / 8);
         wide = wide.max(width(role.end()?.as_slice(), 10));
         wide = wide.max(width(at_once.end()?.as_slice(), 10));
+        wide = wide.max(width(sizes.end()?.as_slice(), 10));
     }
     Ok(wide.min(BROAD))
+}
+
+// What a node does, how many transfers it never has more of at once, and how much it gives and takes.
+fn sides_of(sheet: &Sheet, node: u32) -> (Words, Words, Words) {
+    let at_once = sheet.at_once(node);
+    let role = role_of(sheet, node, at_once.len() > 0);
+    (role, at_once, sheet.sizes(node))
+}
+
+// How many of these have words.
+fn count_said(role: &Words, at_once: &Words, sizes: &Words) -> u32 {
+    u32::from(role.len() > 0)
+        .saturating_add(u32::from(at_once.len() > 0))
+        .saturating_add(u32::from(sizes.len() > 0))
 }
 
 // `joins`, and `down, leaves, never more than`
 fn role_of(sheet: &Sheet, node: u32, has_bound: bool) -> Words {
     let parts = [
-        (sheet.is_down(node), b"down".as_slice()),
+        (sheet.is_silent(node), sheet.present.silence(node)),
         (sheet.joins(node), b"joins".as_slice()),
         (sheet.leaves(node), b"leaves".as_slice()),
         (has_bound, b"never more than".as_slice()),

@@ -7,7 +7,7 @@ use crate::frame::{caption_of, name_class, push_frame, push_key};
 use crate::sheet::Sheet;
 use crate::svg::{Area, MARGIN, Point, WIDE, push_area, push_picture, push_said};
 use crate::widths::width;
-use helpers::{Words, at, parts_of, rack, small};
+use helpers::{Labels, Words, at, parts_of, small};
 use ring_names::Refusal;
 use show_plan::push_many;
 
@@ -128,10 +128,10 @@ impl Grid {
         for column in columns.columns.as_slice() {
             self.push_ground(out, place, column);
             self.push_label(sheet, out, place, (column, &label(sheet, columns, column)));
-            if let (Some(behind), Sharing::Nobody) = (columns.racks_behind, columns.sharing) {
+            if let (Some(racks), Sharing::Nobody) = (columns.racks, columns.sharing) {
                 if last != Some(column.rack) {
                     let mut words = Words::new(sheet.alloc);
-                    words.text(rack(sheet.ring.name(column.node), behind));
+                    words.text(racks.name(column.node));
                     let room = self.column.saturating_mul(2).max(30);
                     let start = Point::at(self.x(place), HEAD);
                     push_fitting(out, start, Look::new(b"h", 11, b""), &words, room);
@@ -231,13 +231,19 @@ impl Grid {
 fn label(sheet: &Sheet, columns: &Columns, column: &Column) -> Words {
     let own = sheet.ring.name(column.node);
     let mut words = Words::new(sheet.alloc);
-    match (columns.sharing, columns.racks_behind) {
-        (Sharing::Racks, Some(behind)) => words.text(rack(own, behind)),
+    match (columns.sharing, columns.racks) {
+        (Sharing::Racks, Some(racks)) => words.text(racks.name(column.node)),
         (Sharing::Counts(_), _) => {
             words.text(own);
             words.text(b" ..");
         }
-        _ => words.text(own),
+        _ => {
+            words.text(own);
+            if sheet.is_silent(column.node) {
+                words.byte(b' ');
+                words.text(sheet.present.silence(column.node));
+            }
+        }
     }
     words
 }
@@ -323,8 +329,8 @@ fn joiners_words(sheet: &Sheet) -> Words {
 
 /// The map of who owns what before the plan and after it, as SVG: by node, grouped by rack where racks are asked for. Above 128 partitions rows have several, and
 /// above 60 nodes columns. Its only refusal is `OutOfMemory`.
-pub fn map_picture(sheet: &Sheet, racks_behind: Option<u8>) -> Result<Vec<u8>, Refusal> {
-    let columns = Columns::of(sheet, racks_behind)?;
+pub fn map_picture(sheet: &Sheet, racks: Option<&Labels>) -> Result<Vec<u8>, Refusal> {
+    let columns = Columns::of(sheet, racks)?;
     let cells = Cells::of(sheet, &columns)?;
     let grid = Grid::of(sheet, &columns, &cells)?;
     let caption = caption_of(sheet);

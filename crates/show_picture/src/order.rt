@@ -4,7 +4,7 @@ use crate::sheet::Sheet;
 use helpers::small;
 use ring_names::Refusal;
 
-// A node that has a row: those that are down first, then leavers, then joiners, then by how much they do.
+// A node that has a row: those that do not answer first, then leavers, then joiners, then by how much they do.
 #[derive(Clone, Copy, PartialEq, Eq, PartialOrd, Ord)]
 struct Ranked {
     kind: u32,
@@ -15,9 +15,9 @@ struct Ranked {
 /// How many kinds of nodes there are.
 pub const KINDS: usize = 4;
 
-/// 0 for a node that is down, 1 for one that leaves, 2 for one that joins, and 3 for one that stays.
+/// 0 for a node that does not answer, 1 for one that leaves, 2 for one that joins, and 3 for one that stays.
 pub fn kind(sheet: &Sheet, node: u32) -> u32 {
-    if sheet.is_down(node) {
+    if sheet.is_silent(node) {
         0
     } else if sheet.leaves(node) {
         1
@@ -28,11 +28,11 @@ pub fn kind(sheet: &Sheet, node: u32) -> u32 {
     }
 }
 
-/// The nodes that take part or are down: those that are down, those that leave, those that join and those that stay, the busiest of each first.
+/// The nodes that take part or do not answer: those that do not answer, those that leave, those that join and those that stay, the busiest of each first.
 pub fn in_order(sheet: &Sheet) -> Result<Vec<u32>, Refusal> {
     let mut ranked = Vec::new(sheet.alloc);
     for node in 0..small(sheet.ring.nodes().len()) {
-        if sheet.scene.takes_part(node) || sheet.is_down(node) {
+        if sheet.scene.takes_part(node) || sheet.is_silent(node) {
             ranked.push(Ranked {
                 kind: kind(sheet, node),
                 idleness: u32::MAX - sheet.work(node),

@@ -1,10 +1,10 @@
 //! What a picture is made of.
 
-use helpers::{Words, at};
+use helpers::{Words, at, word};
 use plan_moves::Progress;
 use plan_text::Plan;
 use ring_table::Ring;
-use show_plan::{Present, Scene, Shown};
+use show_plan::{Present, Scene, Shown, Volumes, push_short};
 use std::alloc::Global;
 
 /// An approved plan with what is shown of it, and how far a run has come, where there is one.
@@ -17,6 +17,8 @@ pub struct Sheet<'a> {
     /// How the ring stands after the last entry of the history, or before the first step.
     pub present: &'a Present,
     pub progress: Option<&'a Progress>,
+    /// How much moves, if partitions have sizes.
+    pub volumes: Option<&'a Volumes>,
 }
 
 impl<'a> Sheet<'a> {
@@ -35,9 +37,31 @@ impl<'a> Sheet<'a> {
         self.scene.joins.as_slice().contains(&node)
     }
 
-    /// Whether the node is down.
-    pub fn is_down(&self, node: u32) -> bool {
-        self.present.is_down(node)
+    /// Whether the node does not answer, since it is dead or down.
+    pub fn is_silent(&self, node: u32) -> bool {
+        self.present.is_silent(node)
+    }
+
+    /// How much the node gives and takes: `gives 8.5 G, takes 120`. No words if partitions have no sizes, or nothing of its moves.
+    pub fn sizes(&self, node: u32) -> Words {
+        let mut text = Words::new(self.alloc);
+        let Some(volumes) = self.volumes else {
+            return text;
+        };
+        let gives = word(volumes.gives.as_slice(), node as usize);
+        let takes = word(volumes.takes.as_slice(), node as usize);
+        if gives > 0 {
+            text.text(b"gives ");
+            push_short(&mut text, gives);
+        }
+        if gives > 0 && takes > 0 {
+            text.text(b", ");
+        }
+        if takes > 0 {
+            text.text(b"takes ");
+            push_short(&mut text, takes);
+        }
+        text
     }
 
     /// How many transfers the node has.

@@ -1,6 +1,7 @@
 //! Who joins and who leaves, and what must move for it.
 
 use crate::names::{push_many, push_names};
+use crate::present::Present;
 use crate::scene::Scene;
 use helpers::{Words, small};
 use ring_table::Ring;
@@ -47,12 +48,11 @@ pub fn push_moves(out: &mut Words, scene: &Scene, one: &[u8], more: &[u8]) {
     push_many(out, scene.moved_slots, b"slot", b"slots")
 }
 
-/// The fewest slots that must move where these nodes join and leave: each of a leaver, and as many more as give each joiner its share of all,
+/// The fewest slots that must move if these nodes join and leave: each of a leaver or of a dead node, and as many more as give each joiner its share of all,
 /// rounded down.
-pub fn fewest_moves(ring: &Ring, scene: &Scene) -> u32 {
-    let members = count_members(ring, scene);
+pub fn fewest_moves(ring: &Ring, scene: &Scene, present: &Present) -> u32 {
     let total = ring.q().saturating_mul(ring.n());
-    let share = match total.checked_div(members) {
+    let share = match total.checked_div(count_living(ring, scene, present)) {
         Some(share) => share,
         None => 0,
     };
@@ -61,7 +61,7 @@ pub fn fewest_moves(ring: &Ring, scene: &Scene) -> u32 {
     for row in ring.rows() {
         let mut left = 0u32;
         for node in row.as_slice() {
-            if scene.leaves.as_slice().contains(&node.0) {
+            if present.is_dead(node.0) || scene.leaves.as_slice().contains(&node.0) {
                 left = left.saturating_add(1);
             }
         }
@@ -71,11 +71,22 @@ pub fn fewest_moves(ring: &Ring, scene: &Scene) -> u32 {
     leaving.saturating_add(share.saturating_mul(joins).saturating_sub(given))
 }
 
-/// How many members there are in the end.
-pub fn count_members(ring: &Ring, scene: &Scene) -> u32 {
+// How many members there are in the end that are not dead.
+fn count_living(ring: &Ring, scene: &Scene, present: &Present) -> u32 {
     let mut count = 0u32;
     for node in 0..small(ring.nodes().len()) {
-        if scene.stays(ring, node) {
+        if scene.stays(ring, node) && !present.is_dead(node) {
+            count = count.saturating_add(1);
+        }
+    }
+    count
+}
+
+/// How many members there are in the end that answer.
+pub fn count_members(ring: &Ring, scene: &Scene, present: &Present) -> u32 {
+    let mut count = 0u32;
+    for node in 0..small(ring.nodes().len()) {
+        if scene.stays(ring, node) && !present.is_silent(node) {
             count = count.saturating_add(1);
         }
     }

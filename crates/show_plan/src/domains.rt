@@ -1,16 +1,13 @@
-//! Racks, as the names of nodes tell them.
+//! How the slots of partitions are spread over racks.
 
-use helpers::rack;
+use helpers::Labels;
 use ring_names::{Listed, NodeId};
-use ring_table::Ring;
 
 // Whether two of the owners stand in one rack.
-fn shares_rack(ring: &Ring, row: &[NodeId], behind: u8) -> bool {
+fn shares_rack(row: &[NodeId], racks: &Labels) -> bool {
     for first in 0..row.len() {
         for second in first + 1..row.len() {
-            let one = rack(ring.name(row[first].0), behind);
-            let other = rack(ring.name(row[second].0), behind);
-            if one == other {
+            if racks.of(row[first].0) == racks.of(row[second].0) {
                 return true;
             }
         }
@@ -19,10 +16,10 @@ fn shares_rack(ring: &Ring, row: &[NodeId], behind: u8) -> bool {
 }
 
 /// How many partitions have two slots in one rack.
-pub fn sharing(ring: &Ring, rows: &[Listed<NodeId>], behind: u8) -> u32 {
+pub fn sharing(rows: &[Listed<NodeId>], racks: &Labels) -> u32 {
     let mut count = 0u32;
     for row in rows {
-        if shares_rack(ring, row.as_slice(), behind) {
+        if shares_rack(row.as_slice(), racks) {
             count = count.saturating_add(1);
         }
     }

@@ -1,4 +1,4 @@
-//! What remains where nodes fail, beside those that are down.
+//! What remains if nodes fail, beside those that do not answer.
 
 use crate::present::Present;
 use helpers::{at, raise, small};
@@ -6,18 +6,18 @@ use ring_names::{Listed, NodeId, Refusal};
 use ring_table::Ring;
 use std::alloc::Global;
 
-// How many of the owners are up.
+// How many of the owners answer.
 fn count_up(row: &[NodeId], present: &Present) -> u32 {
     let mut count = 0u32;
     for node in row {
-        if !present.is_down(node.0) {
+        if !present.is_silent(node.0) {
             count = count.saturating_add(1);
         }
     }
     count
 }
 
-/// How many partitions answer reads and writes without the nodes that are down.
+/// How many partitions answer reads and writes without the silent nodes.
 pub fn kept(ring: &Ring, rows: &[Listed<NodeId>], present: &Present) -> u32 {
     let needed = ring.r().max(ring.w());
     let mut count = 0u32;
@@ -29,8 +29,8 @@ pub fn kept(ring: &Ring, rows: &[Listed<NodeId>], present: &Present) -> u32 {
     count
 }
 
-/// How many partitions still answer reads and writes, whichever node fails beside those that are down: all that do without these, but for those that have no
-/// owner to spare and lose one, where the node fails that the most of them have.
+/// How many partitions still answer reads and writes, whichever node fails beside the silent ones: all that do without these, but for those that have no
+/// owner to spare and lose one, if the node fails that the most of them have.
 pub fn kept_by_one(
     alloc: Global,
     ring: &Ring,
@@ -48,14 +48,14 @@ pub fn kept_by_one(
     }
     let mut most = 0u32;
     for node in 0..small(lost.len()) {
-        if !present.is_down(node) {
+        if !present.is_silent(node) {
             most = most.max(at(lost.as_slice(), node as usize));
         }
     }
     Ok(kept(ring, rows, present).saturating_sub(most))
 }
 
-/// How many partitions pairs of nodes that are up share.
+/// How many partitions pairs of nodes that answer share.
 #[derive(Clone, Copy)]
 pub struct Shared {
     /// The most of any pair.
@@ -64,7 +64,7 @@ pub struct Shared {
     pub sum: u32,
 }
 
-/// Counts the partitions that each pair of nodes that are up shares.
+/// Counts the partitions that each pair of nodes that answer shares.
 pub fn count_shared(
     alloc: Global,
     ring: &Ring,
@@ -83,11 +83,11 @@ pub fn count_shared(
     Ok(shared)
 }
 
-// Those of the owners that are up.
+// Those of the owners that answer.
 fn up_of(alloc: Global, row: &[NodeId], present: &Present) -> Result<Vec<u32>, Refusal> {
     let mut up = Vec::new(alloc);
     for node in row {
-        if !present.is_down(node.0) {
+        if !present.is_silent(node.0) {
             up.push(node.0)?;
         }
     }

@@ -2,17 +2,18 @@
 
 use crate::change::{count_members, fewest_moves, push_change, push_moves};
 use crate::domains::sharing;
-use crate::failing::{all_pairs, count_crowded, count_shared, kept, kept_by_one};
+use crate::failing::{all_pairs, count_crowded, count_shared, kept_by_one};
 use crate::names::{push_many, push_names, push_quorum};
 use crate::present::Present;
 use crate::rounds::push_rounds;
 use crate::running::push_progress;
 use crate::scene::Scene;
+use crate::silent::{count_answering, push_failing, tell_silent};
 use crate::span::Span;
 use crate::table::push_table;
 use crate::volumes::Volumes;
-use crate::writing::{end_line, push_long, push_tenths};
-use helpers::{Words, at, parts_of, small};
+use crate::writing::{end_line, push_long, push_tenths, push_time};
+use helpers::{Labels, Words, at, parts_of, small};
 use plan_moves::Progress;
 use plan_text::Plan;
 use ring_names::Refusal;
@@ -50,8 +51,8 @@ pub struct View<'a> {
     pub shape: Shape,
     /// How much moves, where sizes are asked for.
     pub sized: Option<Sized<'a>>,
-    /// The byte behind which a node's name names its rack, where racks are asked for.
-    pub racks_behind: Option<u8>,
+    /// The racks of nodes, if they are known.
+    pub racks: Option<&'a Labels>,
 }
 
 // Behind which column of a line its words begin.
@@ -83,11 +84,12 @@ fn tell_moves(view: &View, line: &mut Words) {
 
 // Whether fewer moves would do.
 fn push_fewest(view: &View, line: &mut Words) {
-    if view.scene.joins.is_empty() && view.scene.leaves.is_empty() {
+    let moves = view.scene.move_count();
+    let fewest = fewest_moves(view.ring, view.scene, view.present);
+    let is_still = view.scene.joins.is_empty() && view.scene.leaves.is_empty();
+    if is_still && fewest == 0 {
         return;
     }
-    let moves = view.scene.move_count();
-    let fewest = fewest_moves(view.ring, view.scene);
     if moves == fewest {
         line.text(b", no more than must");
     }
@@ -105,17 +107,33 @@ fn tell_round_count(view: &View, line: &mut Words) {
     line.number(view.scene.widest());
 }
 
-// How much moves, and how long that takes at least.
+// How much moves, or how much of it a history leaves, and how long that takes at least.
 fn tell_sizes(line: &mut Words, sized: Sized) {
+    let volumes = sized.volumes;
     line.text(b"  sizes     ");
-    push_long(line, sized.volumes.moved);
-    line.text(b" in all; copies that wait for one another have up to ");
-    push_long(line, sized.volumes.longest);
+    match &volumes.left {
+        Some(left) => {
+            push_long(line, left.moved);
+            line.text(b" of ");
+            push_long(line, volumes.moved);
+            line.text(b" left; copies that wait for one another have up to ");
+            push_long(line, left.longest);
+            line.text(b" of it");
+        }
+        None => {
+            push_long(line, volumes.moved);
+            line.text(b" in all; copies that wait for one another have up to ");
+            push_long(line, volumes.longest);
+        }
+    }
     if let Some(rate) = sized.rate {
         line.text(b", so at ");
         line.number(rate);
-        line.text(b" a second the plan ends in second ");
-        push_long(line, sized.volumes.earliest_end(rate));
+        line.text(match volumes.left {
+            Some(_) => b" a second the rest ends in ".as_slice(),
+            None => b" a second the plan ends in ".as_slice(),
+        });
+        push_time(line, volumes.earliest_end(rate));
         line.text(b" at the earliest");
     }
 }
@@ -165,38 +183,43 @@ fn tell_sources(line: &mut Words, listed: u32) {
     line.text(b" listed slots of the partition in place of the owner");
 }
 
-// How many slots the members own, now or in the end.
-fn span_of(view: &View, is_end: bool) -> Span {
-    let mut span = Span::new();
+// How many slots the members own that answer, now and in the end.
+fn spans_of(view: &View) -> (Span, Span) {
+    let (mut now, mut then) = (Span::new(), Span::new());
     let loads = &view.scene.loads;
     for node in 0..small(view.ring.nodes().len()) {
-        if is_end {
-            if view.scene.stays(view.ring, node) {
-                span.add(at(loads.after.as_slice(), node as usize));
-            }
-        } else if view.present.is_member(node) {
-            span.add(at(view.present.owned.as_slice(), node as usize));
+        if view.present.is_silent(node) {
+            continue;
+        }
+        if view.present.is_member(node) {
+            now.add(at(view.present.owned.as_slice(), node as usize));
+        }
+        if view.scene.stays(view.ring, node) {
+            then.add(at(loads.after.as_slice(), node as usize));
         }
     }
-    span
+    (now, then)
 }
 
 fn tell_balance(view: &View, line: &mut Words) {
     let total = view.ring.q().saturating_mul(view.ring.n());
-    line.text(b"  balance   a member owns ");
-    span_of(view, false).push(line);
+    let (now, then) = spans_of(view);
+    line.text(if view.present.silent.is_empty() {
+        b"  balance   a member owns ".as_slice()
+    } else {
+        b"  balance   a member that answers owns ".as_slice()
+    });
+    now.push(line);
     line.text(b" now and ");
-    span_of(view, true).push(line);
+    then.push(line);
     line.text(b" in the end; even would be ");
-    push_tenths(
-        line,
-        parts_of(total, count_members(view.ring, view.scene), 10),
-    )
+    let members = count_members(view.ring, view.scene, view.present);
+    push_tenths(line, parts_of(total, members, 10))
 }
 
-fn tell_racks(view: &View, line: &mut Words, behind: u8) {
-    let now = sharing(view.ring, view.present.rows.as_slice(), behind);
-    let then = sharing(view.ring, view.scene.last_rows.as_slice(), behind);
+fn tell_racks(view: &View, line: &mut Words, racks: &Labels) {
+    let now = sharing(view.present.rows.as_slice(), racks);
+    let then = sharing(view.scene.last_rows.as_slice(), racks);
     line.text(b"  racks     ");
     push_many(line, now, b"partition has", b"partitions have");
     line.text(b" two slots in one rack now, ");
@@ -222,30 +245,13 @@ fn tell_joiners(view: &View, line: &mut Words) -> Result<(), Refusal> {
     Ok(())
 }
 
-// Who is down, and how many partitions answer all the same.
-fn tell_down(view: &View, line: &mut Words) {
-    let (ring, present) = (view.ring, view.present);
-    line.text(b"  down      ");
-    push_names(line, ring, present.down.as_slice(), 6);
-    line.text(b"; without ");
-    line.text(if present.down.len() == 1 {
-        b"it "
-    } else {
-        b"them "
-    });
-    line.number(kept(ring, present.rows.as_slice(), present));
-    line.text(b" of ");
-    push_many(line, ring.q(), b"partition answers", b"partitions answer");
-    line.text(b" reads and writes");
-}
-
-// Which nodes that are down keep hints, and for how many slots.
+// Which silent nodes keep hints, and for how many slots.
 fn tell_hints(view: &View, out: &mut Words, line: &mut Words) -> Result<(), Refusal> {
     let Some(progress) = view.progress else {
         return Ok(());
     };
-    let down = view.present.down.as_slice();
-    let (count, keepers) = progress.kept.of_nodes(view.alloc, down)?;
+    let silent = view.present.silent.as_slice();
+    let (count, keepers) = progress.kept.of_nodes(view.alloc, silent)?;
     if count == 0 {
         return Ok(());
     }
@@ -262,19 +268,9 @@ fn tell_hints(view: &View, out: &mut Words, line: &mut Words) -> Result<(), Refu
     Ok(())
 }
 
-// `if one fails`, and beside whom.
-fn push_failing(view: &View, line: &mut Words, words: &[u8]) {
-    line.text(words);
-    if !view.present.down.is_empty() {
-        line.text(b"beside ");
-        push_names(line, view.ring, view.present.down.as_slice(), 3);
-        line.text(b": ");
-    }
-}
-
 fn tell_one_fails(view: &View, line: &mut Words) -> Result<(), Refusal> {
     let (ring, present) = (view.ring, view.present);
-    push_failing(view, line, b"  if one fails   ");
+    push_failing(line, ring, present, b"  if one fails   ");
     let now = kept_by_one(view.alloc, ring, present.rows.as_slice(), present)?;
     line.number(now);
     line.text(b" of ");
@@ -295,35 +291,19 @@ fn tell_two_fail(view: &View, line: &mut Words) -> Result<(), Refusal> {
     let (ring, present) = (view.ring, view.present);
     let now = count_shared(view.alloc, ring, present.rows.as_slice(), present)?;
     let then = count_shared(view.alloc, ring, view.scene.last_rows.as_slice(), present)?;
-    push_failing(view, line, b"  if two fail    ");
+    push_failing(line, ring, present, b"  if two fail    ");
     line.text(b"at most ");
     push_many(line, now.most, b"partition loses", b"partitions lose");
     line.text(b" two slots now, ");
-    let pairs = all_pairs(count_up(view, false));
+    let pairs = all_pairs(count_answering(ring, present));
     push_tenths(line, parts_of(now.sum, pairs, 10));
     line.text(b" on average; ");
     line.number(then.most);
     line.text(b" and ");
-    let pairs = all_pairs(count_up(view, true));
+    let pairs = all_pairs(count_members(ring, view.scene, present));
     push_tenths(line, parts_of(then.sum, pairs, 10));
     line.text(b" in the end");
     Ok(())
-}
-
-// How many members are up, now or in the end.
-fn count_up(view: &View, is_end: bool) -> u32 {
-    let mut count = 0u32;
-    for node in 0..small(view.ring.nodes().len()) {
-        let is_member = if is_end {
-            view.scene.stays(view.ring, node)
-        } else {
-            view.present.is_member(node)
-        };
-        if is_member && !view.present.is_down(node) {
-            count = count.saturating_add(1);
-        }
-    }
-    count
 }
 
 // The last line.
@@ -344,8 +324,8 @@ fn push_overview(view: &View, out: &mut Words, line: &mut Words) -> Result<(), R
     tell_change(view, line);
     end_line(out, line, 2);
     out.byte(b'\n');
-    if !view.present.down.is_empty() {
-        tell_down(view, line);
+    if !view.present.silent.is_empty() {
+        tell_silent(view.alloc, view.ring, view.present, line)?;
         end_line(out, line, INDENT);
         tell_hints(view, out, line)?;
     }
@@ -366,8 +346,8 @@ fn push_overview(view: &View, out: &mut Words, line: &mut Words) -> Result<(), R
     }
     tell_balance(view, line);
     end_line(out, line, INDENT);
-    if let Some(behind) = view.racks_behind {
-        tell_racks(view, line, behind);
+    if let Some(racks) = view.racks {
+        tell_racks(view, line, racks);
         end_line(out, line, INDENT);
     }
     if !view.scene.joins.is_empty() {

@@ -2,39 +2,43 @@
 
 use crate::scene::Scene;
 use crate::shown::Shown;
-use helpers::is_set;
+use helpers::{is_set, put};
 use plan_moves::{Progress, owned};
 use plan_text::{Plan, Step};
 use ring_names::{Listed, NodeId, Refusal};
 use ring_table::Ring;
 use std::alloc::Global;
 
-/// Who owns each slot, who is a member and who is down: after the last entry of a history, or before the first step where there is none.
+/// Who owns each slot, who is a member and who does not answer: after the last entry of a history, or before the first step if there is none.
 #[derive(Drop)]
 pub struct Present {
     /// The owners, by partition.
     pub rows: Vec<Listed<NodeId>>,
     /// How many slots each node owns.
     pub owned: Vec<u32>,
-    /// The nodes that are down, by number.
-    pub down: Vec<u32>,
+    /// The nodes that do not answer, since they are dead or down, by number.
+    pub silent: Vec<u32>,
     // by node
     is_member: Vec<bool>,
-    // by node
+    // by node, by the history
     is_down: Vec<bool>,
+    // by node, as it was named
+    is_dead: Vec<bool>,
 }
 
 impl Present {
-    /// The ring as the history leaves it. Its only refusal is `OutOfMemory`.
+    /// The ring as the history leaves it, with these nodes dead. Its only refusal is `OutOfMemory`.
     pub fn of(
         alloc: Global,
         ring: &Ring,
         plan: &Plan,
         scene: &Scene,
         progress: Option<&Progress>,
+        dead: &[NodeId],
     ) -> Result<Present, Refusal> {
         let rows = rows_now(alloc, ring, scene.shown.moves.as_slice(), progress)?;
         let mut present = Present::with_rows(alloc, ring, rows)?;
+        present.note_dead(dead);
         present.note_nodes(ring, progress)?;
         if let Some(progress) = progress {
             present.note_steps(plan, progress);
@@ -42,10 +46,11 @@ impl Present {
         Ok(present)
     }
 
-    /// The ring as it is, without a plan. Its only refusal is `OutOfMemory`.
-    pub fn at_rest(alloc: Global, ring: &Ring) -> Result<Present, Refusal> {
+    /// The ring as it is, without a plan, with these nodes dead. Its only refusal is `OutOfMemory`.
+    pub fn at_rest(alloc: Global, ring: &Ring, dead: &[NodeId]) -> Result<Present, Refusal> {
         let rows = rows_now(alloc, ring, &[], None)?;
         let mut present = Present::with_rows(alloc, ring, rows)?;
+        present.note_dead(dead);
         present.note_nodes(ring, None)?;
         Ok(present)
     }
@@ -60,21 +65,28 @@ impl Present {
         Ok(Present {
             rows,
             owned,
-            down: Vec::new(alloc),
+            silent: Vec::new(alloc),
             is_member: Vec::new(alloc),
             is_down: Vec::new(alloc),
+            is_dead: vec![in alloc; false; ring.nodes().len()]?,
         })
     }
 
-    // Who was a member at the start, and who is down.
+    // Who is dead.
+    fn note_dead(&mut self, dead: &[NodeId]) {
+        for node in dead {
+            put(self.is_dead.as_mut_slice(), node.0, true);
+        }
+    }
+
+    // Who was a member at the start, and who does not answer.
     fn note_nodes(&mut self, ring: &Ring, progress: Option<&Progress>) -> Result<(), Refusal> {
         let mut number = 0u32;
         for node in ring.nodes() {
             self.is_member.push(node.is_member)?;
-            let is_down = is_down(progress, number);
-            self.is_down.push(is_down)?;
-            if is_down {
-                self.down.push(number)?;
+            self.is_down.push(is_down(progress, number))?;
+            if self.is_silent(number) {
+                self.silent.push(number)?;
             }
             number = number.saturating_add(1);
         }
@@ -101,9 +113,24 @@ impl Present {
         }
     }
 
-    /// Whether the node is down.
+    /// Whether the node is down, by the history.
     pub fn is_down(&self, node: u32) -> bool {
         is_set(self.is_down.as_slice(), node)
+    }
+
+    /// Whether the node was named dead.
+    pub fn is_dead(&self, node: u32) -> bool {
+        is_set(self.is_dead.as_slice(), node)
+    }
+
+    /// Whether the node does not answer, since it is dead or down.
+    pub fn is_silent(&self, node: u32) -> bool {
+        self.is_dead(node) || self.is_down(node)
+    }
+
+    /// Why the node does not answer: `dead`, or `down`.
+    pub fn silence(&self, node: u32) -> &'static [u8] {
+        if self.is_dead(node) { b"dead" } else { b"down" }
     }
 
     /// Whether the node is a member.

@@ -4,59 +4,83 @@ use crate::domains::sharing;
 use crate::failing::{all_pairs, count_shared, kept_by_one};
 use crate::names::{push_many, push_quorum};
 use crate::present::Present;
+use crate::silent::{count_answering, push_failing, tell_silent};
 use crate::span::Span;
-use crate::writing::{end_line, push_left, push_number_right, push_spaces, push_tenths};
-use helpers::{Words, at, parts_of, rack, small};
-use ring_names::Refusal;
+use crate::volumes::stored;
+use crate::writing::{
+    end_line, push_left, push_long_right, push_number_right, push_right, push_spaces, push_tenths,
+    width_of,
+};
+use helpers::{Labels, Words, at, parts_of, small, word};
+use ring_names::{NodeId, Refusal};
 use ring_table::{Allowance, Node, Ring};
 use std::alloc::Global;
 
 // Behind which column of a line its words begin.
 const INDENT: usize = 12;
 
-// What is said of a ring: its owners, and the byte behind which a node's name names its rack, where racks are asked for.
+/// What is known of the nodes and partitions of a ring, beside its text.
+#[derive(Drop)]
+pub struct Facts {
+    pub racks: Option<Labels>,
+    pub aliases: Option<Labels>,
+    /// How much each partition stores.
+    pub sizes: Option<Vec<u64>>,
+    pub dead: Vec<NodeId>,
+}
+
+impl Facts {
+    /// How much each partition stores, if that is known.
+    pub fn sizes(&self) -> Option<&[u64]> {
+        match &self.sizes {
+            Some(sizes) => Some(sizes.as_slice()),
+            None => None,
+        }
+    }
+}
+
+// What is said of a ring: its owners, and what is known of its nodes.
 #[derive(Clone, Copy)]
 struct Rest<'a> {
     alloc: Global,
     ring: &'a Ring,
     present: &'a Present,
-    racks_behind: Option<u8>,
+    facts: &'a Facts,
+    // how much each node stores, if that is known
+    stored: &'a Option<Vec<u64>>,
 }
 
-// How wide the columns of names, racks and allowances are.
+// How wide the columns of names, aliases, racks, states and sizes are.
 #[derive(Clone, Copy)]
 struct Widths {
     names: usize,
+    aliases: usize,
     racks: usize,
-    bears: usize,
-}
-
-fn count_members(rest: &Rest) -> u32 {
-    let mut count = 0u32;
-    for node in rest.ring.nodes() {
-        if node.is_member {
-            count = count.saturating_add(1);
-        }
-    }
-    count
+    states: usize,
+    sizes: usize,
 }
 
 fn tell_balance(rest: &Rest, line: &mut Words) {
     let total = rest.ring.q().saturating_mul(rest.ring.n());
     let mut span = Span::new();
     for node in 0..small(rest.ring.nodes().len()) {
-        if rest.present.is_member(node) {
+        if rest.present.is_member(node) && !rest.present.is_silent(node) {
             span.add(at(rest.present.owned.as_slice(), node as usize));
         }
     }
-    line.text(b"  balance   a member owns ");
+    line.text(if rest.present.silent.is_empty() {
+        b"  balance   a member owns ".as_slice()
+    } else {
+        b"  balance   a member that answers owns ".as_slice()
+    });
     span.push(line);
     line.text(b"; even would be ");
-    push_tenths(line, parts_of(total, count_members(rest), 10))
+    let members = count_answering(rest.ring, rest.present);
+    push_tenths(line, parts_of(total, members, 10))
 }
 
-fn tell_racks(rest: &Rest, line: &mut Words, behind: u8) {
-    let shared = sharing(rest.ring, rest.present.rows.as_slice(), behind);
+fn tell_racks(rest: &Rest, line: &mut Words, racks: &Labels) {
+    let shared = sharing(rest.present.rows.as_slice(), racks);
     line.text(b"  racks     ");
     push_many(line, shared, b"partition has", b"partitions have");
     line.text(b" two slots in one rack");
@@ -64,7 +88,7 @@ fn tell_racks(rest: &Rest, line: &mut Words, behind: u8) {
 
 fn tell_one_fails(rest: &Rest, line: &mut Words) -> Result<(), Refusal> {
     let rows = rest.present.rows.as_slice();
-    line.text(b"  if one fails   ");
+    push_failing(line, rest.ring, rest.present, b"  if one fails   ");
     line.number(kept_by_one(rest.alloc, rest.ring, rows, rest.present)?);
     line.text(b" of ");
     push_many(
@@ -80,10 +104,11 @@ fn tell_one_fails(rest: &Rest, line: &mut Words) -> Result<(), Refusal> {
 fn tell_two_fail(rest: &Rest, line: &mut Words) -> Result<(), Refusal> {
     let rows = rest.present.rows.as_slice();
     let shared = count_shared(rest.alloc, rest.ring, rows, rest.present)?;
-    line.text(b"  if two fail    at most ");
+    push_failing(line, rest.ring, rest.present, b"  if two fail    ");
+    line.text(b"at most ");
     push_many(line, shared.most, b"partition loses", b"partitions lose");
     line.text(b" two slots, ");
-    let pairs = all_pairs(count_members(rest));
+    let pairs = all_pairs(count_answering(rest.ring, rest.present));
     push_tenths(line, parts_of(shared.sum, pairs, 10));
     line.text(b" on average");
     Ok(())
@@ -96,10 +121,14 @@ fn push_whole(rest: &Rest, out: &mut Words, line: &mut Words) -> Result<(), Refu
     line.byte(b'.');
     end_line(out, line, 2);
     out.byte(b'\n');
+    if !rest.present.silent.is_empty() {
+        tell_silent(rest.alloc, rest.ring, rest.present, line)?;
+        end_line(out, line, INDENT);
+    }
     tell_balance(rest, line);
     end_line(out, line, INDENT);
-    if let Some(behind) = rest.racks_behind {
-        tell_racks(rest, line, behind);
+    if let Some(racks) = &rest.facts.racks {
+        tell_racks(rest, line, racks);
         end_line(out, line, INDENT);
     }
     tell_one_fails(rest, line)?;
@@ -123,23 +152,40 @@ fn push_bears(out: &mut Words, allowance: Allowance) {
     }
 }
 
+// `in` or `out`, and `dead`: `in, dead`
+fn state_of(rest: &Rest, node: u32) -> &'static [u8] {
+    match (rest.present.is_member(node), rest.present.is_dead(node)) {
+        (true, false) => b"in",
+        (false, false) => b"out",
+        (true, true) => b"in, dead",
+        (false, true) => b"out, dead",
+    }
+}
+
 impl Widths {
-    // As wide as what stands in the columns; the text is empty, and is so after it.
-    fn of(rest: &Rest, line: &mut Words) -> Widths {
+    // As wide as what stands in the columns.
+    fn of(rest: &Rest) -> Widths {
         let mut widths = Widths {
             names: 4,
+            aliases: 5,
             racks: 4,
-            bears: 5,
+            states: 5,
+            sizes: match rest.stored {
+                Some(stored) => width_of(stored.as_slice(), 4),
+                None => 0,
+            },
         };
+        let mut number = 0u32;
         for node in rest.ring.nodes() {
-            let own = node.name.as_slice();
-            widths.names = widths.names.max(own.len());
-            if let Some(behind) = rest.racks_behind {
-                widths.racks = widths.racks.max(rack(own, behind).len());
+            widths.names = widths.names.max(node.name.as_slice().len());
+            widths.states = widths.states.max(state_of(rest, number).len());
+            if let Some(aliases) = &rest.facts.aliases {
+                widths.aliases = widths.aliases.max(aliases.name(number).len());
             }
-            push_bears(line, node.allowance);
-            widths.bears = widths.bears.max(line.len());
-            line.clear();
+            if let Some(racks) = &rest.facts.racks {
+                widths.racks = widths.racks.max(racks.name(number).len());
+            }
+            number = number.saturating_add(1);
         }
         widths
     }
@@ -148,65 +194,91 @@ impl Widths {
     fn push_head(&self, rest: &Rest, out: &mut Words) {
         push_spaces(out, 4);
         push_left(out, b"node", self.names);
-        if rest.racks_behind.is_some() {
+        if rest.facts.aliases.is_some() {
+            push_spaces(out, 2);
+            push_left(out, b"alias", self.aliases);
+        }
+        if rest.facts.racks.is_some() {
             push_spaces(out, 2);
             push_left(out, b"rack", self.racks);
         }
-        out.text(b"  slots  ");
-        push_left(out, b"bears", self.bears);
-        out.text(b"  state\n");
+        push_spaces(out, 2);
+        push_left(out, b"state", self.states);
+        out.text(b"  slots");
+        if rest.stored.is_some() {
+            push_spaces(out, 2);
+            push_right(out, b"size", self.sizes);
+        }
+        out.text(b"  bears\n");
     }
 
-    // The line of a node with so many slots; the second text is empty, and is so after it.
-    fn push_row(&self, rest: &Rest, out: &mut Words, line: &mut Words, row: (&Node, u32)) {
-        let (node, slots) = row;
-        let own = node.name.as_slice();
+    // The line of the node of that number.
+    fn push_row(&self, rest: &Rest, out: &mut Words, row: (&Node, u32)) {
+        let (node, number) = row;
         push_spaces(out, 4);
-        push_left(out, own, self.names);
-        if let Some(behind) = rest.racks_behind {
+        push_left(out, node.name.as_slice(), self.names);
+        if let Some(aliases) = &rest.facts.aliases {
             push_spaces(out, 2);
-            push_left(out, rack(own, behind), self.racks);
+            push_left(out, aliases.name(number), self.aliases);
+        }
+        if let Some(racks) = &rest.facts.racks {
+            push_spaces(out, 2);
+            push_left(out, racks.name(number), self.racks);
         }
         push_spaces(out, 2);
-        push_number_right(out, slots, 5);
+        push_left(out, state_of(rest, number), self.states);
         push_spaces(out, 2);
-        push_bears(line, node.allowance);
-        push_left(out, line.as_slice(), self.bears);
-        out.heed(line);
-        line.clear();
-        out.text(if node.is_member {
-            b"  in\n".as_slice()
-        } else {
-            b"  out\n".as_slice()
-        });
+        let slots = at(rest.present.owned.as_slice(), number as usize);
+        push_number_right(out, slots, 5);
+        if let Some(stored) = rest.stored {
+            push_spaces(out, 2);
+            push_long_right(out, word(stored.as_slice(), number as usize), self.sizes);
+        }
+        push_spaces(out, 2);
+        push_bears(out, node.allowance);
+        out.byte(b'\n');
     }
 }
 
-/// The summary of a ring alone: its balance, racks and failures, and a line for each node with its slots, its rack where racks are asked for, how many transfers it
-/// bears, and whether it is a member, `in`, or not, `out`. Its only refusal is `OutOfMemory`.
-pub fn ring_summary(
+/// How much each node stores, if partitions have sizes.
+pub fn stored_by(
     alloc: Global,
-    ring: &Ring,
-    racks_behind: Option<u8>,
-) -> Result<Vec<u8>, Refusal> {
-    let present = Present::at_rest(alloc, ring)?;
+    present: &Present,
+    sizes: Option<&[u64]>,
+) -> Result<Option<Vec<u64>>, Refusal> {
+    match sizes {
+        Some(sizes) => {
+            let rows = present.rows.as_slice();
+            let found = stored(alloc, present.owned.len(), rows, sizes)?;
+            Ok(Some(found))
+        }
+        None => Ok(None),
+    }
+}
+
+/// The summary of a ring alone: who is dead, its balance, racks and failures, and a line for each node with its alias and its rack if such are known, whether it is a
+/// member, `in`, or not, `out`, and whether it is `dead`, its slots, how much it stores if partitions have sizes, and how many transfers it bears. Its only refusal is
+/// `OutOfMemory`.
+pub fn ring_summary(alloc: Global, ring: &Ring, facts: &Facts) -> Result<Vec<u8>, Refusal> {
+    let present = Present::at_rest(alloc, ring, facts.dead.as_slice())?;
+    let stored = stored_by(alloc, &present, facts.sizes())?;
     let rest = Rest {
         alloc,
         ring,
         present: &present,
-        racks_behind,
+        facts,
+        stored: &stored,
     };
     let mut out = Words::new(alloc);
     let mut line = Words::new(alloc);
     push_whole(&rest, &mut out, &mut line)?;
-    let widths = Widths::of(&rest, &mut line);
+    line.end()?;
+    let widths = Widths::of(&rest);
     widths.push_head(&rest, &mut out);
-    let mut number = 0usize;
+    let mut number = 0u32;
     for node in ring.nodes() {
-        let slots = at(present.owned.as_slice(), number);
-        widths.push_row(&rest, &mut out, &mut line, (node, slots));
+        widths.push_row(&rest, &mut out, (node, number));
         number = number.saturating_add(1);
     }
-    line.end()?;
     out.end()
 }

@@ -1,8 +1,9 @@
-//! The table of the nodes that take part or are down.
+//! The table of the nodes that take part or do not answer.
 
 use crate::names::{push_many, push_names};
 use crate::overview::{Shape, Sized, View};
 use crate::scene::Scene;
+use crate::silent::push_node;
 use crate::volumes::Volumes;
 use crate::writing::{
     WIDTH, push_left, push_long, push_long_right, push_number_left, push_number_right, push_right,
@@ -34,20 +35,20 @@ struct Table {
     top: u32,
 }
 
-// The nodes that take part or are down, by number.
+// The nodes that take part or do not answer, by number.
 fn taking_part(view: &View) -> Result<Vec<u32>, Refusal> {
     let mut nodes = Vec::new(view.alloc);
     for node in 0..small(view.ring.nodes().len()) {
-        if view.scene.takes_part(node) || view.present.is_down(node) {
+        if view.scene.takes_part(node) || view.present.is_silent(node) {
             nodes.push(node)?;
         }
     }
     Ok(nodes)
 }
 
-// What a node does in a plan, for the order in which nodes get a row: one that is down comes first.
+// What a node does in a plan, for the order in which nodes get a row: one that does not answer comes first.
 fn kind(view: &View, node: u32) -> usize {
-    if view.present.is_down(node) {
+    if view.present.is_silent(node) {
         0
     } else if view.scene.leaves.as_slice().contains(&node) {
         1
@@ -154,7 +155,9 @@ impl Table {
         let loads = &view.scene.loads;
         for node in self.rows.as_slice() {
             let place = *node as usize;
-            self.names = self.names.max(view.ring.name(*node).len());
+            let wide = push_node(line, view.ring, view.present, *node);
+            self.names = self.names.max(wide);
+            line.clear();
             self.at_once = self.at_once.max(push_at_once(view, line, *node));
             line.clear();
             self.top = self.top.max(at(loads.before.as_slice(), place));
@@ -168,8 +171,8 @@ impl Table {
         line.text(b"  ");
         line.byte(sign(view, node));
         line.byte(b' ');
-        push_left(line, view.ring.name(node), self.names);
-        push_spaces(line, 2);
+        let wide = push_node(line, view.ring, view.present, node);
+        push_spaces(line, self.names.saturating_sub(wide).saturating_add(2));
         let wide = push_at_once(view, line, node);
         push_spaces(line, self.at_once.saturating_sub(wide).saturating_add(2));
         push_count(line, at(scene.loads.gives.as_slice(), place));
@@ -336,7 +339,7 @@ fn push_count(line: &mut Words, count: u32) {
 fn push_idle(view: &View, out: &mut Words) -> Result<(), Refusal> {
     let mut idle = Vec::new(view.alloc);
     for node in 0..small(view.ring.nodes().len()) {
-        let has_row = view.scene.takes_part(node) || view.present.is_down(node);
+        let has_row = view.scene.takes_part(node) || view.present.is_silent(node);
         if view.present.is_member(node) && !has_row {
             idle.push(node)?;
         }
@@ -354,7 +357,7 @@ fn push_idle(view: &View, out: &mut Words) -> Result<(), Refusal> {
     Ok(())
 }
 
-/// The table: for each node that takes part or is down, how many transfers it never has more of at once, gives and takes, and how many slots it owns in the beginning, with a
+/// The table: for each node that takes part or does not answer, how many transfers it never has more of at once, gives and takes, and how many slots it owns in the beginning, with a
 /// history now, and in the end.
 ///
 /// The second text is that of one line.

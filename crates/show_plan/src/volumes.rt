@@ -3,11 +3,21 @@
 use crate::scene::Scene;
 use crate::shown::Shown;
 use crate::writing::width_of;
-use helpers::{at, set_word, word};
+use helpers::{set_word, word};
+use plan_moves::Progress;
 use plan_text::{Plan, Step};
-use ring_names::Refusal;
+use ring_names::{Listed, NodeId, Refusal, Slot};
 use ring_table::Ring;
 use std::alloc::Global;
+
+/// How much a history leaves to be moved.
+#[derive(Clone, Copy, Debug)]
+pub struct Left {
+    /// What copies that are not done have to move. Chunks that are copied do not count.
+    pub moved: u64,
+    /// The most that such copies have of which each waits for the one before.
+    pub longest: u64,
+}
 
 /// How much a plan moves by the sizes of partitions, in their unit.
 #[derive(Drop)]
@@ -27,16 +37,19 @@ pub struct Volumes {
     /// No execution ends before one transfer could copy so much. No allowance makes a better bound: the copies of a node lie on as many chains as it bears
     /// transfers, and on a chain each copy waits for the one before.
     pub longest: u64,
+    /// What is left, if a history is known.
+    pub left: Option<Left>,
 }
 
 impl Volumes {
-    /// What the plan of the scene moves, by partitions of these sizes. Its only refusal is `OutOfMemory`.
+    /// What the plan of the scene moves, by partitions of these sizes, and what the progress leaves. Its only refusal is `OutOfMemory`.
     pub fn of(
         alloc: Global,
         ring: &Ring,
         plan: &Plan,
         scene: &Scene,
-        sizes: &[u32],
+        sizes: &[u64],
+        progress: Option<&Progress>,
     ) -> Result<Volumes, Refusal> {
         let nodes = ring.nodes().len();
         let mut volumes = Volumes {
@@ -45,10 +58,14 @@ impl Volumes {
             takes: vec![in alloc; 0u64; nodes]?,
             rounds: vec![in alloc; 0u64; scene.widths.len()]?,
             rounds_width: 0,
-            longest: longest(alloc, plan, sizes)?,
+            longest: longest(alloc, plan, sizes, None)?,
+            left: match progress {
+                Some(progress) => Some(left_of(alloc, plan, sizes, progress)?),
+                None => None,
+            },
         };
         for shown in scene.shown.moves.as_slice() {
-            let size = u64::from(at(sizes, shown.slot.partition as usize));
+            let size = word(sizes, shown.slot.partition as usize);
             volumes.count(scene, shown, size);
         }
         volumes.rounds_width = width_of(volumes.rounds.as_slice(), 4);
@@ -67,10 +84,14 @@ impl Volumes {
         }
     }
 
-    /// The second in which the plan ends at the earliest, counted from 1, where one transfer copies so much in a second, from 1 on.
+    /// In how many seconds the plan, or what a history leaves of it, ends at the earliest, if one transfer copies so much in a second, from 1 on.
     pub fn earliest_end(&self, rate: u32) -> u64 {
         let rate = u64::from(rate);
-        let up = self.longest.saturating_add(rate.saturating_sub(1));
+        let longest = match &self.left {
+            Some(left) => left.longest,
+            None => self.longest,
+        };
+        let up = longest.saturating_add(rate.saturating_sub(1));
         up.checked_div(rate).unwrap_or(0)
     }
 }
@@ -81,8 +102,50 @@ fn add(words: &mut [u64], place: usize, size: u64) {
     set_word(words, place, sum);
 }
 
-// The greatest sum of sizes of copies on a path of dependencies.
-fn longest(alloc: Global, plan: &Plan, sizes: &[u32]) -> Result<u64, Refusal> {
+// What is left of a copy of that size: nothing if it is done, and otherwise the chunks that are not copied, also if it was broken off.
+fn rest_of(size: u64, number: u32, progress: Option<&Progress>) -> u64 {
+    let Some(progress) = progress else {
+        return size;
+    };
+    if progress.is_done(number) {
+        return 0;
+    }
+    let chunks = u64::from(16u32.saturating_sub(progress.chunks(number)));
+    size.saturating_mul(chunks).saturating_add(15) / 16
+}
+
+// The size of the slot's partition.
+fn size_of(sizes: &[u64], slot: &Slot) -> u64 {
+    word(sizes, slot.partition as usize)
+}
+
+// What the progress leaves.
+fn left_of(
+    alloc: Global,
+    plan: &Plan,
+    sizes: &[u64],
+    progress: &Progress,
+) -> Result<Left, Refusal> {
+    let mut moved = 0u64;
+    for number in 0..plan.len() {
+        if let Step::Copy(slot, _) = plan.step(number) {
+            let rest = rest_of(size_of(sizes, slot), number, Some(progress));
+            moved = moved.saturating_add(rest);
+        }
+    }
+    Ok(Left {
+        moved,
+        longest: longest(alloc, plan, sizes, Some(progress))?,
+    })
+}
+
+// The greatest sum of what is left of copies on a path of dependencies.
+fn longest(
+    alloc: Global,
+    plan: &Plan,
+    sizes: &[u64],
+    progress: Option<&Progress>,
+) -> Result<u64, Refusal> {
     let mut ends: Vec<u64> = Vec::new(alloc);
     let mut most = 0u64;
     for number in 0..plan.len() {
@@ -91,10 +154,32 @@ fn longest(alloc: Global, plan: &Plan, sizes: &[u32]) -> Result<u64, Refusal> {
             sum = sum.max(word(ends.as_slice(), *before as usize));
         }
         if let Step::Copy(slot, _) = plan.step(number) {
-            sum = sum.saturating_add(u64::from(at(sizes, slot.partition as usize)));
+            sum = sum.saturating_add(rest_of(size_of(sizes, slot), number, progress));
         }
         ends.push(sum)?;
         most = most.max(sum);
     }
     Ok(most)
+}
+
+/// How much each of so many nodes stores of partitions with these owners and sizes.
+pub fn stored(
+    alloc: Global,
+    nodes: usize,
+    rows: &[Listed<NodeId>],
+    sizes: &[u64],
+) -> Result<Vec<u64>, Refusal> {
+    let mut stored = vec![in alloc; 0u64; nodes]?;
+    let mut partition = 0usize;
+    for row in rows {
+        for node in row.as_slice() {
+            add(
+                stored.as_mut_slice(),
+                node.0 as usize,
+                word(sizes, partition),
+            );
+        }
+        partition = partition.saturating_add(1);
+    }
+    Ok(stored)
 }

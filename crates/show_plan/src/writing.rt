@@ -83,6 +83,57 @@ pub fn push_long(out: &mut Words, number: u64) {
     out.number(low);
 }
 
+// The number below 100 with two digits: `05`.
+fn push_two_digits(out: &mut Words, number: u64) {
+    if number < 10 {
+        out.byte(b'0');
+    }
+    push_long(out, number);
+}
+
+/// So many seconds in words: `90 s`, `3 min 56 s` from two minutes on, and `2 h 05 min`, rounded down, from an hour on.
+pub fn push_time(out: &mut Words, seconds: u64) {
+    if seconds < 120 {
+        push_long(out, seconds);
+        out.text(b" s");
+        return;
+    }
+    if seconds < 3_600 {
+        push_long(out, seconds / 60);
+        out.text(b" min ");
+        push_two_digits(out, seconds % 60);
+        out.text(b" s");
+        return;
+    }
+    push_long(out, seconds / 3_600);
+    out.text(b" h ");
+    push_two_digits(out, seconds / 60 % 60);
+    out.text(b" min")
+}
+
+// The letters of thousands, millions and so on.
+const LETTERS: [&[u8]; 6] = [b" k", b" M", b" G", b" T", b" P", b" E"];
+
+/// A number in few digits, rounded down: `9999`, `12.3 k`, `8.5 G`. Each letter stands for a thousand times the one before.
+pub fn push_short(out: &mut Words, number: u64) {
+    if number < 10_000 {
+        return push_long(out, number);
+    }
+    let mut thousandths = number;
+    let mut letter: &[u8] = b"";
+    for next in LETTERS {
+        letter = next;
+        if thousandths < 1_000_000 {
+            break;
+        }
+        thousandths /= 1_000;
+    }
+    push_long(out, thousandths / 1_000);
+    out.byte(b'.');
+    push_long(out, thousandths / 100 % 10);
+    out.text(letter)
+}
+
 /// The number, or a point for none, and spaces before it up to the width.
 pub fn push_long_right(out: &mut Words, number: u64, width: usize) {
     if number == 0 {

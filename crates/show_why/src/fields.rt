@@ -6,6 +6,7 @@ use crate::names::declared;
 use crate::near::Nearest;
 use crate::order::{mend_space, rows_before};
 use crate::page::{count_fields, field, number, place_of};
+use crate::quorum::mend_slots;
 use crate::said::Said;
 use ring_names::Refusal;
 use std::alloc::Global;
@@ -13,6 +14,9 @@ use texts::{are_name_bytes, is_name};
 
 /// Says which field of the line departs from its form.
 pub fn tell_fields(alloc: Global, line: Line, said: &mut Said, form: &[u8]) -> Result<(), Refusal> {
+    if tell_name(line, said) {
+        return Ok(());
+    }
     if tell_node(alloc, line, said)? {
         return Ok(());
     }
@@ -91,6 +95,21 @@ fn name_fault(word: &[u8]) -> Option<&'static [u8]> {
         return Some(b"too long: a name has 1 to 32 bytes");
     }
     Some(b"no name: 1 to 32 of a-z 0-9 _ . : -")
+}
+
+// Says that a ring declares a node by what is no name, and whether that is so.
+fn tell_name(line: Line, said: &mut Said) -> bool {
+    let word = field(line.text, 1);
+    let is_node = line.part == Part::Ring && line.word() == b"node".as_slice();
+    let Some(fault) = name_fault(word) else {
+        return false;
+    };
+    if !is_node || word.is_empty() {
+        return false;
+    }
+    line.part(said, 1, fault);
+    tell_alias(said, word);
+    true
 }
 
 // What is wrong with a field where the form has that.
@@ -217,17 +236,27 @@ fn tell_row(line: Line, said: &mut Said) -> bool {
         return false;
     }
     let next = rows_before(line);
-    if number(field(line.text, 1)) != Some(next) {
-        let at = line.page.at(line.number, 1, 1);
-        said.fault_at_with(at, b"the next one is partition #", &[], &[next]);
-        if let Some(row) = row_after(line, next) {
-            move_up(line.page, said, row, line.number);
+    match number(field(line.text, 1)) {
+        Some(partition) if partition == next => {}
+        Some(partition) if partition < next => {
+            tell_row_again(line, said, partition, next);
+            return true;
         }
-        return true;
+        _ => {
+            let at = line.page.at(line.number, 1, 1);
+            said.fault_at_with(at, b"the next one is partition #", &[], &[next]);
+            if let Some(row) = row_after(line, next) {
+                move_up(line.page, said, row, line.number);
+            }
+            return true;
+        }
     }
     let wanted = number(field(line.page.text(3), 1)).unwrap_or(0);
     if count_fields(line.text).saturating_sub(2) == wanted as usize {
         return false;
+    }
+    if next == 0 && tell_rows(line, said, wanted) {
+        return true;
     }
     said.fault_with(
         line.number,
@@ -236,6 +265,68 @@ fn tell_row(line: Line, said: &mut Said) -> bool {
         &[wanted],
     );
     true
+}
+
+// Says that a partition has a line `slots` already. If the next partition has one below, this one goes; if none does, this one is meant for it.
+fn tell_row_again(line: Line, said: &mut Said, partition: u32, next: u32) {
+    let first = line.number.saturating_sub(next.saturating_sub(partition));
+    said.beside_with(first, b"partition #", &[], &[partition]);
+    let at = line.page.at(line.number, 1, 1);
+    said.fault_at_with(at, b"partition # a second time", &[], &[partition]);
+    if row_after(line, next).is_some() {
+        return line.take_out(said);
+    }
+    let (front, rest) = line.page.around(line.number, 1);
+    said.mend_with(b"`slots #` here", &[], &[next]);
+    said.put(line.number);
+    said.add_with(b"@#@\n", &[front, rest], &[next])
+}
+
+// How many owners each line `slots` of the ring has, if all have as many.
+fn owners_of_all(line: Line) -> Option<usize> {
+    let count = count_fields(line.text).saturating_sub(2);
+    let rest = line.page.after(line.number.saturating_sub(1));
+    for text in rest.split(|byte| *byte == b'\n') {
+        if field(text, 0) != b"slots".as_slice() {
+            break;
+        }
+        if count_fields(text).saturating_sub(2) != count {
+            return None;
+        }
+    }
+    Some(count)
+}
+
+// Says that the line `quorum` has another number of slots than each line `slots` has owners, from the first of these on, and whether that is so.
+fn tell_rows(line: Line, said: &mut Said, wanted: u32) -> bool {
+    let count = match owners_of_all(line) {
+        Some(count) if 1 <= count && count <= 7 => helpers::small(count),
+        _ => return false,
+    };
+    said.title_with(
+        b"partitions have # slots by the line `quorum`, and # owners each",
+        &[],
+        &[wanted, count],
+    );
+    said.fault_at_with(line.page.at(3, 1, 1), b"here # slots", &[], &[wanted]);
+    said.beside_with(
+        line.number,
+        b"# owners, as in each line below",
+        &[],
+        &[count],
+    );
+    mend_slots(line.page, said, count);
+    true
+}
+
+/// Says how a name that a node cannot have is kept.
+pub fn tell_alias(said: &mut Said, word: &[u8]) {
+    said.note(b"A name has 1 to 32 of a-z 0-9 _ . : - and stands so wherever the node is named.");
+    said.note_with(
+        b"A layout keeps the name by which people know the node: `alias NAME @`.",
+        &[word],
+        &[],
+    );
 }
 
 // The line `slots` of the partition after this line, if there is one.

@@ -2,8 +2,10 @@
 //! lines that mend it, or a command. Nothing is promised of the words; whether a mend mends, the checker is asked.
 #![tactic(auto)]
 
+mod events;
 mod faults;
 mod fields;
+mod foreign;
 mod forms;
 mod habit;
 mod limits;
@@ -18,6 +20,7 @@ mod said;
 mod spacing;
 mod telling;
 
+pub use near::Nearest;
 pub use page::{Page, Place, Span, cut_line, field, place_of, span_of};
 pub use said::{Said, push_printed};
 pub use telling::tell_text;

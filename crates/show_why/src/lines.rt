@@ -1,6 +1,8 @@
 //! Lines that are not in the grammar.
 
+use crate::events::tell_event;
 use crate::fields::tell_fields;
+use crate::foreign::tell_foreign;
 use crate::forms::{Part, called, first_line, form_of, forms};
 use crate::line::{Line, line_of};
 use crate::near::Nearest;
@@ -14,7 +16,10 @@ use std::alloc::Global;
 /// Says why the line is no line of its part.
 pub fn bad_line(alloc: Global, said: &mut Said, page: Page, number: u32) -> Result<(), Refusal> {
     let line = line_of(page, number);
-    if tell_end_of_text(line, said) {
+    if number == 1 && tell_foreign(page, said) {
+        return Ok(());
+    }
+    if tell_end_of_text(line, said) || tell_event(line, said) {
         return Ok(());
     }
     said.title_with(b"line # is no line of a @", &[called(line.part)], &[number]);
@@ -71,6 +76,10 @@ fn tell_missing(line: Line, said: &mut Said) {
             )
         }
         Part::Cert if line.start == line.number => tell_no_cert(line, said),
+        Part::Behind if line.start == line.number => {
+            said.title(b"the bundle has no history");
+            said.note(b"A history is `history 1`, a line for each event with its reply, and `end`.")
+        }
         Part::Behind => {
             said.title(b"the bundle stops before its history does");
             said.note(b"The last line of a history is `end`.")
@@ -156,7 +165,9 @@ fn tell_first(alloc: Global, line: Line, said: &mut Said) -> Result<(), Refusal>
     if line.text == b"end".as_slice() {
         line.take_out(said);
     } else if is_other_head(line.word(), part) {
-        said.note_with(b"The @ is missing here.", &[part], &[]);
+        if !tell_late_ring(line, said) {
+            said.note_with(b"The @ is missing here.", &[part], &[]);
+        }
     } else if is_headless(line) {
         said.mend_with(b"`@` before it", &[wanted], &[]);
         line.insert(said, wanted);
@@ -166,6 +177,32 @@ fn tell_first(alloc: Global, line: Line, said: &mut Said) -> Result<(), Refusal>
         said.add_with(b"@\n", &[wanted], &[]);
     }
     Ok(())
+}
+
+// Says that the ring begins below this line, and whether that is so.
+fn tell_late_ring(line: Line, said: &mut Said) -> bool {
+    if line.part != Part::Ring {
+        return false;
+    }
+    let mut lines = line.page.bytes.split(|byte| *byte == b'\n');
+    let Some(place) = lines.position(|text| text.starts_with(b"ring ")) else {
+        return false;
+    };
+    let number = helpers::small(place).saturating_add(1);
+    said.title_with(
+        b"the ring comes first, and begins in line #",
+        &[],
+        &[number],
+    );
+    said.fault_with(
+        line.number,
+        b"a @ stands after the ring",
+        &[line.word()],
+        &[],
+    );
+    said.beside(number, b"the ring");
+    said.note(b"Put the part that begins here after the ring.");
+    true
 }
 
 // Whether the first line of a part is rather one of its other lines.

@@ -68,12 +68,40 @@ impl Asked {
             &[],
             &[count],
         );
+        let wanted = Asked {
+            slots: self.slots,
+            read: count,
+            write: count,
+            loss: self.loss,
+        };
+        wanted.push_line(said, page, line)
+    }
+
+    // Puts it in the place of the line.
+    fn push_line(&self, said: &mut Said, page: Page, line: u32) {
         said.put(line);
-        said.add_with(b"quorum # # #", &[], &[self.slots, count, count]);
+        said.add_with(b"quorum # # #", &[], &[self.slots, self.read, self.write]);
         if count_fields(page.text(line)) == 5 {
             said.add_with(b" #", &[], &[self.loss]);
         }
         said.add(b"\n")
+    }
+}
+
+/// Mends the line `quorum` of a ring for partitions of so many slots: reads and writes ask for as many as before if they may, and otherwise for a majority. A majority
+/// stays one.
+pub fn mend_slots(page: Page, said: &mut Said, slots: u32) {
+    let mut asked = Asked::of(page.text(3));
+    let half = asked.majority();
+    let is_half = asked.read == half && asked.write == half;
+    asked.slots = slots;
+    let sum = asked.read.saturating_add(asked.write);
+    if !is_half && !asked.is_out() && sum > slots.saturating_add(asked.loss) {
+        said.mend_with(b"# slots", &[], &[slots]);
+        return asked.push_line(said, page, 3);
+    }
+    if asked.majority() <= slots {
+        asked.mend(said, page, 3)
     }
 }
 

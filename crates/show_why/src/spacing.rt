@@ -1,8 +1,10 @@
 //! Lines at fault for how they are written, whatever they say.
 
+use crate::fields::tell_alias;
+use crate::forms::Part;
 use crate::habit::{Habit, is_blank};
 use crate::line::Line;
-use crate::page::Place;
+use crate::page::{Place, field};
 use crate::said::Said;
 
 // The byte order mark of a text in UTF-8.
@@ -81,7 +83,11 @@ fn tell_mark(line: Line, said: &mut Said) {
 // Says that the line has the habit, and how many others have it; mends the line, or where there are others all of them.
 fn tell_habit(line: Line, said: &mut Said, habit: Habit) {
     if habit == Habit::Capitals {
-        line.part(said, first_capital(line.text), habit.words());
+        let place = first_capital(line.text);
+        line.part(said, place, habit.words());
+        if line.part == Part::Ring && line.word() == b"node".as_slice() && place == 1 {
+            tell_alias(said, field(line.text, 1));
+        }
     } else {
         line.whole(said, habit.words());
     }

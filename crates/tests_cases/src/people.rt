@@ -11,7 +11,7 @@ pub fn words_of(word: &str) -> Option<&'static [&'static str]> {
     let words: &'static [&'static str] = match word {
         "why" => &["ringplan", "why"],
         "show" => &["ringplan", "show"],
-        "all" => &["ringplan", "show", "--all", "--racks-behind", "."],
+        "all" => &["ringplan", "show", "--all"],
         "draw" => &["ringplan", "draw"],
         "map" => &["ringplan", "draw", "--map"],
         "racks" => &["ringplan", "draw", "--map", "--racks-behind", "."],
@@ -19,7 +19,7 @@ pub fn words_of(word: &str) -> Option<&'static [&'static str]> {
         "moves" => &["ringplan", "steps", "--moves"],
         "cert" => &["ringplan", "cert"],
         "after" => &["ringplan", "after"],
-        "goal" => &["ringplan", "goal", "--racks-behind", "."],
+        "goal" => &["ringplan", "goal"],
         "dead" => &["ringplan", "goal", "--dead", "b"],
         "windows" => &["ringplan", "windows", "--rounds", "2"],
         "only" => &["ringplan", "windows", "--rounds", "1", "--only", "2"],
@@ -32,7 +32,7 @@ pub fn words_of(word: &str) -> Option<&'static [&'static str]> {
 fn report_of(alloc: Global, words: &[&str], bundle: &[u8]) -> Option<Report> {
     let CommandLine { request, .. } = parse(alloc, words);
     match request {
-        Request::Make(making) => report_bundle(alloc, &making, bundle).ok(),
+        Request::Make(making, options) => report_bundle(alloc, making, &options, bundle).ok(),
         _ => None,
     }
 }

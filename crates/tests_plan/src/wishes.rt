@@ -166,7 +166,7 @@ fn two_for_two(rt: HostRuntime) -> Result<(), Fail> {
 // Half of the partitions have no keys: two that join take six slots each of the others, as their shares are 96 by 14. Their racks alone give.
 #[test]
 fn two_join_by_size(rt: HostRuntime) -> Result<(), Fail> {
-    let mut sizes = [0u32; 64];
+    let mut sizes = [0u64; 64];
     for partition in 0..32usize {
         sizes[partition] = 1;
     }

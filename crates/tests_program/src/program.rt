@@ -106,7 +106,7 @@ fn mistakes_told_on_standard_error(rt: HostRuntime) {
     silent(&rt, &["ringplan", "drive", "--workers=0"], 2);
     silent(&rt, &["ringplan", "drive", "--workers=65"], 2);
     silent(&rt, &["ringplan", "goal", "--fast"], 2);
-    silent(&rt, &["ringplan", "goal", "--weight", "b"], 2);
+    silent(&rt, &["ringplan", "goal", "--racks-behind", "ab"], 2);
     silent(&rt, &["ringplan", "windows", "--rounds", "0"], 2);
     silent(&rt, &["ringplan", "show"], 2);
     silent(&rt, &["ringplan", "completions", "tcsh"], 2);

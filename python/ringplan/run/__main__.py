@@ -1,7 +1,7 @@
 """The command line of the runner.
 
     ringplan-run apply BUNDLE --do FOLDER [--board FILE|etcd://HOST:PORT/NAME] [--lease SECONDS] [--workers K] [--give-up N] [--serve PORT]
-    ringplan-run around --dead NODE.. [--back]  [--board FILE|etcd://HOST:PORT/NAME] [--lease SECONDS]
+    ringplan-run around [--dead NODE].. [--leave P.I].. [--rest] [--back] [--layout FILE]  [--board FILE|etcd://HOST:PORT/NAME] [--lease SECONDS]
     ringplan-run status | history | judge | retry STEP  [--board FILE|etcd://HOST:PORT/NAME]
 """
 
@@ -78,7 +78,9 @@ def apply(words: argparse.Namespace) -> Status:
 
 def around(words: argparse.Namespace) -> Status:
     programs.find()
-    board, options = open_board(words), [word for node in words.dead for word in ("--dead", node)] + ["--back"] * words.back
+    board = open_board(words)
+    options = [f"--dead={node}" for node in words.dead] + [f"--leave={slot}" for slot in words.leave] + ["--rest"] * words.rest + ["--back"] * words.back
+    options += [f"--layout={words.layout}"] if words.layout is not None else []
     with board.pausing():
         wait_for_steps(board)
         is_swapped = False
@@ -159,7 +161,7 @@ def command_line() -> argparse.ArgumentParser:
         "history": (history, "prints the history so far"),
         "retry": (retry, "has a step tried again that was given up, or that pauses"),
         "judge": (see_judge, "has the history so far judged"),
-        "around": (around, "puts another plan in the place of the board's, around nodes that died"),
+        "around": (around, "puts another plan in the place of the board's: around nodes that died, at rest, or with slots left out"),
     }
     for name, (call, what) in calls.items():
         command = commands.add_parser(name, help=what, description=what)
@@ -170,8 +172,11 @@ def command_line() -> argparse.ArgumentParser:
         if name in ("apply", "around"):
             command.add_argument("--lease", type=count, default=60, metavar="SECONDS", help="how long etcd waits for a dead runner (default: %(default)s)")
         if name == "around":
-            command.add_argument("--dead", action="append", required=True, metavar="NODE", help="a node that is dead for good; give each of them")
+            command.add_argument("--dead", action="append", default=[], metavar="NODE", help="a node that is dead for good; give each of them")
+            command.add_argument("--leave", action="append", default=[], metavar="P.I", help="a slot that stays with its owner, by its partition and its index")
+            command.add_argument("--rest", action="store_true", help="ends the moves that have begun, and begins no others")
             command.add_argument("--back", action="store_true", help="takes mirrors back that cannot be filled")
+            command.add_argument("--layout", metavar="FILE", help="what is known of nodes and partitions, as `ringplan around` reads it")
         if name == "apply":
             command.add_argument("bundle", help="a ring, a plan and its certificate")
             command.add_argument("--do", required=True, metavar="FOLDER", help="the folder of the hooks")

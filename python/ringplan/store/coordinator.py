@@ -39,6 +39,8 @@ class Store:
         self.clocks: dict[tuple[str, str], Clock] = {}
         self.counting, self.ids = threading.Lock(), itertools.count()
         self.puts, self.gets, self.dead = list[Put](), list[Get](), set[Member]()
+        # Members and partitions: a hint there could not be handed off if its slot's owner is dead, and a step to come would wait for that.
+        self.barred = set[tuple[Member, int]]()
         self.outages = self.in_doubt = 0
 
     def all_slots(self) -> Iterator[Slot]:
@@ -65,7 +67,7 @@ class Store:
         """Does for certain what may have happened at the slot. Where a node that it needs is down, the slot has to wait."""
         while slot.doubts:
             doubt = slot.doubts[0]
-            if not (doubt.is_of_owner and slot.owner in self.dead):
+            if doubt.only not in self.dead:
                 doubt.again()
             slot.doubts.pop(0)
 
@@ -141,16 +143,17 @@ class Store:
 
     def write(self, put: Put, slot: Slot) -> None:
         with self.holding(slot):
-            mirror = slot.mirror
+            only = slot.owner if slot.mirror is None else None
             try:
                 self.write_now(put, slot)
             except Gone:
-                self.doubt(slot, Doubt(lambda: self.write_now(put, slot), mirror is None))
+                self.doubt(slot, Doubt(lambda: self.write_now(put, slot), only))
                 raise
 
     def may_keep(self, partition: Partition, slot: Slot, member: Member) -> bool:
         """Whether the member may keep a hint for the slot: it serves no slot of the partition, and keeps none for another one."""
-        return member.is_member and member not in partition.serving() and not partition.keeps_other(member, slot)
+        is_barred = slot.owner in self.dead and (member, slot.partition) in self.barred
+        return member.is_member and member not in partition.serving() and not partition.keeps_other(member, slot) and not is_barred
 
     def hint_now(self, put: Put, slot: Slot, keeper: Member) -> None:
         with using([keeper]):
@@ -165,7 +168,7 @@ class Store:
             try:
                 self.hint_now(put, slot, keeper)
             except Gone:
-                self.doubt(slot, Doubt(lambda: self.hint_now(put, slot, keeper), False))
+                self.doubt(slot, Doubt(lambda: self.hint_now(put, slot, keeper)))
                 raise
 
     def is_current(self, put: Put, slot: Slot) -> bool:
@@ -283,7 +286,7 @@ class Store:
     def handoff(self, slot: Slot, keeper: Member) -> None:
         with self.holding(slot):
             if keeper in slot.keepers:
-                again = Doubt(lambda: self.handoff_now(slot, keeper), False)
+                again = Doubt(lambda: self.handoff_now(slot, keeper))
                 self.handoff_now(slot, keeper, lambda: self.doubt(slot, again))
 
     def hints_left(self) -> list[tuple[Slot, Member]]:
@@ -307,7 +310,21 @@ class Store:
                 if member in slot.writers() or member in slot.keepers:
                     slot.generation = self.generation_after_loss(slot)
                     slot.keepers.pop(member, None)
+                    slot.forget_doubts(member)
             self.history.note(("lose", member.name))
+
+    # Another history, by which the store goes on.
+    def take_back(self, slot: Slot, mirror: Member, count: int) -> None:
+        """Undoes a mirror: the slot's writes go to its owner only, and its generation falls."""
+        slot.forget_doubts(mirror)
+        slot.undone.add(mirror)
+        slot.mirror, slot.generation = None, slot.generation - count
+
+    def recount(self) -> None:
+        """Gives each put the tickets that the history has."""
+        for event, reply in self.history.entries():
+            if reply[0] == "ticket" and isinstance(put := event[1], Put):
+                put.tickets[int(reply[2])] = int(reply[3])
 
     def held(self, put: Put) -> Iterable[bool]:
         """Of each slot of an acknowledged put, whether its owner's server or a keeper's has it or a successor."""

@@ -1,7 +1,8 @@
 """Workers that go through an approved plan on a store, as docs/STORES.md says ("Going through a plan").
 
-The steps are the lines of `ringplan steps`. A worker takes any step that waits for nothing and that nobody holds. Where it dies in the middle of a copy, the
-copy stays open: the next worker writes its `abort`, and goes on at the chunks that are not marked.
+The steps are the lines of `ringplan steps`. A worker takes any step that waits for nothing and that no one holds. If it dies in the middle of a copy, the
+copy stays open: the next worker writes its `abort`, and goes on at the chunks that are not marked. A chunk is marked once its sources are read, and is in doubt until the
+mirror has all of it.
 """
 
 from __future__ import annotations
@@ -15,10 +16,15 @@ from collections.abc import Iterator, Sequence
 from functools import partial
 
 from ringplan.store.coordinator import CHUNKS, Store
-from ringplan.store.members import Blocked, Member, Partition, Slot, using
+from ringplan.store.history import Past, recorded
+from ringplan.store.members import Blocked, Doubt, Member, Partition, Slot, using
 from ringplan.store.nodes import Gone
 from ringplan.store.versions import Contents, merged
-from ringplan.texts import StepLine
+from ringplan.texts import History, StepLine
+
+
+# The events of steps.
+STEPPED = ("do", "open", "chunk", "close", "abort")
 
 
 class Died(Exception):
@@ -91,6 +97,9 @@ class Executor:
             with using([member]):
                 if not self.may_mirror(partition, slot, member):
                     raise Blocked("it keeps hints for another slot")
+                if member in slot.undone:
+                    member.node.clear(self.dropped(slot))
+                    slot.undone.remove(member)
                 slot.mirror, slot.generation = member, self.next_generation(slot)
                 self.finish(step)
 
@@ -156,19 +165,33 @@ class Executor:
         if mirror is not None:
             mirror.node.merge(self.slot(step).area(chunk), contents)
 
+    def give_again(self, step: StepLine, chunk: int, contents: Contents) -> None:
+        with using(member for member in [self.slot(step).mirror] if member is not None):
+            self.give(step, chunk, contents)
+
     def copy_chunk(self, step: StepLine, chunk: int) -> None:
+        """Reads the chunk, notes it, and gives it to the mirror. What was read is kept until the mirror has all of it: it may have some of it, and no other read finds the same."""
         with self.holding_all(step):
             with using([*self.parties(step), *(keeper for _, keeper in self.hint_keepers(step, chunk))]):
-                self.give(step, chunk, self.gather(step, chunk))
+                contents = self.gather(step, chunk)
                 self.marks[step.step].add(chunk)
                 self.store.history.note(("chunk", step.step, chunk))
+                try:
+                    self.give(step, chunk, contents)
+                except (Gone, Died):
+                    self.store.doubt(self.slot(step), Doubt(lambda: self.give_again(step, chunk, contents), self.slot(step).mirror))
+                    raise
 
     def is_whole(self, step: StepLine) -> bool:
         """Whether the copy may be closed."""
         return len(self.marks[step.step]) == CHUNKS
 
     def copy(self, step: StepLine, draw: random.Random) -> None:
-        self.open(step)
+        # An open copy with all its chunks needs no node to be closed: its mirror may be dead.
+        if step.step in self.opened and self.is_whole(step):
+            self.store.settle(self.slot(step))
+        else:
+            self.open(step)
         for chunk in draw.sample(range(CHUNKS), CHUNKS):
             if chunk in self.marks[step.step] or self.is_whole(step):
                 continue
@@ -182,6 +205,49 @@ class Executor:
                 raise
         self.opened.remove(step.step)
         self.finish(step, "close")
+
+    # Another plan, as `ringplan around` prints it.
+    def lowered(self, slot: Slot, mirror: Member, past: Past) -> int:
+        """By how much the slot's generation falls if its mirror is undone: by one, and by one for each loss of the mirror's store while it kept no hint for the slot."""
+        begun, keeps, count = False, False, 1
+        for event, reply in past.entries:
+            kind, *words = map(str, event)
+            if kind == "do":
+                step = self.steps[int(words[0])]
+                begun = begun or (step.do == "mirror" and self.slot(step) is slot and self.member(step) is mirror)
+            elif kind == "hint" and words[2] == mirror.name and reply[1:3] == (slot.partition, slot.index):
+                keeps = True
+            elif kind == "handoff" and words == [mirror.name, str(slot.partition), str(slot.index)]:
+                keeps = False
+            elif kind == "lose" and words == [mirror.name]:
+                count, keeps = count + (begun and not keeps), False
+        return count
+
+    def go_over(self, steps: Sequence[StepLine], history: History, past: Past) -> None:
+        """Goes on by another plan and the history by it, which takes the place of the past. Called while no step is under way and no store can be lost; clients may run on."""
+        done, opened, marks, mirrored = set[int](), set[int](), defaultdict[int, set[int]](set), set[Slot]()
+        for kind, *words in (entry.event for entry in history.entries if entry.event[0] in STEPPED):
+            number, step = int(words[0]), steps[int(words[0])]
+            (done if kind in ("do", "close") else opened).add(number)
+            opened -= {number} if kind in ("close", "abort") else set()
+            marks[number].update(map(int, words[1:]))
+            if step.do in ("mirror", "switch"):
+                (mirrored.add if step.do == "mirror" else mirrored.discard)(self.slot(step))
+        with contextlib.ExitStack() as stack:
+            for partition in self.store.partitions:
+                stack.enter_context(partition.lock)
+            stack.enter_context(self.store.counting)
+            fallen = dict[tuple[int, int], int]()
+            for slot in self.store.all_slots():
+                if slot.mirror is not None and slot not in mirrored:
+                    fallen[slot.partition, slot.index] = count = self.lowered(slot, slot.mirror, past)
+                    self.store.take_back(slot, slot.mirror, count)
+            self.store.history.replace(past, recorded(history, past), fallen)
+            self.store.recount()
+            self.steps, self.done, self.opened, self.marks = steps, done, opened, marks
+            left = [step for step in steps if step.step not in done]
+            self.store.barred = {(self.member(step), step.place()[0]) for step in left if step.do == "mirror"}
+            self.store.barred |= {(self.member(step), partition) for step in left if step.do == "retire" for partition in range(len(self.store.partitions))}
 
     # Workers.
     def do(self, step: StepLine, draw: random.Random) -> None:

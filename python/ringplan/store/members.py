@@ -65,8 +65,8 @@ class Doubt:
     """What may or may not have happened at a slot, since a node died before it answered. `again` does it for certain."""
 
     again: Callable[[], None]
-    # Whether the slot's owner alone was asked: where it is dead for good, nothing has happened that anybody could see.
-    is_of_owner: bool
+    # The only node that was asked, if it was one: once that is dead for good, or has lost its store, nothing has happened that anybody could see.
+    only: Member | None = None
 
 
 @dataclass(eq=False)
@@ -82,10 +82,16 @@ class Slot:
     # Keepers whose handoff began and has not ended: the owner may have what the history says is with the keeper alone.
     handing: set[Member] = field(default_factory=set)
     doubts: list[Doubt] = field(default_factory=list)
+    # Nodes whose mirror of the slot was undone: each must forget what it has of the slot before it mirrors the slot again.
+    undone: set[Member] = field(default_factory=set)
 
     def writers(self) -> list[Member]:
         """Who stores a write: the mirror first, so that half a write stands where no read looks."""
         return [self.owner] if self.mirror is None else [self.mirror, self.owner]
+
+    def forget_doubts(self, member: Member) -> None:
+        """Forgets what only the member was asked."""
+        self.doubts = [doubt for doubt in self.doubts if doubt.only is not member]
 
     def area(self, chunk: int) -> str:
         return f"{self.partition}.{self.index}.{chunk}"

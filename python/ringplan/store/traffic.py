@@ -19,7 +19,7 @@ from ringplan.store.nodes import Gone
 
 @dataclass
 class Load:
-    """How much traffic there is, and how often servers die. Times are seconds."""
+    """How much traffic there is, and how often servers die. Times are seconds. `halves` is the part of puts whose client ends after the first slot."""
 
     seed: int = 1
     clients: int = 5
@@ -32,6 +32,7 @@ class Load:
     handoffs: float = 0.1
     deaths: float = 0.01
     limit: float = 60.0
+    halves: float = 0.0
     loses: bool = False
     wipes: bool = False
 
@@ -60,7 +61,12 @@ class Run:
                     last[key] = get
             else:
                 seen = [last[key]] if key in last and draw.random() < 0.7 else []
-                self.store.put(f"w{number}", key, f"{draw.randrange(2**32):08x}", seen, draw)
+                value = f"{draw.randrange(2**32):08x}"
+                if self.load.halves and draw.random() < self.load.halves:
+                    # Another writer: this one's next put would succeed it.
+                    self.store.send(self.store.start_put(f"h{number}", key, value, seen), draw.choice(self.store.slots_of(key)), draw)
+                else:
+                    self.store.put(f"w{number}", key, value, seen, draw)
             count += 1
 
     def kill_servers(self) -> None:
@@ -109,12 +115,14 @@ class Run:
             self.store.attempt(partial(self.store.settle, slot))
 
     def bury(self) -> None:
-        """Kills the servers that are dead for good, each while it keeps no hint and nothing is in doubt: who asks the dead for either would wait for ever."""
+        """Kills the servers that are dead for good, each while it keeps no hint, and while nothing is in doubt that others were asked too: who asks the dead would wait for ever."""
         for member in (self.store.by_name[name] for name in self.dead):
             while member not in self.store.dead:
-                self.settle()
+                for slot in self.store.all_slots():
+                    if any(doubt.only is not member for doubt in slot.doubts):
+                        self.store.attempt(partial(self.store.settle, slot))
                 with member.alone():
-                    if not any(member in slot.keepers or slot.doubts for slot in self.store.all_slots()):
+                    if not any(member in slot.keepers or any(doubt.only is not member for doubt in slot.doubts) for slot in self.store.all_slots()):
                         member.node.kill()
                         self.store.dead.add(member)
                         self.store.note_down(member)

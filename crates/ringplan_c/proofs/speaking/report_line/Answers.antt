@@ -12,7 +12,7 @@ returns-in-Make c =
     let asks = subst (Answers (asked (line_of c.args.command.now c.args.options.now))) c.in-Make.is line.ensures.asks in
     let named = line.ensures.files (subst IsJob (sym c.in-Make.is) tt) in
     weaker c.report_making.result c.report_making.ensures
-    (λ r p. reported c.in-Make.making asks (subst (λ (fs : Names). Reports fs c.in-Make.making c.args.input.now r.output.items r.status) named p))
+    (λ r p. reported c.in-Make.making c.in-Make.known asks (subst (λ (fs : Names). Reports fs c.in-Make.making c.in-Make.known c.args.input.now r.output.items r.status) named p))
 
 pub returns : goal.returns
 returns c =

@@ -8,6 +8,6 @@ use Rattle.ringplan_c.proofs.speaking.report_making.Goals as goal
 
 pub returns : goal.returns
 returns c =
-    let none : NamesNone (files_in c.args.files.now) c.args.making.now = first_of (search rules, grind (arith, common_steps)) in
+    let none : NamesNone (files_in c.args.files.now) c.args.options.now = first_of (search rules, grind (arith, common_steps)) in
     let few : length c.args.input.now ≤ max_input = omega arith in
     weaker c.report_bundle.result c.report_bundle.ensures (λ r p. read none few p)

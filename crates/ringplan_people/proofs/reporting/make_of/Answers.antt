@@ -4,4 +4,4 @@ use Rattle.ringplan_people.specs.Made.{IsMade}
 use Rattle.ringplan_people.proofs.reporting.make_of.Goals as goal
 
 pub returns-in-Goal : goal.returns-in-Goal
-returns-in-Goal c = subst (λ (m : Making). IfOk c.make_goal.result (λ text. IsMade m c.args.bytes.now text.items)) (sym c.in-Goal.is) c.make_goal.ensures
+returns-in-Goal c = subst (λ (m : Making). IfOk c.make_goal.result (λ text. IsMade m c.args.options.now c.args.bytes.now text.items)) (sym c.in-Goal.is) c.make_goal.ensures

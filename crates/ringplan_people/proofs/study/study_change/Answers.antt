@@ -1,8 +1,6 @@
-use Rattle.std.proofs.Common.{sym}
+use Rattle.std.proofs.Common.{refl}
 use Rattle.ringplan_people.specs.Studies.{of_change}
 use Rattle.ringplan_people.proofs.study.study_change.Goals as goal
 
 pub returns-clause-of : goal.returns-clause-of
-returns-clause-of c =
-    let p = c.in_ok-approved in
-    of_change c.in_ok-ring.field-0 c.in_ok-ring.ensures.read (sym p.ensures.ring) p.ensures.proposed.fulfils
+returns-clause-of c = of_change c.args.options.now c.in_ok-approved.field-0 c.in_ok-approved.ensures.reached refl refl

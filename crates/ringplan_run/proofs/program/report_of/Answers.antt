@@ -8,4 +8,4 @@ pub returns-in-Ok : goal.returns-in-Ok
 returns-in-Ok g c =
     let told = c.in-Ok.ensures in
     let same : told.0 ≡ c.as_slice.result.now = sym told.2.0 ∙ sym c.as_slice.ensures.value in
-    weaker c.report_bundle.result c.report_bundle.ensures (λ r p. (c.as_slice.result.now, subst (λ (xs : List ℕ). Tells (g.R.Read.remaining c.args.input.now) xs) same told.1, read c.requires p))
+    weaker c.report_bundle.result c.report_bundle.ensures (λ r p asked made. (c.as_slice.result.now, subst (λ (xs : List ℕ). Tells (g.R.Read.remaining c.args.input.now) xs) same told.1, read c.args.options.now made c.requires p))

@@ -48,8 +48,7 @@ returns-in-Drive g c = λ asked h.
 pub returns-in-Make : goal.returns-in-Make
 returns-in-Make g c = λ asked h.
     let asks = subst (λ (r : Request). Answers asked r) c.in-Make.is h in
-    let made = c.run_making.ensures in
-    ran_report asked made.0 (g.R.Read.remaining c.args.input.now) _ _ c.run_making.result (made.1 asked asks) (made.2, made.3, made.4)
+    ran_report asked c.in-Make.making c.in-Make.options (g.R.Read.remaining c.args.input.now) _ _ c.run_making.result asks c.run_making.ensures
 
 pub returns-in-Describe : goal.returns-in-Describe
 returns-in-Describe g c = λ asked h.

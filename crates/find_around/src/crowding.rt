@@ -1,0 +1,177 @@
+//! Moves that are left out since another slot of their partition stays at their target.
+
+use crate::around::{Search, Task};
+use crate::moving::{Move, Moves};
+use crate::told::Outcome;
+use helpers::{at, place_of, set};
+use ring_names::{Refusal, Slot};
+use std::alloc::Global;
+use std::collections::BinaryHeap;
+
+/// Which moves lead to which node of a partition, and which moves were left out while their slots stay.
+#[derive(Drop)]
+pub(crate) struct Crowd {
+    // partitions, targets and mirrors; ascending
+    arrivals: Vec<(u32, u32, u32)>,
+    // mirrors of moves that were left out, the first on top
+    staying: BinaryHeap<u32>,
+    // by the place of a slot, the mirror from which on its moves are left out
+    cuts: Vec<u32>,
+}
+
+impl Crowd {
+    /// The task's moves, of which none is left out.
+    pub(crate) fn of(task: &Task, moves: &Moves) -> Result<Crowd, Refusal> {
+        let alloc: Global = task.alloc;
+        let mut arrivals = Vec::new(alloc);
+        for place in 0..moves.len() {
+            if let Some(it) = moves.at(Some(place)) {
+                if let Some(mirror) = it.mirror {
+                    arrivals.push((it.slot.partition, it.target, mirror))?;
+                }
+            }
+        }
+        arrivals.sort_unstable();
+        let slots = (task.ring.q() as usize).saturating_mul(7);
+        Ok(Crowd {
+            arrivals,
+            staying: BinaryHeap::new(alloc),
+            cuts: vec![in alloc; u32::MAX; slots]?,
+        })
+    }
+
+    // The mirror from which on the slot's moves are left out.
+    fn cut(&self, slot: Slot) -> u32 {
+        at(self.cuts.as_slice(), place_of(slot))
+    }
+
+    // The place of the first move to the node of the partition with that mirror or a later one.
+    fn first(&self, partition: u32, node: u32, mirror: u32) -> usize {
+        match self.arrivals.binary_search(&(partition, node, mirror)) {
+            Ok(place) | Err(place) => place,
+        }
+    }
+
+    // The mirror of that place, if it leads to the node of the partition.
+    fn arrival(&self, place: usize, partition: u32, node: u32) -> Option<u32> {
+        match self.arrivals.get(place) {
+            Some((there, target, mirror)) if *there == partition && *target == node => Some(
+                *mirror,
+            ),
+            _ => None,
+        }
+    }
+
+    /// The owner of the move's slot keeps it, since the move with that mirror is left out.
+    pub(crate) fn stay(&mut self, mirror: Option<u32>) -> Result<(), Refusal> {
+        if let Some(mirror) = mirror {
+            self.staying.push(u32::MAX.saturating_sub(mirror))?;
+        }
+        Ok(())
+    }
+
+    // The first of the mirrors at which an owner stays, which is taken away.
+    fn pop(&mut self) -> Option<u32> {
+        let top = self.staying.pop()?;
+        Some(u32::MAX.saturating_sub(top))
+    }
+}
+
+impl Search<'_> {
+    /// Leaves out all steps of a move.
+    pub(crate) fn leave_out(&mut self, it: &Move) {
+        self.remove(it.mirror);
+        self.remove(it.copy);
+        self.remove(it.switch);
+        self.remove(it.drop);
+    }
+
+    /// Leaves out all steps of the slot's moves from that one on: the slot stays where it is then.
+    pub(crate) fn leave_out_from(&mut self, from: Option<usize>) -> Result<(), Refusal> {
+        let Some(first) = self.moves.at(from) else {
+            return Ok(());
+        };
+        let old = self.crowd.cut(first.slot);
+        let Some(mirror) = first.mirror else {
+            return Ok(());
+        };
+        if old <= mirror {
+            return Ok(());
+        }
+        set(self.crowd.cuts.as_mut_slice(), place_of(first.slot), mirror);
+        self.crowd.stay(first.mirror)?;
+        let mut next = from;
+        for turn in 0..self.moves.len() {
+            let Some(it) = self.moves.at(next) else {
+                break;
+            };
+            if it.mirror == Some(old) {
+                break;
+            }
+            self.leave_out(&it);
+            next = it.next;
+        }
+        Ok(())
+    }
+
+    /// Leaves out each move to a node that stays the owner of another slot of the partition, with the later moves of its slot.
+    pub(crate) fn make_way(&mut self) -> Result<(), Refusal> {
+        for turn in 0..u32::MAX {
+            let Some(mirror) = self.crowd.pop() else {
+                break;
+            };
+            if let Some(it) = self.moves.at(self.moves.of_step(mirror)) {
+                if self.crowd.cut(it.slot) >= mirror {
+                    self.make_way_for(&it, mirror)?;
+                }
+            }
+        }
+        Ok(())
+    }
+
+    // The switch by which the slot leaves the owner that keeps it for now, if there is one.
+    fn next_switch(&self, it: &Move) -> Option<u32> {
+        let mut next = it.next;
+        for turn in 0..self.moves.len() {
+            let later = self.moves.at(next)?;
+            if let Some(switch) = self.kept(later.switch) {
+                return Some(switch);
+            }
+            next = later.next;
+        }
+        None
+    }
+
+    // The move is left out: its owner keeps the slot up to the next switch that is left.
+    fn make_way_for(&mut self, it: &Move, mirror: u32) -> Result<(), Refusal> {
+        let until = self.next_switch(it);
+        let (partition, node) = (it.slot.partition, it.source);
+        let from = self.crowd.first(partition, node, mirror);
+        for place in from..self.crowd.arrivals.len() {
+            let Some(other) = self.crowd.arrival(place, partition, node) else {
+                break;
+            };
+            if let Some(switch) = until {
+                if switch < other {
+                    return self.more.add(other, switch);
+                }
+            }
+            self.step_aside(it, other)?;
+        }
+        Ok(())
+    }
+
+    // The other move is left out if it leads to the owner, who keeps the move's slot.
+    fn step_aside(&mut self, it: &Move, other: u32) -> Result<(), Refusal> {
+        let place = self.moves.of_step(other);
+        let Some(late) = self.moves.at(place) else {
+            return Ok(());
+        };
+        let is_left = self.kept(late.mirror).is_none() || self.has_done(late.mirror);
+        if is_left || late.slot == it.slot || late.target != it.source {
+            return Ok(());
+        }
+        self.leave_out_from(place)?;
+        self.note_outcome(late.slot, Outcome::Crowded(it.source))
+    }
+}

@@ -1,0 +1,102 @@
+//! Slots that stay with their owners, as it is asked for.
+
+use crate::around::{Search, Task};
+use crate::moving::{Move, Moves};
+use crate::told::Outcome;
+use helpers::put;
+use plan_moves::Progress;
+use ring_names::{Refusal, Slot};
+
+// Whether the ring has the slot.
+fn has_slot(task: &Task, slot: Slot) -> bool {
+    slot.partition < task.ring.q() && slot.index < task.ring.n()
+}
+
+// Whether the step is done, if there is one.
+fn has_done(progress: &Progress, step: Option<u32>) -> bool {
+    match step {
+        Some(step) => progress.is_done(step),
+        None => false,
+    }
+}
+
+// The place of the slot's first move that is not over: a switch of it is to come, or its mirror stays without one and can be taken back.
+fn first_open(moves: &Moves, progress: &Progress, slot: Slot) -> Option<usize> {
+    let mut next = moves.first(slot);
+    for turn in 0..moves.len() {
+        let it = moves.at(next)?;
+        if it.switch.is_none() && has_done(progress, it.copy) {
+            return None;
+        }
+        if !has_done(progress, it.switch) {
+            return next;
+        }
+        next = it.next;
+    }
+    None
+}
+
+/// The slots that are to stay, and that neither a step to come moves nor a node mirrors. Costs one pass over the plan and one over the history.
+pub fn find_unmoved(task: &Task) -> Result<Vec<Slot>, Refusal> {
+    let mut unmoved = Vec::new(task.alloc);
+    if task.left.is_empty() {
+        return Ok(unmoved);
+    }
+    let progress = Progress::of(task.alloc, task.plan, task.history)?;
+    let moves = Moves::of(task.alloc, task.ring, task.plan)?;
+    for slot in task.left {
+        if !has_slot(task, *slot) || first_open(&moves, &progress, *slot).is_none() {
+            unmoved.push(*slot)?;
+        }
+    }
+    Ok(unmoved)
+}
+
+impl Search<'_> {
+    /// Leaves the slots that are named with their owners.
+    pub(crate) fn leave_named(&mut self) -> Result<(), Refusal> {
+        let left = self.task.left;
+        for slot in left {
+            if has_slot(&self.task, *slot) {
+                self.leave_slot(*slot)?;
+            }
+        }
+        self.make_way()
+    }
+
+    // Leaves the slot with its owner; a move whose copy has all chunks is ended.
+    fn leave_slot(&mut self, slot: Slot) -> Result<(), Refusal> {
+        let place = first_open(&self.moves, &self.progress, slot);
+        let Some(it) = self.moves.at(place) else {
+            return Ok(());
+        };
+        if self.is_filled(&it) {
+            self.leave_out_from(it.next)?;
+            return self.note_outcome(slot, Outcome::Ended(it.target));
+        }
+        self.cancel(&it)?;
+        self.leave_out_from(place)?;
+        self.note_outcome(slot, Outcome::Left)
+    }
+
+    // Takes the move's mirror back if it is set.
+    fn cancel(&mut self, it: &Move) -> Result<(), Refusal> {
+        if self.has_done(it.mirror) {
+            self.take_back(it)?;
+        }
+        Ok(())
+    }
+
+    /// The slot's mirror is taken back, and the move is as if it had not begun.
+    pub(crate) fn take_back(&mut self, it: &Move) -> Result<(), Refusal> {
+        self.note_taken(it.slot, it.target)?;
+        if let Some(mirror) = it.mirror {
+            put(self.taken.as_mut_slice(), mirror, true);
+        }
+        if let Some(copy) = it.copy {
+            put(self.fresh.as_mut_slice(), copy, true);
+        }
+        self.is_changed = true;
+        Ok(())
+    }
+}

@@ -1,0 +1,86 @@
+//! Labels of nodes.
+
+use crate::numbers::{NONE, at};
+use ring_names::{Names, Refusal};
+use std::alloc::Global;
+
+/// A name for each node, such as its rack; equal names have equal numbers.
+#[derive(Drop)]
+pub struct Labels {
+    names: Names,
+    // by node
+    numbers: Vec<u32>,
+}
+
+impl Labels {
+    /// Labels of no node.
+    pub fn new(alloc: Global) -> Labels {
+        Labels {
+            names: Names::new(alloc),
+            numbers: Vec::new(alloc),
+        }
+    }
+
+    /// Adds the next node, with that name.
+    pub fn add(&mut self, name: &[u8]) -> Result<(), Refusal> {
+        if self.names.len() == u32::MAX {
+            return self.add_alone();
+        }
+        let number = self.names.add(name)?;
+        self.numbers.push(number)?;
+        Ok(())
+    }
+
+    /// Adds the next node, which has no name, and a number of its own.
+    pub fn add_alone(&mut self) -> Result<(), Refusal> {
+        let node = crate::numbers::small(self.numbers.len());
+        self.numbers.push(NONE.saturating_sub(node))?;
+        Ok(())
+    }
+
+    /// The number of each node's name.
+    pub fn numbers(&self) -> &[u32] {
+        self.numbers.as_slice()
+    }
+
+    /// The number of the node's name.
+    pub fn of(&self, node: u32) -> u32 {
+        at(self.numbers.as_slice(), node as usize)
+    }
+
+    /// The node's name, or no bytes if it has none.
+    pub fn name(&self, node: u32) -> &[u8] {
+        match self.names.name_of(self.of(node)) {
+            Some(name) => name,
+            None => &[],
+        }
+    }
+
+    /// How many names there are.
+    pub fn count(&self) -> u32 {
+        self.names.len()
+    }
+
+    /// The name of that number, if there is one.
+    pub fn name_of(&self, number: u32) -> Option<&[u8]> {
+        self.names.name_of(number)
+    }
+}
+
+/// What stands behind the last byte of that kind in a name, if there is something.
+pub fn suffix(name: &[u8], byte: u8) -> Option<&[u8]> {
+    let mut start = None;
+    let mut place = 0usize;
+    for other in name {
+        place = place.saturating_add(1);
+        if *other == byte {
+            start = Some(place);
+        }
+    }
+    let start = start?;
+    if start < name.len() {
+        Some(&name[start..])
+    } else {
+        None
+    }
+}

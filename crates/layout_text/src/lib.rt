@@ -1,0 +1,13 @@
+//! Layouts, and their text: what is known of a ring's nodes and partitions.
+#![tactic(auto)]
+
+mod draft;
+mod fact;
+mod field;
+mod layout;
+mod lines;
+mod number;
+mod reading;
+
+pub use layout::{Entry, Fact, Layout};
+pub use reading::read_layout;

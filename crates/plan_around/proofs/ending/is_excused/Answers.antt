@@ -1,0 +1,17 @@
+use Rattle.std.proofs.Common.{◌∙◌, sym}
+use Rattle.plan_around.specs.Ends.{hinted, owned, stays, touched}
+use Rattle.plan_around.proofs.ending.is_excused.Goals as goal
+
+pub returns-then-has_dead_owner : goal.returns-then-has_dead_owner
+returns-then-has_dead_owner c = λ t w m. touched (owned (sym c.has_dead_owner.ensures ∙ c.if-has_dead_owner.true))
+
+pub returns-then-is_flagged : goal.returns-then-is_flagged
+returns-then-is_flagged c = λ t w m.
+    let kept = c.requires c.args.partition (sym c.is_flagged.ensures ∙ c.if-is_flagged.true) w m in
+    touched (hinted kept.0 kept.1 kept.2 kept.3)
+
+pub returns-then-has_dead_targets : goal.returns-then-has_dead_targets
+returns-then-has_dead_targets c = λ t w m. touched (c.has_dead_targets.ensures c.if-has_dead_targets.true c.args.it.now.ring.now w)
+
+pub returns : goal.returns
+returns c = λ t w m. stays (sym c.is_left.ensures ∙ t)

@@ -1,0 +1,56 @@
+-- What is found of the end of a plan, store by store and place by place.
+use Rattle.std.specs.Prelude.{◌≡◌, ◌⊎◌, ℕ, Bool, true, List}
+use Rattle.ring_names.specs.Lists.{has}
+use Rattle.ring_names.specs.declared.ids.NodeId.{NodeId}
+use Rattle.ring_names.specs.declared.ids.Slot.{Slot}
+use Rattle.plan_text.specs.Changes.{numbers}
+use Rattle.plan_text.specs.declared.step.Step.{Step}
+use Rattle.plan_text.specs.declared.step.Step.TheVariants.{Mirror}
+use Rattle.plan_runs.specs.World.{World as TheWorld, keeps, slot_at}
+use Rattle.plan_goal.specs.Reached.{member_after}
+use Rattle.plan_bundles.specs.Sized.{is_flagged}
+use Rattle.ring_core.specs.World.{Meets, ring_of, plan_of}
+use Rattle.ring_core.specs.declared.world.World.{World}
+use Rattle.plan_moves.specs.Owners.{IsPast}
+use Rattle.plan_around.specs.declared.ending.Endings.{Endings}
+use Rattle.plan_around.specs.declared.ending.Ended.{Ended}
+use Rattle.plan_around.specs.Ends.{IsExcused, MayDiffer, MayHold, ShouldOwn, last_owner}
+
+-- in each world that the store may be in, one of these nodes keeps a hint for a slot of the partition
+abbrev pub KeepsIn : World → List NodeId → ℕ → Type 0
+KeepsIn store dead p = (w : TheWorld) → Meets store w → (i : ℕ) × (x : NodeId) × (has x.0 (numbers dead) ≡ true) × (keeps w x.0 (slot_at p i) ≡ true)
+
+-- so it is in each partition that is marked
+abbrev pub HintsIn : World → List NodeId → List Bool → Type 0
+HintsIn store dead marks = (p : ℕ) → is_flagged marks p ≡ true → KeepsIn store dead p
+
+-- the step mirrors a slot of the partition at one of these nodes
+abbrev pub MirrorsIn : Step → List NodeId → ℕ → Type 0
+MirrorsIn step dead p = (i : ℕ) × (x : NodeId) × (step ≡ Mirror (slot_at p i) x) × (has x.0 (numbers dead) ≡ true)
+
+-- the step mirrors a slot at that node
+abbrev pub MirrorsAt : Step → ℕ → Type 0
+MirrorsAt step x = (s : Slot) × (y : NodeId) × (step ≡ Mirror s y) × (y.0 ≡ x)
+
+-- in each world that the store may be in, each node that is marked may hold something once the new plan is done
+abbrev pub HoldsIn : Endings → List Bool → Type 0
+HoldsIn it marks = (x : ℕ) → is_flagged marks x ≡ true → (w : TheWorld) → Meets it.before.now w → MayHold it.ring.now it.new.now w x
+
+-- from each world that the store may be in, the slot ends where it should
+abbrev pub SlotEnds : Endings → ℕ → ℕ → Type 0
+SlotEnds it p i = (w : TheWorld) → Meets it.before.now w
+    → ShouldOwn it.extent it.back it.ring.now it.old.now w (slot_at p i) (last_owner it.ring.now it.new.now (slot_at p i)) ⊎ IsExcused it.ring.now it.old.now w it.dead.now it.left.now p
+
+-- and likewise the node
+abbrev pub NodeEnds : Endings → ℕ → Type 0
+NodeEnds it x = (w : TheWorld) → Meets it.before.now w
+    → (member_after it.ring.now it.new.now x ≡ member_after it.ring.now it.old.now x) ⊎ MayDiffer it.extent it.ring.now it.new.now w it.dead.now x
+
+-- what is found of two plans is so: who serves each slot once they are done, the dead, and the hints that they keep in the store of the first plan
+pub record AreEnds (it : Endings) (ended : Ended) : Type 0 where
+  pub old : IsPast it.ring.now it.old.now ended.old
+  pub new : IsPast it.ring.now it.new.now ended.new
+  pub dead : ended.dead.nodes.now ≡ it.dead.now
+  pub hinted : HintsIn it.before.now ended.dead.nodes.now ended.hinted.items
+  pub ring : ring_of it.before.now ≡ it.ring.now
+  pub plan : plan_of it.before.now ≡ it.old.now

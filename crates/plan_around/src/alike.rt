@@ -1,0 +1,182 @@
+//! Whether the stores of two plans are alike.
+
+ghost use Rattle.std.specs.Prelude.{◌≡◌, ℕ, ◌<◌, true, IsTrue, Some};
+ghost use Rattle.plan_text.specs.Valid.{is_ring_slot};
+ghost use Rattle.plan_runs.specs.World.{World as TheWorld, slot_at};
+ghost use Rattle.ring_core.specs.World.{ring_of, plan_of, put_count, Meets};
+ghost use Rattle.plan_around.specs.Alike.{last_step, AreAlike, HeldAlike, InBoth, MirroredAlike, OwnerAlike, PutAlike, StoredAlike};
+
+use crate::over::is_step_done;
+use crate::storing::mirror_of;
+use plan_text::Plan;
+use ring_core::World;
+use ring_names::{NodeId, Slot};
+use ring_table::Ring;
+
+// Whether the slot has the same owner in both stores.
+fn is_owner_alike(a: &World, b: &World, slot: Slot) -> bool
+    requires old { is_ring_slot (ring_of a.now) slot ≡ true }
+    requires new { is_ring_slot (ring_of b.now) slot ≡ true }
+    ensures { IsTrue result → InBoth a.now b.now (λ r old w s new u. OwnerAlike r old w s new u slot) }
+{
+    let owner = a.owner(slot);
+    let other = b.owner(slot);
+    owner.0 == other.0
+}
+
+// Whether the slots of the partition have the same owners in both.
+fn is_row_alike(a: &World, b: &World, partition: u32, slots: u32) -> bool
+    requires same { ring_of b.now ≡ ring_of a.now }
+    requires slots { slots ≡ (ring_of b.now).n }
+    requires partition { partition < (ring_of b.now).q }
+    ensures { IsTrue result → (i : ℕ) → i < slots
+        → InBoth a.now b.now (λ r old w s new u. OwnerAlike r old w s new u (slot_at partition i)) }
+{
+    for index in 0..slots {
+        if !is_owner_alike(a, b, Slot { partition, index }) {
+            return false;
+        }
+    }
+    true
+}
+
+// Whether all slots have the same owners in both.
+fn are_owners_alike(ring: &Ring, a: &World, b: &World) -> bool
+    requires same { ring_of b.now ≡ ring_of a.now }
+    requires ring { ring_of b.now ≡ ring.now }
+    ensures { IsTrue result → (p : ℕ) → p < ring.now.q → (i : ℕ) → i < ring.now.n
+        → InBoth a.now b.now (λ r old w s new u. OwnerAlike r old w s new u (slot_at p i)) }
+{
+    let q = ring.q();
+    let slots = ring.n();
+    for partition in 0..q {
+        if !is_row_alike(a, b, partition, slots) {
+            return false;
+        }
+    }
+    true
+}
+
+// Whether each slot of the put's partition holds the put in both or in neither.
+fn is_held_alike(a: &World, b: &World, put: u32) -> bool
+    requires same { ring_of b.now ≡ ring_of a.now }
+    requires old { put < put_count a.now }
+    requires new { put < put_count b.now }
+    ensures { IsTrue result → InBoth a.now b.now (λ r old w s new u. (i : ℕ) → i < s.n → HeldAlike r old w s new u put i) }
+{
+    a.held_slots(put) == b.held_slots(put)
+}
+
+// Whether the slot's last step is done, if it has one.
+fn is_last_done(store: &World, plan: &Plan, slot: Slot) -> bool
+    ensures { IsTrue result → (u : TheWorld) → Meets store.now u → (n : ℕ) → last_step plan.now slot ≡ Some n → u.done n ≡ true }
+{
+    let steps = plan.slot_steps(slot);
+    match steps.last() {
+        Some(number) => is_step_done(store, plan, *number),
+        None => true,
+    }
+}
+
+// Whether both hold or neither.
+fn is_same(one: bool, other: bool) -> bool
+    ensures { IsTrue result → one ≡ other }
+{
+    if one { other } else { !other }
+}
+
+// Whether the node stores the put in both or in neither, if it mirrors the slot of that index in the first.
+fn is_stored_alike(a: &World, b: &World, node: NodeId, put: u32, index: u32) -> bool
+    requires old { put < put_count a.now }
+    requires new { put < put_count b.now }
+    requires index { index < (ring_of a.now).n }
+    ensures { IsTrue result → InBoth a.now b.now (λ r old w s new u. StoredAlike r old w s u put index node) }
+{
+    let slot = a.put_slot(put, index);
+    match mirror_of(a, slot) {
+        Some(mirror) => {
+            if mirror.0 != node.0 {
+                return false;
+            }
+            let mine = a.is_stored(node, put, index);
+            let theirs = b.is_stored(node, put, index);
+            is_same(mine, theirs)
+        }
+        None => false,
+    }
+}
+
+// Whether the mirror of the slot of that index of the put's partition stores the put in both or in neither, if the slot is mirrored in the second and its last step is to come.
+fn is_mirrored_alike(a: &World, b: &World, plan: &Plan, put: u32, index: u32) -> bool
+    requires same { ring_of b.now ≡ ring_of a.now }
+    requires plan { plan_of b.now ≡ plan.now }
+    requires old { put < put_count a.now }
+    requires new { put < put_count b.now }
+    requires index { index < (ring_of b.now).n }
+    ensures { IsTrue result → InBoth a.now b.now (λ r old w s new u. MirroredAlike r old w s new u put index) }
+{
+    let slot = b.put_slot(put, index);
+    match mirror_of(b, slot) {
+        Some(node) => {
+            if is_last_done(b, plan, slot) {
+                return true;
+            }
+            is_stored_alike(a, b, node, put, index)
+        }
+        None => true,
+    }
+}
+
+// Whether the slots of the put's partition are alike in both, as far as the put is concerned.
+fn is_put_alike(a: &World, b: &World, plan: &Plan, put: u32, slots: u32) -> bool
+    requires same { ring_of b.now ≡ ring_of a.now }
+    requires plan { plan_of b.now ≡ plan.now }
+    requires old { put < put_count a.now }
+    requires new { put < put_count b.now }
+    requires slots { slots ≡ (ring_of b.now).n }
+    ensures { IsTrue result → InBoth a.now b.now (λ r old w s new u. PutAlike r old w s new u put) }
+{
+    if !is_held_alike(a, b, put) {
+        return false;
+    }
+    for index in 0..slots {
+        if !is_mirrored_alike(a, b, plan, put, index) {
+            return false;
+        }
+    }
+    true
+}
+
+// Whether so it is for each put.
+fn are_puts_alike(ring: &Ring, plan: &Plan, a: &World, b: &World) -> bool
+    requires same { ring_of b.now ≡ ring_of a.now }
+    requires ring { ring_of b.now ≡ ring.now }
+    requires plan { plan_of b.now ≡ plan.now }
+    requires puts { put_count b.now ≡ put_count a.now }
+    ensures { IsTrue result → (v : ℕ) → v < put_count b.now → InBoth a.now b.now (λ r old w s new u. PutAlike r old w s new u v) }
+{
+    let puts = b.puts();
+    let slots = ring.n();
+    for put in 0..puts {
+        if !is_put_alike(a, b, plan, put, slots) {
+            return false;
+        }
+    }
+    true
+}
+
+/// Whether both stores are alike: the second is one of this ring and this plan. Costs a few look-ups for each put and each slot of its partition.
+pub(crate) fn are_alike(ring: &Ring, plan: &Plan, a: &World, b: &World) -> bool
+    requires same { ring_of b.now ≡ ring_of a.now }
+    requires ring { ring_of b.now ≡ ring.now }
+    requires plan { plan_of b.now ≡ plan.now }
+    ensures { IsTrue result → InBoth a.now b.now AreAlike }
+{
+    if a.puts() != b.puts() {
+        return false;
+    }
+    if !are_owners_alike(ring, a, b) {
+        return false;
+    }
+    are_puts_alike(ring, plan, a, b)
+}

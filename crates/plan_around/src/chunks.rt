@@ -1,0 +1,53 @@
+//! The puts of a history, by where their keys lie.
+
+use plan_runs::{Entry, Event, Reply};
+use ring_names::Refusal;
+use ring_space::place;
+use ring_table::Ring;
+use std::alloc::Global;
+use std::collections::BTreeMap;
+
+/// A partition and a chunk of it.
+pub(crate) type Chunk = (u32, u32);
+
+/// The numbers of puts, by the chunk of their keys.
+#[derive(Drop)]
+pub(crate) struct PutsByChunk {
+    alloc: Global,
+    puts: BTreeMap<Chunk, Vec<u32>>,
+}
+
+impl PutsByChunk {
+    /// No puts.
+    pub(crate) fn new(alloc: Global) -> PutsByChunk {
+        PutsByChunk {
+            alloc,
+            puts: BTreeMap::new(alloc),
+        }
+    }
+
+    /// Adds the put that the entry starts, if it starts one.
+    pub(crate) fn note(&mut self, ring: &Ring, entry: &Entry) -> Result<(), Refusal> {
+        let (Event::StartPut(_, key, _, _), Reply::Put(put)) = (&entry.event, &entry.reply) else {
+            return Ok(());
+        };
+        let lies = place(ring.q(), key.as_slice());
+        let chunk = (lies.partition, lies.chunk);
+        if let Some(puts) = self.puts.get_mut(&chunk) {
+            puts.push(*put)?;
+            return Ok(());
+        }
+        let mut puts = Vec::new(self.alloc);
+        puts.push(*put)?;
+        self.puts.insert(chunk, puts)?;
+        Ok(())
+    }
+
+    /// The puts of the chunk, ascending.
+    pub(crate) fn of(&self, chunk: Chunk) -> &[u32] {
+        match self.puts.get(&chunk) {
+            Some(puts) => puts.as_slice(),
+            None => &[],
+        }
+    }
+}

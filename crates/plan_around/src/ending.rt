@@ -1,0 +1,363 @@
+//! Whether a plan ends where it should that goes on in place of another one.
+
+ghost use Rattle.std.specs.Prelude.{◌≡◌, ◌⊎◌, ℕ, ◌<◌, ◌==◌, true, length, IsTrue, IfOk};
+ghost use Rattle.std.specs.List.{list_any};
+ghost use Rattle.ring_names.specs.Lists.{has};
+ghost use Rattle.ring_table.specs.Value.{RingValue};
+ghost use Rattle.plan_text.specs.Changes.{numbers};
+ghost use Rattle.plan_text.specs.Valid.{is_ring_slot, Suits};
+ghost use Rattle.plan_runs.specs.World.{World as TheWorld};
+ghost use Rattle.plan_goal.specs.Reached.{member_after};
+ghost use Rattle.plan_moves.specs.Owners.{IsPast};
+ghost use Rattle.plan_bundles.specs.Sized.{is_flagged, row_at};
+ghost use Rattle.ring_core.specs.World.{ring_of, plan_of, Meets};
+ghost use Rattle.plan_around.specs.Ends.{EndsWell, IsExcused, IsTouched, ShouldOwn};
+ghost use Rattle.plan_around.specs.Ending.{AreEnds, HintsIn, HoldsIn, MirrorsAt, MirrorsIn, NodeEnds, SlotEnds};
+
+use plan_bundles::{is_flagged, row_at};
+use plan_cover::Present;
+use plan_goal::Dead;
+use plan_moves::present_after;
+use plan_runs::Back;
+use plan_text::{Plan, Step};
+use ring_core::World;
+use ring_names::{NodeId, Refusal, Slot};
+use ring_table::Ring;
+use ringplan_job::Extent;
+use std::alloc::Global;
+
+/// Two plans of a ring, the second in place of the first; the store in which the first one stopped; and what is asked of the second.
+#[derive(Clone, Copy)]
+pub(crate) struct Endings<'a> {
+    pub(crate) ring: &'a Ring,
+    pub(crate) old: &'a Plan,
+    pub(crate) new: &'a Plan,
+    pub(crate) before: &'a World<'a>,
+    pub(crate) dead: &'a [NodeId],
+    pub(crate) left: &'a [Slot],
+    pub(crate) back: Back,
+    pub(crate) extent: Extent,
+}
+
+// Marks the place, if there is one.
+fn mark(marks: &mut Vec<bool>, place: u32)
+    ensures { (p : ℕ) → is_flagged marks.new.items p ≡ true → (p ≡ place) ⊎ (is_flagged marks.old.items p ≡ true) }
+{
+    let place = place as usize;
+    if place < marks.len() {
+        marks[place] = true;
+    }
+}
+
+// Marks the place if the node is dead.
+fn mark_if_dead(marks: &mut Vec<bool>, dead: &Dead, node: NodeId, place: u32)
+    ensures { (p : ℕ) → is_flagged marks.new.items p ≡ true
+        → ((p ≡ place) × (has node.0 (numbers dead.now.nodes.now) ≡ true)) ⊎ (is_flagged marks.old.items p ≡ true) }
+{
+    if dead.has(node) {
+        mark(marks, place);
+    }
+}
+
+// Marks the partitions for which dead nodes keep hints.
+fn hinted(alloc: Global, it: &Endings, dead: &Dead) -> Result<Vec<bool>, Refusal>
+    ensures { IfOk result (λ marks. HintsIn it.now.before.now dead.now.nodes.now marks.items) }
+{
+    let mut marks = vec![in alloc; false; it.ring.q() as usize]?;
+    for number in 0..u32::MAX {
+        let Some((node, slot)) = it.before.hint_at(number) else {
+            break;
+        };
+        mark_if_dead(&mut marks, dead, node, slot.partition);
+    }
+    Ok(marks)
+}
+
+// Whether a dead node owns a slot of the partition before the plan.
+fn has_dead_owner(ring: &Ring, dead: &Dead, partition: u32) -> bool
+    ensures { result ≡ list_any (λ x. has x.0 (numbers dead.now.nodes.now)) (row_at ring.now.owners partition) }
+{
+    row_at(ring.rows(), partition as usize)
+        .iter()
+        .any(|node| dead.has(*node))
+}
+
+// Whether the step mirrors a slot of the partition at a dead node.
+fn is_mirror_at_dead(step: &Step, dead: &Dead, partition: u32) -> bool
+    ensures { IsTrue result → MirrorsIn step.now dead.now.nodes.now partition }
+{
+    match step {
+        Step::Mirror(slot, node) => slot.partition == partition && dead.has(*node),
+        _ => false,
+    }
+}
+
+// Whether the step of that number mirrors a slot of the partition at a dead node.
+fn is_dead_target(plan: &Plan, dead: &Dead, number: u32, partition: u32) -> bool
+    ensures { IsTrue result → (ring : RingValue) (w : TheWorld) → IsTouched ring plan.now w dead.now.nodes.now partition }
+{
+    if number >= plan.len() {
+        return false;
+    }
+    is_mirror_at_dead(plan.step(number), dead, partition)
+}
+
+// Whether the plan mirrors the slot at a dead node.
+fn has_dead_target(plan: &Plan, dead: &Dead, slot: Slot) -> bool
+    ensures { IsTrue result → (ring : RingValue) (w : TheWorld) → IsTouched ring plan.now w dead.now.nodes.now slot.partition }
+{
+    for number in plan.slot_steps(slot) {
+        if is_dead_target(plan, dead, *number, slot.partition) {
+            return true;
+        }
+    }
+    false
+}
+
+// Whether the plan mirrors a slot of the partition at a dead node.
+fn has_dead_targets(it: &Endings, dead: &Dead, partition: u32) -> bool
+    ensures { IsTrue result → (ring : RingValue) (w : TheWorld) → IsTouched ring it.now.old.now w dead.now.nodes.now partition }
+{
+    let slots = it.ring.n();
+    for index in 0..slots {
+        if has_dead_target(it.old, dead, Slot { partition, index }) {
+            return true;
+        }
+    }
+    false
+}
+
+// Whether a slot of the partition is left with its owner.
+fn is_left(left: &[Slot], partition: u32) -> bool
+    ensures { result ≡ list_any (λ s. s.partition == partition) left.now }
+{
+    left.iter().any(|slot| slot.partition == partition)
+}
+
+// Whether the slots of the partition may end elsewhere.
+fn is_excused(it: &Endings, dead: &Dead, hinted: &[bool], partition: u32) -> bool
+    requires { HintsIn it.now.before.now dead.now.nodes.now hinted.now }
+    ensures { IsTrue result → (w : TheWorld) → Meets it.now.before.now w
+        → IsExcused it.now.ring.now it.now.old.now w dead.now.nodes.now it.now.left.now partition }
+{
+    if has_dead_owner(it.ring, dead, partition) {
+        return true;
+    }
+    if is_flagged(hinted, partition as usize) {
+        return true;
+    }
+    if has_dead_targets(it, dead, partition) {
+        return true;
+    }
+    is_left(it.left, partition)
+}
+
+// Whether the node mirrors the slot now, or owns it and may stay its owner.
+fn serves(before: &World, back: Back, slot: Slot, node: NodeId) -> bool
+    requires { is_ring_slot (ring_of before.now) slot ≡ true }
+    ensures { IsTrue result → (w : TheWorld) → Meets before.now w
+        → ShouldOwn Extent.Begun back (ring_of before.now) (plan_of before.now) w slot node }
+{
+    match before.nodes_of(slot) {
+        Some((owner, None)) => owner.0 == node.0,
+        Some((owner, Some(mirror))) => {
+            mirror.0 == node.0 || (back == Back::Allowed && owner.0 == node.0)
+        }
+        None => false,
+    }
+}
+
+// Whether the node should own the slot in the end.
+fn should_own(it: &Endings, old: &Present, slot: Slot, node: NodeId) -> bool
+    requires past { IsPast it.now.ring.now it.now.old.now old.now }
+    requires partition { slot.partition < it.now.ring.now.q }
+    requires index { slot.index < it.now.ring.now.n }
+    requires ring { ring_of it.now.before.now ≡ it.now.ring.now }
+    requires plan { plan_of it.now.before.now ≡ it.now.old.now }
+    ensures { IsTrue result → (w : TheWorld) → Meets it.now.before.now w
+        → ShouldOwn it.now.extent it.now.back it.now.ring.now it.now.old.now w slot node }
+{
+    match it.extent {
+        Extent::Whole => old.at(it.ring, slot).owner.0 == node.0,
+        Extent::Begun => serves(it.before, it.back, slot, node),
+    }
+}
+
+// What is found of both plans before their ends are compared: who serves each slot once they are done, and the partitions for which dead nodes keep hints.
+#[derive(Drop)]
+struct Ended<'a> {
+    dead: Dead<'a>,
+    old: Present,
+    new: Present,
+    hinted: Vec<bool>,
+}
+
+// Whether the slot ends where it should.
+fn ends_at(it: &Endings, ended: &Ended, partition: u32, index: u32) -> bool
+    requires ended { AreEnds it.now ended.now }
+    requires partition { partition < it.now.ring.now.q }
+    requires index { index < it.now.ring.now.n }
+    ensures { IsTrue result → SlotEnds it.now partition index }
+{
+    let slot = Slot { partition, index };
+    let node = ended.new.at(it.ring, slot).owner;
+    should_own(it, &ended.old, slot, node)
+        || is_excused(it, &ended.dead, ended.hinted.as_slice(), partition)
+}
+
+// Whether the slots of the partition end where they should.
+fn row_ends(it: &Endings, ended: &Ended, partition: u32) -> bool
+    requires ended { AreEnds it.now ended.now }
+    requires partition { partition < it.now.ring.now.q }
+    ensures { IsTrue result → (i : ℕ) → i < it.now.ring.now.n → SlotEnds it.now partition i }
+{
+    let slots = it.ring.n();
+    for index in 0..slots {
+        if !ends_at(it, ended, partition, index) {
+            return false;
+        }
+    }
+    true
+}
+
+// Whether all slots end where they should.
+fn slots_end(it: &Endings, ended: &Ended) -> bool
+    requires { AreEnds it.now ended.now }
+    ensures { IsTrue result → (p : ℕ) → p < it.now.ring.now.q → (i : ℕ) → i < it.now.ring.now.n → SlotEnds it.now p i }
+{
+    let q = it.ring.q();
+    for partition in 0..q {
+        if !row_ends(it, ended, partition) {
+            return false;
+        }
+    }
+    true
+}
+
+// Marks the owners of the partition's slots once the new plan is done.
+fn mark_owners(it: &Endings, ended: &Ended, partition: u32, marks: &mut Vec<bool>)
+    requires ended { AreEnds it.now ended.now }
+    requires partition { partition < it.now.ring.now.q }
+    requires marks { HoldsIn it.now marks.old.items }
+    ensures { HoldsIn it.now marks.new.items }
+{
+    let slots = it.ring.n();
+    for index in 0..slots {
+        let slot = Slot { partition, index };
+        let node = ended.new.at(it.ring, slot).owner;
+        mark(marks, node.0);
+    }
+}
+
+// Marks the node at which the step mirrors a slot.
+fn mark_target(marks: &mut Vec<bool>, step: &Step)
+    ensures { (x : ℕ) → is_flagged marks.new.items x ≡ true → MirrorsAt step.now x ⊎ (is_flagged marks.old.items x ≡ true) }
+{
+    match step {
+        Step::Mirror(_, node) => mark(marks, node.0),
+        _ => {}
+    }
+}
+
+// Marks the nodes at which the new plan mirrors slots.
+fn mark_targets(it: &Endings, marks: &mut Vec<bool>)
+    requires { HoldsIn it.now marks.old.items }
+    ensures { HoldsIn it.now marks.new.items }
+{
+    for number in 0..it.new.len() {
+        mark_target(marks, it.new.step(number));
+    }
+}
+
+// Marks the nodes that keep hints.
+fn mark_keepers(it: &Endings, marks: &mut Vec<bool>)
+    requires { HoldsIn it.now marks.old.items }
+    ensures { HoldsIn it.now marks.new.items }
+{
+    for number in 0..u32::MAX {
+        let Some((node, _)) = it.before.hint_at(number) else {
+            break;
+        };
+        mark(marks, node.0);
+    }
+}
+
+// The nodes that may hold something once the new plan is done.
+fn holders(alloc: Global, it: &Endings, ended: &Ended) -> Result<Vec<bool>, Refusal>
+    requires { AreEnds it.now ended.now }
+    ensures { IfOk result (λ marks. HoldsIn it.now marks.items) }
+{
+    let mut marks = vec![in alloc; false; it.ring.nodes().len()]?;
+    let q = it.ring.q();
+    for partition in 0..q {
+        mark_owners(it, ended, partition, &mut marks);
+    }
+    mark_targets(it, &mut marks);
+    mark_keepers(it, &mut marks);
+    Ok(marks)
+}
+
+// Whether the node is a member once the plan is done.
+fn is_member_after(ring: &Ring, plan: &Plan, node: NodeId) -> bool
+    ensures { result ≡ member_after ring.now plan.now node.0 }
+{
+    (ring.is_member(node) || plan.is_joined(node)) && !plan.is_retired(node)
+}
+
+// Whether the node ends as a member or not, as it should.
+fn node_ends(it: &Endings, ended: &Ended, holders: &[bool], node: NodeId) -> bool
+    requires ended { AreEnds it.now ended.now }
+    requires holders { HoldsIn it.now holders.now }
+    ensures { IsTrue result → NodeEnds it.now node.0 }
+{
+    if is_member_after(it.ring, it.new, node) == is_member_after(it.ring, it.old, node) {
+        return true;
+    }
+    if it.extent == Extent::Begun {
+        return true;
+    }
+    if ended.dead.has(node) {
+        return true;
+    }
+    is_flagged(holders, node.0 as usize)
+}
+
+// Whether all nodes do.
+fn nodes_end(it: &Endings, ended: &Ended, holders: &[bool]) -> bool
+    requires ended { AreEnds it.now ended.now }
+    requires holders { HoldsIn it.now holders.now }
+    ensures { IsTrue result → (x : ℕ) → x < length it.now.ring.now.nodes → NodeEnds it.now x }
+{
+    // A ring has few nodes.
+    let count = it.ring.nodes().len() as u32;
+    for node in 0..count {
+        if !node_ends(it, ended, holders, NodeId(node)) {
+            return false;
+        }
+    }
+    true
+}
+
+/// Whether the new plan ends where it should, from whatever world the store is in. Costs a pass over each plan and over the hints that are kept.
+pub(crate) fn ends_well(alloc: Global, it: &Endings) -> Result<bool, Refusal>
+    requires old { Suits it.now.ring.now it.now.old.now }
+    requires new { Suits it.now.ring.now it.now.new.now }
+    requires ring { ring_of it.now.before.now ≡ it.now.ring.now }
+    requires plan { plan_of it.now.before.now ≡ it.now.old.now }
+    ensures { IfOk result (λ b. IsTrue b → (w : TheWorld) → Meets it.now.before.now w
+        → EndsWell it.now.extent it.now.back it.now.ring.now it.now.old.now w it.now.new.now it.now.dead.now it.now.left.now) }
+{
+    let dead = Dead::of(it.dead);
+    let hinted = hinted(alloc, it, &dead)?;
+    let ended = Ended {
+        dead,
+        old: present_after(alloc, it.ring, it.old)?,
+        new: present_after(alloc, it.ring, it.new)?,
+        hinted,
+    };
+    let holders = holders(alloc, it, &ended)?;
+    if !slots_end(it, &ended) {
+        return Ok(false);
+    }
+    Ok(nodes_end(it, &ended, holders.as_slice()))
+}

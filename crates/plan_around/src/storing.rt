@@ -1,0 +1,62 @@
+//! What is asked of a store in the middle of a history.
+
+ghost use Rattle.std.specs.Prelude.{◌≡◌, true};
+ghost use Rattle.plan_text.specs.Valid.{is_ring_slot};
+ghost use Rattle.plan_runs.specs.World.{World as TheWorld, stage_now};
+ghost use Rattle.ring_core.specs.World.{ring_of, plan_of, Meets};
+
+use plan_runs::{Event, Reply};
+use ring_core::World;
+use ring_names::{NodeId, Refusal, Slot};
+
+/// A slot that is mirrored, at some moment.
+#[derive(Clone, Copy, Debug)]
+pub(crate) struct Mirrored {
+    pub(crate) slot: Slot,
+    pub(crate) owner: NodeId,
+    pub(crate) mirror: NodeId,
+}
+
+/// The slot, if it is mirrored now.
+pub(crate) fn mirrored_slot(store: &World, slot: Slot) -> Option<Mirrored> {
+    match store.nodes_of(slot) {
+        Some((owner, Some(mirror))) => Some(Mirrored {
+            slot,
+            owner,
+            mirror,
+        }),
+        _ => None,
+    }
+}
+
+/// The slot's mirror now, if it has one.
+pub(crate) fn mirror_of(store: &World, slot: Slot) -> Option<NodeId>
+    ensures { (w : TheWorld) → Meets store.now w → is_ring_slot (ring_of store.now) slot ≡ true
+        → result ≡ (stage_now (ring_of store.now) (plan_of store.now) w slot).mirror }
+{
+    match store.nodes_of(slot) {
+        Some((_, mirror)) => mirror,
+        None => None,
+    }
+}
+
+/// The event's reply in the store, which has changed by it.
+pub(crate) fn happen(store: &mut World, event: &Event) -> Result<Reply, Refusal> {
+    if store.puts() < u32::MAX && store.gets() < u32::MAX {
+        return store.apply(event);
+    }
+    Err(Refusal::NoPlan)
+}
+
+/// Whether the node stores the put, or one that succeeds it, for the slot of that index.
+pub(crate) fn has_put(store: &World, node: NodeId, put: u32, index: u32) -> bool {
+    put < store.puts() && store.is_stored(node, put, index)
+}
+
+impl Mirrored {
+    /// Whether a write of the put changes the mirror at most: the owner has it, or one that succeeds it, and both are up.
+    pub(crate) fn can_write(&self, store: &World, put: u32) -> bool {
+        let index = self.slot.index;
+        has_put(store, self.owner, put, index) && store.allows(&Event::Write(put, index)).is_ok()
+    }
+}

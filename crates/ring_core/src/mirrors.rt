@@ -1,0 +1,78 @@
+//! What nodes store for slots, and who mirrors them.
+
+use crate::world::World;
+use ring_clock::Clock;
+use ring_names::{NodeId, Slot};
+
+impl<'a> World<'a> {
+    ghost use Rattle.std.specs.Prelude.{◌≡◌, ◌<◌, ◌↔◌, IsTrue, Some, length, true};
+    ghost use Rattle.plan_text.specs.Valid.{is_ring_slot};
+    ghost use Rattle.plan_runs.specs.Versions.{put_slot};
+    ghost use Rattle.plan_runs.specs.World.{World as TheWorld};
+    ghost use Rattle.ring_store.specs.Stores.{held_at};
+    ghost use Rattle.ring_versions.specs.Versions.{Covers};
+    ghost use Rattle.store_maps.specs.Chunks.{chunk_of};
+    ghost use Rattle.ring_core.specs.Mirrors.{nodes_now, is_stored};
+    ghost use Rattle.ring_core.specs.World.{ring_of, plan_of, Meets};
+
+    /// The slot's owner and its mirror now; none if the ring does not have the slot. Takes no memory.
+    pub fn nodes_of(&self, slot: Slot) -> Option<(NodeId, Option<NodeId>)>
+        ensures { (w : TheWorld) → Meets self.now w → is_ring_slot (ring_of self.now) slot ≡ true
+            → result ≡ Some (nodes_now (ring_of self.now) (plan_of self.now) w slot) }
+    {
+        match self.parts.slots.at(slot) {
+            Some(now) => Some((now.owner, now.mirror)),
+            None => None,
+        }
+    }
+
+    // Whether the versions that the node stores for the slot cover the clock.
+    fn node_covers(&self, node: NodeId, slot: Slot, chunk: u32, key: &[u8], clock: &Clock) -> bool
+        requires { chunk_of (ring_of self.now).q key.now ≡ chunk }
+        ensures { IsTrue result ↔ Covers (held_at self.now.parts.stores node.0 slot key.now) clock.now }
+    {
+        match self.parts.stores.key_versions_in(node, slot, chunk, key) {
+            Some(versions) => versions.covers(clock),
+            None => false,
+        }
+    }
+
+    /// The slot of that index of the put's partition. Takes no memory.
+    pub fn put_slot(&self, put: u32, index: u32) -> Slot
+        requires { put < length self.now.parts.puts }
+        ensures slot { (w : TheWorld) → Meets self.now w → result ≡ put_slot (ring_of self.now) w put index }
+        ensures partition { result.partition < (ring_of self.now).q }
+        ensures index { result.index ≡ index }
+    {
+        let Some(now) = self.parts.puts.get(put) else {
+            unreachable!()
+        };
+        let place = self.parts.keys.place(now.key);
+        Slot {
+            partition: place.partition,
+            index,
+        }
+    }
+
+    /// Whether the node stores the put, or one that succeeds it, for the slot of that index of the put's partition. Hints do not count. Takes no
+    /// memory, and costs one look-up.
+    pub fn is_stored(&self, node: NodeId, put: u32, index: u32) -> bool
+        requires { put < length self.now.parts.puts }
+        ensures { (w : TheWorld) → Meets self.now w
+            → result ≡ is_stored w node.0 (put_slot (ring_of self.now) w put index) put }
+    {
+        let Some(now) = self.parts.puts.get(put) else {
+            unreachable!()
+        };
+        let Some(version) = now.version.first() else {
+            unreachable!()
+        };
+        let place = self.parts.keys.place(now.key);
+        let key = self.parts.keys.key(now.key);
+        let slot = Slot {
+            partition: place.partition,
+            index,
+        };
+        self.node_covers(node, slot, place.chunk, key, &version.clock)
+    }
+}

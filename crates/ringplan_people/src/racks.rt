@@ -1,0 +1,136 @@
+//! The racks that are known, and what of the options does not fit a bundle, in words.
+
+use change_text::{Options, read_wanted};
+use helpers::Words;
+use layout_text::{Entry, Fact};
+use plan_bundles::{
+    Kind, Racking, front, kind_of, members_by, members_with, misfit, racks_of, unracked,
+};
+use plan_check::Approved;
+use ring_names::Refusal;
+use ring_table::{Ring, read_ring};
+use show_why::{Nearest, push_printed};
+use std::alloc::Global;
+
+/// The racks of an approved plan's ring.
+pub(crate) fn racking_of(
+    alloc: Global,
+    approved: &Approved,
+    options: &Options,
+) -> Result<Racking, Refusal> {
+    let (ring, plan) = (approved.ring(), approved.plan());
+    let members = members_by(alloc, ring, plan)?;
+    racks_of(alloc, ring, members.as_slice(), options)
+}
+
+/// Adds which racks a plan was made by, if the bundle has a change.
+pub(crate) fn push_racks(
+    alloc: Global,
+    out: &mut Words,
+    bytes: &[u8],
+    approved: &Approved,
+    options: &Options,
+) -> Result<(), Refusal> {
+    if kind_of(bytes) == Kind::Change {
+        racking_of(alloc, approved, options)?.push(out);
+    }
+    Ok(())
+}
+
+// Says that the ring does not declare the name, and which name is near.
+fn push_undeclared(
+    alloc: Global,
+    out: &mut Words,
+    ring: &Ring,
+    name: &[u8],
+) -> Result<(), Refusal> {
+    push_printed(out, name);
+    out.text(b", and the ring declares no such node\n");
+    let mut nearest = Nearest::new(name);
+    for node in ring.nodes() {
+        nearest.look(alloc, name, node.name.as_slice())?;
+    }
+    if !nearest.word.is_empty() {
+        out.fill(b"  `@` was meant?\n", &[nearest.word], &[]);
+    }
+    Ok(())
+}
+
+// Says why the fact does not fit the ring.
+fn push_misfit(alloc: Global, out: &mut Words, ring: &Ring, entry: &Entry) -> Result<(), Refusal> {
+    let node = match &entry.fact {
+        Fact::Rack { node, rack: _ }
+        | Fact::Weight { node, parts: _ }
+        | Fact::Alias { node, alias: _ }
+        | Fact::Dead { node } => node.as_slice(),
+        Fact::Size { partition, size: _ } => {
+            out.fill(
+                b"refused: line # of the layout names partition #, and the ring has # partitions\n",
+                &[],
+                &[entry.line, *partition, ring.q()],
+            );
+            return Ok(());
+        }
+    };
+    out.fill(b"refused: line # of the layout names ", &[], &[entry.line]);
+    push_undeclared(alloc, out, ring, node)
+}
+
+// Says which member has no rack, if one has none.
+fn push_unracked(
+    alloc: Global,
+    out: &mut Words,
+    bytes: &[u8],
+    ring: &Ring,
+    options: &Options,
+) -> Result<bool, Refusal> {
+    let members = match read_wanted(alloc, bytes) {
+        Ok(wanted) => members_with(alloc, ring, wanted.change.joins.as_slice())?,
+        Err(refusal) => {
+            if let Refusal::OutOfMemory = refusal {
+                return Err(refusal);
+            }
+            members_with(alloc, ring, &[])?
+        }
+    };
+    let Some(node) = unracked(alloc, ring, members.as_slice(), options)? else {
+        return Ok(false);
+    };
+    out.fill(
+        b"refused: the rack of @ is not known, and each member needs one\n",
+        &[ring.name(node)],
+        &[],
+    );
+    Ok(true)
+}
+
+/// Whether a refusal may be of the options: an unknown name, or a partition that there is not.
+pub(crate) fn is_of_options(refusal: &Refusal) -> bool {
+    matches!(refusal, Refusal::UnknownNode(0) | Refusal::TooLarge(_))
+}
+
+/// Says what of the options does not fit the ring with which the bytes begin: a name, a partition, or a rack that is missing. Answers whether something does not.
+pub(crate) fn push_misfits(
+    alloc: Global,
+    out: &mut Words,
+    bytes: &[u8],
+    options: &Options,
+) -> Result<bool, Refusal> {
+    let ring = match read_ring(alloc, &bytes[..front(bytes, 1)]) {
+        Ok(ring) => ring,
+        Err(Refusal::OutOfMemory) => return Err(Refusal::OutOfMemory),
+        Err(_) => return Ok(false),
+    };
+    if let Some(entry) = misfit(&ring, &options.layout) {
+        push_misfit(alloc, out, &ring, entry)?;
+        return Ok(true);
+    }
+    for name in options.dead.as_slice() {
+        if ring.number_of(name.as_slice()).is_none() {
+            out.text(b"refused: the command line names ");
+            push_undeclared(alloc, out, &ring, name.as_slice())?;
+            return Ok(true);
+        }
+    }
+    push_unracked(alloc, out, bytes, &ring, options)
+}

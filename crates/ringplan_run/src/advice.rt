@@ -1,0 +1,53 @@
+//! What is said at a terminal after a refusal in one line.
+
+ghost use Rattle.std.specs.Prelude.{List, ℕ, map};
+ghost use Rattle.ringplan_command.specs.Command.{asked};
+ghost use Rattle.ringplan_command.specs.Files.{files_of};
+ghost use Rattle.ringplan_jobs.specs.Io.{Tells};
+ghost use Rattle.ringplan_run.specs.Run.{Runs, told_by};
+
+use crate::files::say;
+use crate::program::run;
+use ringplan_command::{Request, parse};
+use ringplan_job::{Job, Screen};
+use std::convert::AsStr;
+use std::io::{Read, Write};
+use std::rt::Files;
+use std::sync::Wait;
+use std::thread::Threads;
+
+// What is said of a refusal.
+const WHY: &[u8; 39] = b"ringplan: `ringplan why FILE` says why\n";
+
+// What is said of a refusal of a replay.
+const WHY_REPLAY: &[u8; 70] =
+    b"ringplan: `ringplan why FILE` says why; `replay` also wants a history\n";
+
+// What is said of a refusal of what is asked for, if it is one line of which `why` has words.
+fn advice_of(request: &Request) -> Option<&'static [u8]> {
+    match request {
+        Request::Do(Job::Check | Job::Plan | Job::Migrate) | Request::CheckBy(_) => Some(WHY),
+        Request::Do(Job::Replay) => Some(WHY_REPLAY),
+        _ => None,
+    }
+}
+
+/// Runs a command line as `run` does, and then says at a terminal which command has words for a refusal in one line.
+pub fn run_advised<
+    RT: AllocGlobal + Files + Eprint + Threads + Wait + Sync,
+    S: AsStr,
+    R: Read + Drop,
+    W: Write,
+>(rt: &RT, screen: Screen, words: &[S], input: &mut R, output: &mut W) -> u8
+    ensures line { (bytes : List ℕ) × Tells (told_by (files_of (map S.text words.now)) (R.remaining input.old)) bytes
+        × Runs (asked (map S.text words.now)) (files_of (map S.text words.now)) bytes (W.contents output.old) (W.contents output.new) result }
+{
+    let status = run(rt, screen, words, input, output);
+    let is_refused = status == 1 || status == 2;
+    if is_refused && screen != Screen::Plain {
+        if let Some(advice) = advice_of(&parse(rt.alloc(), words).request) {
+            say(rt, advice);
+        }
+    }
+    status
+}

@@ -1,0 +1,85 @@
+//! The nodes that do not answer, in words.
+
+use crate::failing::kept;
+use crate::names::{push_many, push_names};
+use crate::present::Present;
+use helpers::{Words, small};
+use ring_names::Refusal;
+use ring_table::Ring;
+use std::alloc::Global;
+
+// Those of the silent nodes that are dead, or those that are only down.
+fn silent_by(alloc: Global, present: &Present, is_dead: bool) -> Result<Vec<u32>, Refusal> {
+    let mut nodes = Vec::new(alloc);
+    for node in present.silent.as_slice() {
+        if present.is_dead(*node) == is_dead {
+            nodes.push(*node)?;
+        }
+    }
+    Ok(nodes)
+}
+
+/// Who is dead and who is down, and how many partitions answer all the same. Some node does not answer.
+pub fn tell_silent(
+    alloc: Global,
+    ring: &Ring,
+    present: &Present,
+    line: &mut Words,
+) -> Result<(), Refusal> {
+    let dead = silent_by(alloc, present, true)?;
+    let down = silent_by(alloc, present, false)?;
+    if !dead.is_empty() {
+        line.text(b"  dead      ");
+        push_names(line, ring, dead.as_slice(), 6);
+    }
+    if !down.is_empty() {
+        line.text(if dead.is_empty() {
+            b"  down      ".as_slice()
+        } else {
+            b"; down ".as_slice()
+        });
+        push_names(line, ring, down.as_slice(), 6);
+    }
+    line.text(if present.silent.len() == 1 {
+        b"; without it ".as_slice()
+    } else {
+        b"; without them ".as_slice()
+    });
+    line.number(kept(ring, present.rows.as_slice(), present));
+    line.text(b" of ");
+    push_many(line, ring.q(), b"partition answers", b"partitions answer");
+    line.text(b" reads and writes");
+    Ok(())
+}
+
+/// `if one fails`, and beside whom.
+pub fn push_failing(line: &mut Words, ring: &Ring, present: &Present, words: &[u8]) {
+    line.text(words);
+    if !present.silent.is_empty() {
+        line.text(b"beside ");
+        push_names(line, ring, present.silent.as_slice(), 3);
+        line.text(b": ");
+    }
+}
+
+/// Adds the name of a node, and why it does not answer: `n07 dead`. Answers how many bytes that takes.
+pub fn push_node(out: &mut Words, ring: &Ring, present: &Present, node: u32) -> usize {
+    let begin = out.len();
+    out.text(ring.name(node));
+    if present.is_silent(node) {
+        out.byte(b' ');
+        out.text(present.silence(node));
+    }
+    out.len().saturating_sub(begin)
+}
+
+/// How many members of the ring answer.
+pub fn count_answering(ring: &Ring, present: &Present) -> u32 {
+    let mut count = 0u32;
+    for node in 0..small(ring.nodes().len()) {
+        if present.is_member(node) && !present.is_silent(node) {
+            count = count.saturating_add(1);
+        }
+    }
+    count
+}

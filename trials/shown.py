@@ -1,0 +1,298 @@
+#!/usr/bin/env python3
+"""What `show` and `draw` say of rings, plans and runs in which nodes are dead or down, beside counts of its own. It wants the program as it is built. `trials/shown.py` tries
+60 random changes, and `trials/shown.py COUNT [--first SEED]` so many.
+
+The changes are those of `trials/sizes.py`. Of each: the ring alone by a layout with racks, aliases, sizes and dead nodes, as a table and as JSON; the plan with a dead node;
+and the first steps of a run, in which nodes go down and come up again. Counted are slots and sizes by node, the balance of nodes that answer, the partitions that
+still answer if any node fails more, what is left to move and when that can end at the earliest, and the moves that are open after a run, of which `after` names all. In a picture the names of silent nodes are crossed out and say why."""
+import argparse
+import json
+import random
+import re
+import subprocess
+import sys
+import tempfile
+import xml.dom.minidom
+from concurrent.futures import ThreadPoolExecutor
+
+from sizes import Case, drawn, rack, time_words
+from wishes import RUN
+
+
+def run(words: list[str], text: str) -> str:
+    ran = subprocess.run([RUN, *words], input=text, capture_output=True, text=True, timeout=120)
+    if ran.returncode:
+        raise SystemExit("%s: %s" % (" ".join(words), (ran.stdout + ran.stderr)[:300]))
+    return ran.stdout
+
+
+def flat(text: str) -> str:
+    return re.sub(r"\s+", " ", text)
+
+
+def ring_of(case: Case) -> str:
+    return case.bundle().split("change 1\n")[0]
+
+
+def span(counts: list[int]) -> str:
+    least, most = min(counts, default=0), max(counts, default=0)
+    words = "%d" % most if least == most else "%d to %d" % (least, most)
+    return words + (" slot" if most == 1 and least == 1 else " slots")
+
+
+def answering(case: Case, rows: list[list[str]], silent: set[str]) -> int:
+    """How many partitions answer reads and writes without these nodes."""
+    needed = len(case.rows[0]) // 2 + 1
+    return sum(sum(v not in silent for v in row) >= needed for row in rows)
+
+
+def one_more(case: Case, rows: list[list[str]], silent: set[str]) -> int:
+    """How many still answer, whichever node fails more."""
+    return min((answering(case, rows, silent | {v}) for v in case.names if v not in silent), default=answering(case, rows, silent))
+
+
+def owned(case: Case, rows: list[list[str]]) -> dict[str, int]:
+    return {v: sum(v in row for row in rows) for v in case.names}
+
+
+def stored(case: Case, rows: list[list[str]]) -> dict[str, int]:
+    return {v: sum(size for size, row in zip(case.sizes, rows) if v in row) for v in case.names}
+
+
+def silent_words(dead: list[str], down: list[str]) -> list[str]:
+    """What the line of nodes that do not answer names, as far as all are named."""
+    parts = [("dead", dead), ("down", down)]
+    return ["%s %s" % (word, " and ".join(", ".join(nodes).rsplit(", ", 1))) for word, nodes in parts if 0 < len(nodes) <= 6]
+
+
+class Judge:
+    """Collects what is wrong with what is said of a case."""
+
+    def __init__(self, number: int) -> None:
+        self.number, self.faults = number, []
+
+    def owes(self, what: str, found: object, wanted: object) -> None:
+        if found != wanted:
+            self.faults.append("case %d, %s: %r in place of %r" % (self.number, what, found, wanted))
+
+    def says(self, what: str, text: str, words: str) -> None:
+        if words not in flat(text):
+            self.faults.append("case %d, %s does not say %r" % (self.number, what, words))
+
+
+def written(case: Case, dead: list[str], aliases: dict[str, str], folder: str) -> str:
+    """The name of a layout that says all this."""
+    lines = ["rack %s %s" % (v, rack(v)) for v in case.names] + ["size %d %d" % (p, size) for p, size in enumerate(case.sizes)]
+    lines += ["alias %s %s" % it for it in aliases.items()] + ["dead " + v for v in dead]
+    with open(folder + "/layout", "w", encoding="utf-8") as it:
+        it.write("\n".join(["layout 1", *lines, "end", ""]))
+    return folder + "/layout"
+
+
+def ring_wrong(judge: Judge, case: Case, dead: list[str], folder: str) -> None:
+    """A ring alone, by a layout."""
+    aliases = {v: "riak@10.0.0.%d" % at for at, v in enumerate(case.names) if at % 3 == 0}
+    words = ["--layout", written(case, dead, aliases, folder)]
+    text, stated = run(["show", *words], ring_of(case)), json.loads(run(["show", "--format", "json", *words], ring_of(case)))
+    slots, sizes = owned(case, case.rows), stored(case, case.rows)
+    for v, node in zip(case.names, stated["nodes"]):
+        wanted = {"name": v, "rack": rack(v), "is_member": v in case.members, "is_dead": v in dead, "slots": slots[v], "stored_size": sizes[v], "bears": 2}
+        judge.owes("a node of the ring", node, wanted | ({"alias": aliases[v]} if v in aliases else {}))
+    head, *rows = [line.split() for line in text.splitlines()[-len(case.names) - 1 :]]
+    judge.owes("the head", head, ["node", "alias", "rack", "state", "slots", "size", "bears"])
+    for v, row in zip(case.names, rows):
+        state = ["in," if v in case.members else "out,", "dead"] if v in dead else ["in" if v in case.members else "out"]
+        wanted_row = [v, *([aliases[v]] if v in aliases else []), rack(v), *state, str(slots[v]), str(sizes[v] or "."), "2"]
+        judge.owes("a row of the ring", row, wanted_row)
+    living = [v for v in case.members if v not in dead]
+    more = "beside %s: " % dead[0] if len(dead) == 1 else ""
+    judge.says("the ring", text, "balance a member %sowns %s; even would be" % ("that answers " if dead else "", span([slots[v] for v in living])))
+    if not dead or more:
+        judge.says("the ring", text, "if one fails %s%d of %d partition" % (more, one_more(case, case.rows, set(dead)), len(case.rows)))
+    for line in silent_words(dead, []):
+        judge.says("the ring", text, line + "; without ")
+
+
+def steps_of(plan: str) -> list[list[str]]:
+    return [line.split(" after ")[0].split() for line in plan.split("plan 1\n")[1].split("end\n")[0].splitlines()]
+
+
+def waits_of(plan: str) -> list[list[int]]:
+    return [[int(k) for part in line.split(" after ")[1:] for k in part.split()] for line in plan.split("plan 1\n")[1].split("end\n")[0].splitlines()]
+
+
+def begun(plan: str, pick: random.Random) -> tuple[list[str], set[int], dict[int, int]]:
+    """The events of a run's first steps in a random order, those that are done, and the chunks of copies that are not."""
+    steps, waits, events = steps_of(plan), waits_of(plan), []
+    done: set[int] = set()
+    chunks: dict[int, int] = {}
+    for _ in range(pick.randrange(len(steps) + 1)):
+        ready = [k for k in range(len(steps)) if k not in done and k not in chunks and done.issuperset(waits[k])]
+        if not ready:
+            break
+        number = pick.choice(ready)
+        if steps[number][0] != "copy":
+            events.append("do %d" % number)
+            done.add(number)
+            continue
+        given = 16 if pick.random() < 0.9 else pick.randrange(17)
+        events += ["open %d" % number, *("chunk %d %d" % (number, c) for c in range(given))]
+        if given == 16 and pick.random() < 0.95:
+            events.append("close %d" % number)
+            done.add(number)
+        else:
+            chunks[number] = given
+            # The chunks of a copy that is broken off stay given.
+            events += ["abort %d" % number] * (pick.random() < 0.3)
+    return events, done, chunks
+
+
+def open_moves(plan: str, done: set[int]) -> list[str]:
+    """The lines of moves that are begun and not switched, in the order of their slots."""
+    steps, found = steps_of(plan), []
+    for number, fields in enumerate(steps):
+        if fields[0] != "mirror" or number not in done:
+            continue
+        later = [k for k in range(number + 1, len(steps)) if steps[k][1:3] == fields[1:3] and steps[k][0] in ("copy", "switch")]
+        ends = next((k for k in later if steps[k][0] == "switch"), len(steps))
+        if ends not in done:
+            left = ", ".join(str(k) for k in later if k <= ends and k not in done)
+            line = "slot %s of partition %s, to %s: begun by step %d; to do: %s" % (fields[2], fields[1], fields[3], number, left)
+            found.append((int(fields[1]), int(fields[2]), number, line))
+    return [line for *_, line in sorted(found)]
+
+
+def after_wrong(judge: Judge, plan: str, history: str, done: set[int], rows: list[list[str]]) -> None:
+    """What `after` says of a run, or the owners that it prints."""
+    ran = subprocess.run([RUN, "after"], input=plan + history, capture_output=True, text=True, timeout=120)
+    lines, found = open_moves(plan, done), ran.stderr.splitlines()
+    if not lines:
+        judge.owes("the owners after a run", [line.split()[2:] for line in ran.stdout.splitlines() if line.startswith("slots ")], rows)
+        return
+    first = min(int(line.split("begun by step ")[1].split(";")[0]) for line in lines)
+    many = "1 move is" if len(lines) == 1 else "%d moves are" % len(lines)
+    judge.owes("the refusal of `after`", (ran.stdout, ran.returncode, found[:2]), ("", 1, ["no 21 %d" % first, "refused: %s open, and a ring cannot say that" % many]))
+    judge.owes("the open moves", [line.strip() for line in found[2:-1]], lines)
+    judge.says("`after`", ran.stderr, "`ringplan around --rest FILE`")
+
+
+def history_of(plan: str, events: list[str]) -> str:
+    """The events with the replies that the program gives: what is refused is left out."""
+    said = run(["play"], plan + "\n".join(["script 1", *events, "end", ""])).splitlines()[1 : len(events) + 1]
+    entries = ["%s = %s" % (event, line.split(" ", 1)[1]) for event, line in zip(events, said) if not line.split(" ", 1)[1].startswith("no ")]
+    if len(entries) < len(events):
+        raise SystemExit("an event of a run is refused: %s" % [(event, line) for event, line in zip(events, said) if " no " in line][:1])
+    return "\n".join(["history 1", *entries, "end", ""])
+
+
+def now_of(case: Case, plan: str, done: set[int]) -> list[list[str]]:
+    """The owners after the steps that are done."""
+    rows, mirrors = [list(row) for row in case.rows], {}
+    for number, fields in enumerate(steps_of(plan)):
+        if fields[0] == "mirror":
+            mirrors[fields[1], fields[2]] = fields[3]
+        elif fields[0] == "switch" and number in done:
+            rows[int(fields[1])][int(fields[2])] = mirrors[fields[1], fields[2]]
+    return rows
+
+
+def left_of(case: Case, plan: str, done: set[int], chunks: dict[int, int]) -> tuple[int, int]:
+    """What copies that are not done have to move, and the most that some have of which each waits for the one before."""
+    sums: list[int] = []
+    whole = 0
+    for number, (fields, waits) in enumerate(zip(steps_of(plan), waits_of(plan))):
+        sums.append(max((sums[k] for k in waits), default=0))
+        if fields[0] == "copy" and number not in done:
+            rest = -(-case.sizes[int(fields[1])] * (16 - chunks.get(number, 0)) // 16)
+            sums[-1], whole = sums[-1] + rest, whole + rest
+    return whole, max(sums, default=0)
+
+
+def picture_wrong(judge: Judge, drawn_picture: str, names: list[str], silent: dict[str, str]) -> None:
+    """Whether the names of silent nodes are crossed out, and no others are; each says why."""
+    shapes = xml.dom.minidom.parseString(drawn_picture).getElementsByTagName("text")
+    marked = {it.firstChild.data for it in shapes if "down" in it.getAttribute("class").split()}
+    bare = {name.removeprefix("x ").split(" ")[0] for name in marked}
+    judge.owes("crossed out", bare & set(names), set(silent))
+    words = " ".join(it.firstChild.data for it in shapes if it.firstChild)
+    for v, why in silent.items():
+        is_said = any(v in name and why in name for name in marked) or re.search(r"\b%s\b" % why, words)
+        judge.owes("a picture says why of " + v, bool(is_said), True)
+
+
+def plan_wrong(judge: Judge, case: Case, pick: random.Random, folder: str) -> None:
+    """A plan with a dead node, and a run of it."""
+    layout = ["--layout", written(case, [], {}, folder)]
+    plan = run(["goal", *layout], case.bundle())
+    last = now_of(case, plan, set(range(len(steps_of(plan)))))
+    events, done, chunks = begun(plan, pick)
+    dead = pick.sample(case.names, pick.randrange(3))
+    joined = {fields[1] for number, fields in enumerate(steps_of(plan)) if fields[0] == "join" and number in done}
+    gone = {fields[1] for number, fields in enumerate(steps_of(plan)) if fields[0] == "retire" and number in done}
+    members = [v for v in case.names if v in (case.members | joined) - gone]
+    down = [v for v in pick.sample(members, pick.randrange(3)) if v not in dead]
+    # One that comes up again is not down.
+    back = [v for v in down if pick.random() < 0.3]
+    down = [v for v in case.names if v in down and v not in back]
+    events += ["down " + v for v in down + back] + ["up " + v for v in back]
+    history = history_of(plan, events)
+    dead = [v for v in case.names if v in dead]
+    words = [*layout, *(word for v in dead for word in ("--dead", v))]
+    now = now_of(case, plan, done)
+    after_wrong(judge, plan, history, done, now)
+    rate = pick.choice([1, 7, 100])
+    text = run(["show", "--all", "--rate", str(rate), *words], plan + history)
+    stated = json.loads(run(["show", "--format", "json", "--rate", str(rate), *words], plan + history))
+    silent = set(dead) | set(down)
+    slots, sizes = owned(case, now), stored(case, now)
+    for v, node in zip(case.names, stated["nodes"]):
+        wanted = (v, v in dead, v in down, slots[v], sizes[v])
+        judge.owes("a node of the run", tuple(node[key] for key in ("name", "is_dead", "is_down", "slots", "stored_size")), wanted)
+    left, longest = left_of(case, plan, done, chunks)
+    end = -(-longest // rate)
+    judge.owes("what is left", tuple(stated[key] for key in ("left_size", "longest_left_size", "earliest_end")), (left, longest, end))
+    judge.says("the run", text, "sizes %d of %d left; copies that wait for one another have up to %d of it, so at %d a second the rest ends in %s at the earliest" % (
+        left, stated["moves_size"], longest, rate, time_words(end)))
+    living = [v for v in members if v not in silent]
+    then, ends = owned(case, last), [v for v in case.after() if v not in silent]
+    judge.says("the run", text, "balance a member %sowns %s now and %s in the end" % (
+        "that answers " if silent else "", span([slots[v] for v in living]), span([then[v] for v in ends])))
+    if len(silent) < 2:
+        beside = "beside %s: " % [*silent][0] if silent else ""
+        judge.says("the run", text, "if one fails %s%d of %d partition" % (beside, one_more(case, now, silent), len(now)))
+        judge.says("the run", text, "reads and writes now, %d in the end" % one_more(case, last, silent))
+    for line in silent_words(dead, down):
+        judge.says("the run", text, line)
+    if silent:
+        judge.says("the run", text, "%d of %d partition" % (answering(case, now, silent), len(now)))
+    for v in silent:
+        judge.says("the row of a node", text, "x %s %s " % (v, "dead" if v in dead else "down"))
+    for kind in ([], ["--map"]):
+        shown = set(case.members) | set(case.joins)
+        names = {v: "dead" if v in dead else "down" for v in silent if not kind or v in shown}
+        picture_wrong(judge, run(["draw", *kind, *words], plan + history), case.names, names)
+
+
+def wrong(number: int) -> list[str]:
+    """What is wrong with what is said of the change of that number."""
+    case, judge, pick = drawn(number), Judge(number), random.Random(-number - 1)
+    with tempfile.TemporaryDirectory() as folder:
+        dead = pick.sample(case.names, pick.randrange(3))
+        ring_wrong(judge, case, [v for v in case.names if v in dead], folder)
+        plan_wrong(judge, case, pick, folder)
+    return judge.faults
+
+
+def main() -> int:
+    lines = argparse.ArgumentParser(description=__doc__)
+    lines.add_argument("count", nargs="?", type=int, default=60)
+    lines.add_argument("--first", type=int, default=0)
+    asked = lines.parse_args()
+    with ThreadPoolExecutor(2) as threads:
+        faults = [fault for found in threads.map(wrong, range(asked.first, asked.first + asked.count)) for fault in found]
+    print(*faults[:20], f"{asked.count} changes shown with nodes that are dead or down, {len(faults)} faults", sep="\n")
+    return 1 if faults else 0
+
+
+if __name__ == "__main__":
+    sys.exit(main())
