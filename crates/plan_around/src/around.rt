@@ -243,8 +243,9 @@ fn asked_for<'a>(
 }
 
 /// Makes the bundle that goes on where one stopped, around the nodes that are dead by the options: its ring, another plan, a certificate, and the history by that plan. An
-/// executor goes on with it: what it holds of a step it finds by the step's kind, partition, slot and node. Slots that the options name stay with their owners; a mirror of
-/// such a slot is taken back in any case. Adds line by line to `words` what becomes of slots and nodes that do not go where they were to go, or at `NoPlan` why.
+/// executor goes on with it: what it holds of a step it finds by the step's kind, partition, slot and node. Slots that the options name stay with their owners, or go to their
+/// mirrors if a copy has given all; other mirrors are taken back only if the detour allows it. Adds line by line to `words` what becomes of slots and nodes that do not go where
+/// they were to go, or at `NoPlan` why.
 ///
 /// Refused is the first fault of the texts; a name that the ring does not declare, and a member without a rack where racks are known, as `UnknownNode(0)`; a partition that
 /// the ring does not have, as `TooLarge` with its line in the layout; a plan that the checker refuses; a history that is not a run of it; and as `NoPlan` a slot that
