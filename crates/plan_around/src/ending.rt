@@ -190,8 +190,8 @@ fn should_own(it: &Endings, old: &Present, slot: Slot, node: NodeId) -> bool
 
 // Whether the step is a copy of the slot that has given all.
 fn is_given_by(before: &World, step: &Step, slot: Slot, number: u32) -> bool
-    ensures { IsTrue result → (w : TheWorld) → Meets before.now w
-        → (from : Source) × (step.now ≡ Copy slot from) × ((w.done number || is_whole w number) ≡ true) }
+    ensures same { IsTrue result → (from : Source) × (step.now ≡ Copy slot from) }
+    ensures over { IsTrue result → (w : TheWorld) → Meets before.now w → (w.done number || is_whole w number) ≡ true }
 {
     match step {
         Step::Copy(copied, _) => {
@@ -203,12 +203,22 @@ fn is_given_by(before: &World, step: &Step, slot: Slot, number: u32) -> bool
     }
 }
 
+// Whether the step of that number is one.
+fn is_given_at(before: &World, plan: &Plan, slot: Slot, number: u32) -> bool
+    ensures { IsTrue result → (w : TheWorld) → Meets before.now w → IsGiven plan.now w slot }
+{
+    if number >= plan.len() {
+        return false;
+    }
+    is_given_by(before, plan.step(number), slot, number)
+}
+
 // Whether a copy of the slot has given all.
 fn is_given(before: &World, plan: &Plan, slot: Slot) -> bool
     ensures { IsTrue result → (w : TheWorld) → Meets before.now w → IsGiven plan.now w slot }
 {
     for number in plan.slot_steps(slot) {
-        if *number < plan.len() && is_given_by(before, plan.step(*number), slot, *number) {
+        if is_given_at(before, plan, slot, *number) {
             return true;
         }
     }
