@@ -1,13 +1,15 @@
 //! Whether the stores of two plans are alike.
 
 ghost use Rattle.std.specs.Prelude.{◌≡◌, ℕ, ◌<◌, true, IsTrue, Some};
+ghost use Rattle.std.specs.List.{list_any};
+ghost use Rattle.plan_text.specs.Steps.{is_slot};
 ghost use Rattle.plan_text.specs.Valid.{is_ring_slot};
 ghost use Rattle.plan_runs.specs.World.{World as TheWorld, slot_at};
 ghost use Rattle.ring_core.specs.World.{ring_of, plan_of, put_count, Meets};
 ghost use Rattle.plan_around.specs.Alike.{last_step, may_return, AreAlike, HeldAlike, InBoth, MirrorAlike, MirroredAlike, NodesAlike, PutAlike, StoredAlike};
 
 use crate::over::is_step_done;
-use crate::storing::{is_node, mirror_of};
+use crate::storing::{is_node, is_slot, mirror_of};
 use plan_runs::Back;
 use plan_text::Plan;
 use ring_core::World;
@@ -21,13 +23,21 @@ pub(crate) struct Returns<'a> {
     pub(crate) left: &'a [Slot],
 }
 
+// Whether the slot is one of those that stay with their owners.
+fn stays(left: &[Slot], slot: Slot) -> bool
+    ensures { result ≡ list_any (λ s. is_slot s slot) left.now }
+{
+    left.iter().any(|staying| is_slot(*staying, slot))
+}
+
 // Whether a mirror of the slot may be taken back.
 fn may_return(returns: &Returns, slot: Slot) -> bool
     ensures { result ≡ may_return returns.now.back returns.now.left.now slot }
 {
-    returns.back == Back::Allowed
-        || returns.left.iter().any(|left| left.partition == slot.partition
-            && left.index == slot.index)
+    match returns.back {
+        Back::Allowed => true,
+        Back::Never => stays(returns.left, slot),
+    }
 }
 
 // Whether the slot has the same mirror in both stores, or none in the second if it may be taken back.

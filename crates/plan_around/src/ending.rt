@@ -18,7 +18,7 @@ ghost use Rattle.plan_around.specs.Ends.{EndsWell, IsExcused, IsGiven, IsTouched
 ghost use Rattle.plan_around.specs.Ending.{AreEnds, HintsIn, HoldsIn, MirrorsAt, MirrorsIn, NodeEnds, SlotEnds, SlotStays};
 
 use crate::over::is_over;
-use crate::storing::is_node;
+use crate::storing::{is_node, is_slot};
 use plan_bundles::{is_flagged, row_at};
 use plan_cover::Present;
 use plan_goal::Dead;
@@ -194,11 +194,7 @@ fn is_given_by(before: &World, step: &Step, slot: Slot, number: u32) -> bool
     ensures over { IsTrue result → (w : TheWorld) → Meets before.now w → (w.done number || is_whole w number) ≡ true }
 {
     match step {
-        Step::Copy(copied, _) => {
-            copied.partition == slot.partition
-                && copied.index == slot.index
-                && is_over(before, step, number)
-        }
+        Step::Copy(copied, _) => is_slot(*copied, slot) && is_over(before, step, number),
         _ => false,
     }
 }
@@ -302,13 +298,24 @@ fn slot_stays(it: &Endings, ended: &Ended, slot: Slot) -> bool
     may_keep(it.before, it.old, slot, node)
 }
 
+// Whether the slot at that place does, if there is one.
+fn stays_at(it: &Endings, ended: &Ended, place: usize) -> bool
+    requires { AreEnds it.now ended.now }
+    ensures { IsTrue result → (s : Slot) → slice_get it.now.left.now place ≡ Some s → SlotStays it.now s }
+{
+    match it.left.get(place) {
+        Some(slot) => slot_stays(it, ended, *slot),
+        None => true,
+    }
+}
+
 // Whether all slots do that are to stay.
 fn slots_stay(it: &Endings, ended: &Ended) -> bool
     requires { AreEnds it.now ended.now }
     ensures { IsTrue result → (i : ℕ) (s : Slot) → slice_get it.now.left.now i ≡ Some s → SlotStays it.now s }
 {
-    for index in 0..it.left.len() {
-        if !slot_stays(it, ended, it.left[index]) {
+    for place in 0..it.left.len() {
+        if !stays_at(it, ended, place) {
             return false;
         }
     }

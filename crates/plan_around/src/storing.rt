@@ -1,6 +1,7 @@
 //! What is asked of a store in the middle of a history.
 
 ghost use Rattle.std.specs.Prelude.{◌≡◌, true, IsTrue, Some};
+ghost use Rattle.plan_text.specs.Steps.{is_slot};
 ghost use Rattle.plan_text.specs.Valid.{is_ring_slot};
 ghost use Rattle.plan_runs.specs.World.{World as TheWorld, stage_now};
 ghost use Rattle.ring_core.specs.World.{ring_of, plan_of, Meets};
@@ -38,6 +39,13 @@ pub(crate) fn mirror_of(store: &World, slot: Slot) -> Option<NodeId>
         Some((_, mirror)) => mirror,
         None => None,
     }
+}
+
+/// Whether the two are one slot.
+pub(crate) fn is_slot(a: Slot, b: Slot) -> bool
+    ensures { result ≡ is_slot a b }
+{
+    a.partition == b.partition && a.index == b.index
 }
 
 /// Whether the mirror is that node, if there is one.

@@ -1,7 +1,6 @@
 use Rattle.std.proofs.Common.{ℕ, ◌<◌, ◌∙◌, below_more, ap, sym, subst, arith}
 use Rattle.ring_table.specs.Value.{RingValue}
 use Rattle.plan_runs.specs.World.{slot_at}
-use Rattle.ring_core.specs.World.{ring_of}
 use Rattle.plan_around.specs.Alike.{InBoth, NodesAlike}
 use Rattle.plan_around.proofs.alike.are_nodes_alike.Goals as goal
 

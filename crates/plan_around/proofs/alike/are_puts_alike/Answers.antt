@@ -1,6 +1,5 @@
-use Rattle.std.proofs.Common.{ℕ, ◌<◌, ◌∙◌, below_more, ap, sym, arith}
+use Rattle.std.proofs.Common.{ℕ, ◌∙◌, below_more, ap, sym, arith}
 use Rattle.ring_table.specs.Value.{RingValue}
-use Rattle.ring_core.specs.World.{put_count}
 use Rattle.plan_around.specs.Alike.{InBoth, PutAlike}
 use Rattle.plan_around.proofs.alike.are_puts_alike.Goals as goal
 

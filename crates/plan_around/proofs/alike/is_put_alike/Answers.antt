@@ -1,4 +1,4 @@
-use Rattle.std.proofs.Common.{ℕ, ◌<◌, below_more, arith}
+use Rattle.std.proofs.Common.{ℕ, below_more, arith}
 use Rattle.plan_around.specs.Alike.{InBoth, MirroredAlike}
 use Rattle.plan_around.proofs.alike.is_put_alike.Goals as goal
 

@@ -1,9 +1,9 @@
-use Rattle.std.proofs.Common.{◌∙◌, List, subst, sym}
+use Rattle.std.proofs.Common.{List, subst}
 use Rattle.std.proofs.Math.Logic.{∥∥₁_map}
 use Rattle.ring_table.specs.Value.{RingValue}
 use Rattle.plan_text.specs.declared.step.Planned.{Planned}
 use Rattle.plan_runs.specs.declared.event.Entry.{Entry}
-use Rattle.ring_core.specs.Replays.{IsHistory, Replays}
+use Rattle.ring_core.specs.Replays.{IsHistory}
 use Rattle.plan_around.specs.Around.{GoesAround}
 use Rattle.plan_around.proofs.around.around_read.Goals as goal
 

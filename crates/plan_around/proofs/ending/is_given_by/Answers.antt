@@ -1,7 +1,11 @@
-use Rattle.std.proofs.Common.{◌≡◌, ◌∙◌, ap, sym}
+use Rattle.std.proofs.Common.{◌∙◌, ap, sym}
 use Rattle.ring_names.specs.declared.ids.Slot.{Slot}
 use Rattle.plan_text.specs.declared.step.Step.TheVariants.{Copy}
+use Rattle.plan_stage.proofs.Truth.{slot-is}
 use Rattle.plan_around.proofs.ending.is_given_by.Goals as goal
 
-pub returns-in-Copy : goal.returns-in-Copy
-returns-in-Copy c t w m = ?
+pub returns-then-is_slot-clause-same : goal.returns-then-is_slot-clause-same
+returns-then-is_slot-clause-same c = λ t. (
+  c.in-Copy.field-1,
+  c.in-Copy.is ∙ ap (λ (s : Slot). Copy s c.in-Copy.field-1) (slot-is c.in-Copy.copied c.args.slot (sym c.is_slot.ensures ∙ c.if-is_slot.true)),
+)

@@ -1,4 +1,4 @@
-use Rattle.std.proofs.Common.{ℕ, ◌<◌, ap, below_more, arith, length}
+use Rattle.std.proofs.Common.{ℕ, ap, below_more, arith, length}
 use Rattle.plan_around.specs.Ending.{NodeEnds}
 use Rattle.plan_around.proofs.ending.nodes_end.Goals as goal
 

@@ -1,4 +1,4 @@
-use Rattle.std.proofs.Common.{ℕ, ◌<◌, below_more, arith}
+use Rattle.std.proofs.Common.{ℕ, below_more, arith}
 use Rattle.plan_around.specs.Ending.{SlotEnds}
 use Rattle.plan_around.proofs.ending.row_ends.Goals as goal
 

@@ -1,4 +1,4 @@
-use Rattle.std.proofs.Common.{◌∙◌, sym}
+use Rattle.std.proofs.Common.{sym}
 use Rattle.plan_around.proofs.Comparing.{mirror_is, not_some}
 use Rattle.plan_around.proofs.storing.mirror_of.Goals as goal
 
