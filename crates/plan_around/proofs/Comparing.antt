@@ -52,17 +52,17 @@ mirror_is found owner mirror now e f = second (owner, mirror) now (sym e ∙ f)
     second y z h = (let k : y ≡ z = cc in ap (λ (v : NodeId × Option NodeId). v.1) k)
 
 -- histories that lead to two stores that are alike lead to worlds that are
-pub led : (ring : RingValue) (old new : List Planned) (a b : World) (earlier later : List Entry) → ring_of a ≡ ring → plan_of a ≡ old → ring_of b ≡ ring → plan_of b ≡ new
-    → InBoth a b AreAlike → Replays ring old a earlier → Replays ring new b later → LeadAlike ring old new earlier later
-led ring old new a b earlier later ra pa rb pb alike first second =
+pub led : (back : Back) (left : List Slot) (ring : RingValue) (old new : List Planned) (a b : World) (earlier later : List Entry) → ring_of a ≡ ring → plan_of a ≡ old → ring_of b ≡ ring
+    → plan_of b ≡ new → InBoth a b (AreAlike back left) → Replays ring old a earlier → Replays ring new b later → LeadAlike back left ring old new earlier later
+led back left ring old new a b earlier later ra pa rb pb alike first second =
     ∥∥₁_elim first (hlevel props) (λ x. ∥∥₁_map second (λ y. (x.0, y.0, x.2, y.2, moved x.0 y.0 (alike x.0 y.0 x.1 y.1))))
   where
-    moved : (w u : TheWorld) → AreAlike (ring_of a) (plan_of a) w (ring_of b) (plan_of b) u → AreAlike ring old w ring new u
+    moved : (w u : TheWorld) → AreAlike back left (ring_of a) (plan_of a) w (ring_of b) (plan_of b) u → AreAlike back left ring old w ring new u
     moved w u h =
-        subst (λ (r : RingValue). AreAlike r old w ring new u) ra
-        (subst (λ (p : List Planned). AreAlike (ring_of a) p w ring new u) pa
-        (subst (λ (s : RingValue). AreAlike (ring_of a) (plan_of a) w s new u) rb
-        (subst (λ (q : List Planned). AreAlike (ring_of a) (plan_of a) w (ring_of b) q u) pb h)))
+        subst (λ (r : RingValue). AreAlike back left r old w ring new u) ra
+        (subst (λ (p : List Planned). AreAlike back left (ring_of a) p w ring new u) pa
+        (subst (λ (s : RingValue). AreAlike back left (ring_of a) (plan_of a) w s new u) rb
+        (subst (λ (q : List Planned). AreAlike back left (ring_of a) (plan_of a) w (ring_of b) q u) pb h)))
 
 -- a history that leads to a store leads to a world from which a plan ends well, if it does so from each world that the store may be in
 pub led_well : (extent : Extent) (back : Back) (ring : RingValue) (old new : List Planned) (a : World) (dead : List NodeId) (left : List Slot) (earlier : List Entry)

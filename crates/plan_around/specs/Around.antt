@@ -49,12 +49,17 @@ pub record IsAfter (start : RingValue) (steps : List Planned) (history : List En
   pub replays : Replays start steps store history
 
 -- whatever history led to the store, it and this one, which is a run of the new plan, lead to worlds that are alike
-abbrev pub LeadsOn : RingValue → Store → List Planned → List Entry → Type 0
-LeadsOn ring store new later = (earlier : List Entry) → Replays ring (plan_of store) store earlier → LeadAlike ring (plan_of store) new earlier later
+abbrev pub LeadsOn : Back → List Slot → RingValue → Store → List Planned → List Entry → Type 0
+LeadsOn back left ring store new later = (earlier : List Entry) → Replays ring (plan_of store) store earlier → LeadAlike back left ring (plan_of store) new earlier later
 
 -- the history leads by the old plan to a world from which the new one ends where it should
 abbrev pub LeadsWell : Extent → Back → RingValue → List Planned → List Planned → List NodeId → List Slot → List Entry → Type 0
 LeadsWell extent back ring old new dead left earlier = ∥ ((w : World) × IsRun ring old earlier w × EndsWell extent back ring old w new dead left) ∥₁
+
+-- whether any mirror may be taken back: that is allowed, or a slot is to stay with its owner
+abbrev pub back_with : List Slot → Back → Back
+back_with [] back = back
+back_with (slot ∷ slots) back = Allowed
 
 -- the text goes on so by some plan, from a history that tells what the old one tells and leads to a store like that one, and the plan ends where it should
 pub record GoesAround (extent : Extent) (back : Back) (ring : RingValue) (dead : List NodeId) (left : List Slot) (writers : List (List ℕ)) (old : List Planned) (earlier : List Entry)
@@ -62,15 +67,10 @@ pub record GoesAround (extent : Extent) (back : Back) (ring : RingValue) (dead :
   pub plan : List Planned
   pub cert : Cert
   pub history : List Entry
-  pub past : IsSamePast back old plan earlier history
-  pub stores : LeadAlike ring old plan earlier history
+  pub past : IsSamePast (back_with left back) old plan earlier history
+  pub stores : LeadAlike back left ring old plan earlier history
   pub ends : LeadsWell extent back ring old plan dead left earlier
   pub goes_on : GoesOn ring dead writers plan cert history text
-
--- whether mirrors may be taken back: also if a slot is to stay with its owner
-abbrev pub back_with : List Slot → Back → Back
-back_with [] back = back
-back_with (slot ∷ slots) back = Allowed
 
 -- the bytes are the texts of a ring, a plan, a certificate and a history, which is a run of the plan; and the text goes on from there as the options ask
 pub record IsAround (bytes : List ℕ) (options : Options) (detour : Detour) (text : List ℕ) : Type 0 where
@@ -79,4 +79,4 @@ pub record IsAround (bytes : List ℕ) (options : Options) (detour : Detour) (te
   pub dead : List NodeId
   pub named : AreNamed parts.0 (dead_names options) dead
   pub earlier : IsHistory parts.0 parts.1.0 parts.1.1.1.0
-  pub around : GoesAround detour.extent (back_with options.left.items detour.back) parts.0 dead options.left.items parts.1.1.1.1 parts.1.0 parts.1.1.1.0 text
+  pub around : GoesAround detour.extent detour.back parts.0 dead options.left.items parts.1.1.1.1 parts.1.0 parts.1.1.1.0 text

@@ -14,7 +14,7 @@ use Rattle.ring_core.specs.declared.world.World.{World}
 use Rattle.plan_moves.specs.Owners.{IsPast}
 use Rattle.plan_around.specs.declared.ending.Endings.{Endings}
 use Rattle.plan_around.specs.declared.ending.Ended.{Ended}
-use Rattle.plan_around.specs.Ends.{IsExcused, MayDiffer, MayHold, ShouldOwn, last_owner}
+use Rattle.plan_around.specs.Ends.{IsExcused, MayDiffer, MayHold, MayKeep, ShouldOwn, last_owner}
 
 -- in each world that the store may be in, one of these nodes keeps a hint for a slot of the partition
 abbrev pub KeepsIn : World → List NodeId → ℕ → Type 0
@@ -40,6 +40,10 @@ HoldsIn it marks = (x : ℕ) → is_flagged marks x ≡ true → (w : TheWorld) 
 abbrev pub SlotEnds : Endings → ℕ → ℕ → Type 0
 SlotEnds it p i = (w : TheWorld) → Meets it.before.now w
     → ShouldOwn it.extent it.back it.ring.now it.old.now w (slot_at p i) (last_owner it.ring.now it.new.now (slot_at p i)) ⊎ IsExcused it.ring.now it.old.now w it.dead.now it.left.now p
+
+-- so does a slot that is to stay
+abbrev pub SlotStays : Endings → Slot → Type 0
+SlotStays it s = (w : TheWorld) → Meets it.before.now w → MayKeep it.ring.now it.old.now w s (last_owner it.ring.now it.new.now s)
 
 -- and likewise the node
 abbrev pub NodeEnds : Endings → ℕ → Type 0

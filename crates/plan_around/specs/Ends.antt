@@ -1,5 +1,5 @@
 -- Where a plan ends that goes on in place of another one.
-use Rattle.std.specs.Prelude.{◌≡◌, ◌⊎◌, ◌<◌, ◌==◌, ℕ, Bool, true, List, length, Some, None}
+use Rattle.std.specs.Prelude.{◌≡◌, ◌⊎◌, ◌<◌, ◌==◌, ◌||◌, ℕ, Bool, true, List, length, Some, None, slice_get}
 use Rattle.std.specs.List.{list_any}
 use Rattle.ring_names.specs.Lists.{has}
 use Rattle.ring_names.specs.declared.ids.NodeId.{NodeId}
@@ -7,7 +7,8 @@ use Rattle.ring_names.specs.declared.ids.Slot.{Slot}
 use Rattle.ring_table.specs.Value.{RingValue}
 use Rattle.plan_text.specs.Changes.{numbers}
 use Rattle.plan_text.specs.declared.step.Planned.{Planned}
-use Rattle.plan_text.specs.declared.step.Step.TheVariants.{Mirror}
+use Rattle.plan_text.specs.declared.step.Source.{Source}
+use Rattle.plan_text.specs.declared.step.Step.TheVariants.{Copy, Mirror}
 use Rattle.plan_stage.specs.Each.{step_at}
 use Rattle.plan_runs.specs.World.{World, keeps, slot_at, stage_now}
 use Rattle.plan_runs.specs.declared.back.Back.{Back}
@@ -17,6 +18,7 @@ use Rattle.plan_goal.specs.Reached.{member_after}
 use Rattle.plan_bundles.specs.Sized.{row_at}
 use Rattle.ringplan_job.specs.declared.making.Extent.{Extent}
 use Rattle.ringplan_job.specs.declared.making.Extent.TheVariants.{Whole, Begun}
+use Rattle.plan_around.specs.Apart.{is_whole}
 
 -- who owns the slot once the plan is done
 abbrev pub last_owner : RingValue → List Planned → Slot → NodeId
@@ -40,6 +42,14 @@ ShouldOwn Whole back ring old w s x = x ≡ last_owner ring old s
 ShouldOwn Begun back ring old w s x = ((stage_now ring old w s).mirror ≡ Some x)
     ⊎ ((x ≡ (stage_now ring old w s).owner) × (((stage_now ring old w s).mirror ≡ None) ⊎ (back ≡ Allowed)))
 
+-- a copy of the slot has given all: it is done, or open with all chunks marked
+abbrev pub IsGiven : List Planned → World → Slot → Type 0
+IsGiven plan w s = (n : ℕ) × (from : Source) × (step_at plan n ≡ Some (Copy s from)) × ((w.done n || is_whole w n) ≡ true)
+
+-- the node may own in the end a slot that is to stay: it owns it now; or it mirrors it now, and a copy of the slot has given all
+abbrev pub MayKeep : RingValue → List Planned → World → Slot → NodeId → Type 0
+MayKeep ring plan w s x = (x ≡ (stage_now ring plan w s).owner) ⊎ (((stage_now ring plan w s).mirror ≡ Some x) × IsGiven plan w s)
+
 -- the node may still hold something once the plan is done: it owns a slot then, or the plan mirrors one at it, or it keeps a hint
 pub data MayHold (ring : RingValue) (plan : List Planned) (w : World) (x : ℕ) : Type 0 where
   owner : (p i : ℕ) → (last_owner ring plan (slot_at p i)).0 ≡ x → MayHold ring plan w x
@@ -52,8 +62,10 @@ pub data MayDiffer (extent : Extent) (ring : RingValue) (new : List Planned) (w 
   holds : MayHold ring new w x → MayDiffer extent ring new w dead x
   begun : extent ≡ Begun → MayDiffer extent ring new w dead x
 
--- from world w of the old plan the new one ends where it should: each slot with the owner that it should have, and with the members of the old plan's end
+-- from world w of the old plan the new one ends where it should: each slot with the owner that it should have, those that are left with one that they may have, and with the members of
+-- the old plan's end
 pub record EndsWell (extent : Extent) (back : Back) (ring : RingValue) (old : List Planned) (w : World) (new : List Planned) (dead : List NodeId) (left : List Slot) : Type 0 where
   pub slots : (p : ℕ) → p < ring.q → (i : ℕ) → i < ring.n
       → ShouldOwn extent back ring old w (slot_at p i) (last_owner ring new (slot_at p i)) ⊎ IsExcused ring old w dead left p
+  pub stay : (i : ℕ) (s : Slot) → slice_get left i ≡ Some s → MayKeep ring old w s (last_owner ring new s)
   pub members : (x : ℕ) → x < length ring.nodes → (member_after ring new x ≡ member_after ring old x) ⊎ MayDiffer extent ring new w dead x

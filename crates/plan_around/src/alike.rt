@@ -4,53 +4,86 @@ ghost use Rattle.std.specs.Prelude.{◌≡◌, ℕ, ◌<◌, true, IsTrue, Some}
 ghost use Rattle.plan_text.specs.Valid.{is_ring_slot};
 ghost use Rattle.plan_runs.specs.World.{World as TheWorld, slot_at};
 ghost use Rattle.ring_core.specs.World.{ring_of, plan_of, put_count, Meets};
-ghost use Rattle.plan_around.specs.Alike.{last_step, AreAlike, HeldAlike, InBoth, MirroredAlike, OwnerAlike, PutAlike, StoredAlike};
+ghost use Rattle.plan_around.specs.Alike.{last_step, may_return, AreAlike, HeldAlike, InBoth, MirrorAlike, MirroredAlike, NodesAlike, PutAlike, StoredAlike};
 
 use crate::over::is_step_done;
-use crate::storing::mirror_of;
+use crate::storing::{is_node, mirror_of};
+use plan_runs::Back;
 use plan_text::Plan;
 use ring_core::World;
 use ring_names::{NodeId, Slot};
 use ring_table::Ring;
 
-// Whether the slot has the same owner in both stores.
-fn is_owner_alike(a: &World, b: &World, slot: Slot) -> bool
+/// Whether mirrors may be taken back, and the slots that stay with their owners, of which they may be in any case.
+#[derive(Clone, Copy)]
+pub(crate) struct Returns<'a> {
+    pub(crate) back: Back,
+    pub(crate) left: &'a [Slot],
+}
+
+// Whether a mirror of the slot may be taken back.
+fn may_return(returns: &Returns, slot: Slot) -> bool
+    ensures { result ≡ may_return returns.now.back returns.now.left.now slot }
+{
+    returns.back == Back::Allowed
+        || returns.left.iter().any(|left| left.partition == slot.partition
+            && left.index == slot.index)
+}
+
+// Whether the slot has the same mirror in both stores, or none in the second if it may be taken back.
+fn is_mirror_alike(a: &World, b: &World, returns: &Returns, slot: Slot) -> bool
     requires old { is_ring_slot (ring_of a.now) slot ≡ true }
     requires new { is_ring_slot (ring_of b.now) slot ≡ true }
-    ensures { IsTrue result → InBoth a.now b.now (λ r old w s new u. OwnerAlike r old w s new u slot) }
+    ensures { IsTrue result → InBoth a.now b.now (λ r old w s new u. MirrorAlike returns.now.back returns.now.left.now r old w s new u slot) }
+{
+    let mine = mirror_of(a, slot);
+    match mirror_of(b, slot) {
+        Some(theirs) => is_node(mine, theirs),
+        None => mine.is_none() || may_return(returns, slot),
+    }
+}
+
+// Whether the slot has the same owner in both stores, and such a mirror.
+fn is_slot_alike(a: &World, b: &World, returns: &Returns, slot: Slot) -> bool
+    requires old { is_ring_slot (ring_of a.now) slot ≡ true }
+    requires new { is_ring_slot (ring_of b.now) slot ≡ true }
+    ensures { IsTrue result → InBoth a.now b.now (λ r old w s new u. NodesAlike returns.now.back returns.now.left.now r old w s new u slot) }
 {
     let owner = a.owner(slot);
     let other = b.owner(slot);
-    owner.0 == other.0
+    if owner.0 != other.0 {
+        return false;
+    }
+    is_mirror_alike(a, b, returns, slot)
 }
 
-// Whether the slots of the partition have the same owners in both.
-fn is_row_alike(a: &World, b: &World, partition: u32, slots: u32) -> bool
+// Whether the slots of the partition have the same nodes in both.
+fn is_row_alike(a: &World, b: &World, returns: &Returns, partition: u32, slots: u32) -> bool
     requires same { ring_of b.now ≡ ring_of a.now }
     requires slots { slots ≡ (ring_of b.now).n }
     requires partition { partition < (ring_of b.now).q }
     ensures { IsTrue result → (i : ℕ) → i < slots
-        → InBoth a.now b.now (λ r old w s new u. OwnerAlike r old w s new u (slot_at partition i)) }
+        → InBoth a.now b.now (λ r old w s new u. NodesAlike returns.now.back returns.now.left.now r old w s new u (slot_at partition i)) }
 {
     for index in 0..slots {
-        if !is_owner_alike(a, b, Slot { partition, index }) {
+        if !is_slot_alike(a, b, returns, Slot { partition, index }) {
             return false;
         }
     }
     true
 }
 
-// Whether all slots have the same owners in both.
-fn are_owners_alike(ring: &Ring, a: &World, b: &World) -> bool
+// Whether all slots have the same owners in both stores, and the same mirrors but for those that are taken back.
+fn are_nodes_alike(ring: &Ring, a: &World, b: &World, returns: &Returns) -> bool
     requires same { ring_of b.now ≡ ring_of a.now }
     requires ring { ring_of b.now ≡ ring.now }
     ensures { IsTrue result → (p : ℕ) → p < ring.now.q → (i : ℕ) → i < ring.now.n
-        → InBoth a.now b.now (λ r old w s new u. OwnerAlike r old w s new u (slot_at p i)) }
+        → InBoth a.now b.now (λ r old w s new u. NodesAlike returns.now.back returns.now.left.now r old w s new u (slot_at p i)) }
 {
     let q = ring.q();
     let slots = ring.n();
     for partition in 0..q {
-        if !is_row_alike(a, b, partition, slots) {
+        if !is_row_alike(a, b, returns, partition, slots) {
             return false;
         }
     }
@@ -85,25 +118,16 @@ fn is_same(one: bool, other: bool) -> bool
     if one { other } else { !other }
 }
 
-// Whether the node stores the put in both or in neither, if it mirrors the slot of that index in the first.
+// Whether the node stores the put, for the slot of that index, in both or in neither.
 fn is_stored_alike(a: &World, b: &World, node: NodeId, put: u32, index: u32) -> bool
     requires old { put < put_count a.now }
     requires new { put < put_count b.now }
     requires index { index < (ring_of a.now).n }
-    ensures { IsTrue result → InBoth a.now b.now (λ r old w s new u. StoredAlike r old w s u put index node) }
+    ensures { IsTrue result → InBoth a.now b.now (λ r old w s new u. StoredAlike r w s u put index node) }
 {
-    let slot = a.put_slot(put, index);
-    match mirror_of(a, slot) {
-        Some(mirror) => {
-            if mirror.0 != node.0 {
-                return false;
-            }
-            let mine = a.is_stored(node, put, index);
-            let theirs = b.is_stored(node, put, index);
-            is_same(mine, theirs)
-        }
-        None => false,
-    }
+    let mine = a.is_stored(node, put, index);
+    let theirs = b.is_stored(node, put, index);
+    is_same(mine, theirs)
 }
 
 // Whether the mirror of the slot of that index of the put's partition stores the put in both or in neither, if the slot is mirrored in the second and its last step is to come.
@@ -165,17 +189,17 @@ fn are_puts_alike(ring: &Ring, plan: &Plan, a: &World, b: &World) -> bool
     true
 }
 
-/// Whether both stores are alike: the second is one of this ring and this plan. Costs a few look-ups for each put and each slot of its partition.
-pub(crate) fn are_alike(ring: &Ring, plan: &Plan, a: &World, b: &World) -> bool
+/// Whether both stores are alike: the second is one of this ring and this plan. Costs a few look-ups for each slot, and for each put and each slot of its partition.
+pub(crate) fn are_alike(ring: &Ring, plan: &Plan, a: &World, b: &World, returns: &Returns) -> bool
     requires same { ring_of b.now ≡ ring_of a.now }
     requires ring { ring_of b.now ≡ ring.now }
     requires plan { plan_of b.now ≡ plan.now }
-    ensures { IsTrue result → InBoth a.now b.now AreAlike }
+    ensures { IsTrue result → InBoth a.now b.now (AreAlike returns.now.back returns.now.left.now) }
 {
     if a.puts() != b.puts() {
         return false;
     }
-    if !are_owners_alike(ring, a, b) {
+    if !are_nodes_alike(ring, a, b, returns) {
         return false;
     }
     are_puts_alike(ring, plan, a, b)

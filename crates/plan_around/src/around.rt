@@ -3,7 +3,7 @@
 ghost use Rattle.std.specs.Prelude.{◌≡◌, ◌≤◌, IfOk, OnOk, length};
 ghost use Rattle.history_text.specs.Replays.{IsReplay};
 ghost use Rattle.ring_core.specs.Replays.{IsHistory};
-ghost use Rattle.plan_around.specs.Around.{GoesAround, IsAfter, IsAround, back_with};
+ghost use Rattle.plan_around.specs.Around.{GoesAround, IsAfter, IsAround};
 
 use crate::ahead::find_ahead;
 use crate::going::{Going, accepted, go_on};
@@ -15,20 +15,19 @@ use history_text::{ReplayBundle, read_replay};
 use plan_bundles::{Racking, ask_layout, dead_by, members_by, nodes_of, racks_of};
 use plan_cert::Cert;
 use plan_check::Approved;
-use plan_runs::{Back, Entry};
+use plan_runs::Entry;
 use ring_core::{World, replay};
 use ring_names::{Names, NodeId, Refusal, Slot};
 use ringplan_job::Detour;
 use std::alloc::Global;
 
-// The nodes that are dead from here on, the racks of nodes if they are known, the slots that stay with their owners, and whether mirrors may be taken back.
+// The nodes that are dead from here on, the racks of nodes if they are known, the slots that stay with their owners, and how the plan goes on.
 #[derive(Clone, Copy)]
 struct Asked<'a> {
     dead: &'a [NodeId],
     racks: Option<&'a Labels>,
     left: &'a [Slot],
     detour: Detour,
-    back: Back,
 }
 
 // A plan that has begun, as it was read.
@@ -102,7 +101,7 @@ fn push_unmoved(it: &Begun, words: &mut Words) -> Result<bool, Refusal> {
 // The text that goes on by the plan that was found: its certificate is that of the old plan if it is that plan, and otherwise one that is found for it.
 fn go_by(it: &Begun, before: &World, found: Around) -> Result<Vec<u8>, Refusal>
     requires { IsAfter it.now.approved.now.ring it.now.approved.now.plan it.now.history.now before.now }
-    ensures { IfOk result (λ v. GoesAround it.now.asked.detour.extent it.now.asked.back it.now.approved.now.ring it.now.asked.dead.now it.now.asked.left.now
+    ensures { IfOk result (λ v. GoesAround it.now.asked.detour.extent it.now.asked.detour.back it.now.approved.now.ring it.now.asked.dead.now it.now.asked.left.now
         it.now.writers.now it.now.approved.now.plan it.now.history.now v.items) }
 {
     let Around {
@@ -118,7 +117,7 @@ fn go_by(it: &Begun, before: &World, found: Around) -> Result<Vec<u8>, Refusal>
         writers: it.writers,
         dead: it.asked.dead,
         left: it.asked.left,
-        back: it.asked.back,
+        back: it.asked.detour.back,
         extent: it.asked.detour.extent,
         numbers: numbers.as_slice(),
         olds: olds.as_slice(),
@@ -143,7 +142,7 @@ fn go_so_far(
     words: &mut Words,
 ) -> Result<Vec<u8>, Refusal>
     requires { IsAfter it.now.approved.now.ring it.now.approved.now.plan it.now.history.now before.now }
-    ensures { IfOk result (λ v. GoesAround it.now.asked.detour.extent it.now.asked.back it.now.approved.now.ring it.now.asked.dead.now it.now.asked.left.now
+    ensures { IfOk result (λ v. GoesAround it.now.asked.detour.extent it.now.asked.detour.back it.now.approved.now.ring it.now.asked.dead.now it.now.asked.left.now
         it.now.writers.now it.now.approved.now.plan it.now.history.now v.items) }
 {
     let found = find(it, reach)?;
@@ -165,7 +164,7 @@ fn is_none(outcome: &Result<Vec<u8>, Refusal>) -> bool {
 // The bundle that goes on from there, by the search that goes farthest and finds one. Adds what becomes of slots and nodes.
 fn go_around(it: &Begun, before: &World, words: &mut Words) -> Result<Vec<u8>, Refusal>
     requires { IsAfter it.now.approved.now.ring it.now.approved.now.plan it.now.history.now before.now }
-    ensures { IfOk result (λ v. GoesAround it.now.asked.detour.extent it.now.asked.back it.now.approved.now.ring it.now.asked.dead.now it.now.asked.left.now
+    ensures { IfOk result (λ v. GoesAround it.now.asked.detour.extent it.now.asked.detour.back it.now.approved.now.ring it.now.asked.dead.now it.now.asked.left.now
         it.now.writers.now it.now.approved.now.plan it.now.history.now v.items) }
 {
     let far = go_so_far(it, before, Reach::Far, words);
@@ -187,7 +186,7 @@ fn around_read(
     words: &mut Words,
 ) -> Result<Vec<u8>, Refusal>
     requires { IsReplay read }
-    ensures { IfOk result (λ v. GoesAround asked.entry.detour.extent asked.entry.back read.ring asked.entry.dead.now asked.entry.left.now read.writers read.plan read.history.items v.items
+    ensures { IfOk result (λ v. GoesAround asked.entry.detour.extent asked.entry.detour.back read.ring asked.entry.dead.now asked.entry.left.now read.writers read.plan read.history.items v.items
         × IsHistory read.ring read.plan read.history.items) }
 {
     let ReplayBundle {
@@ -221,13 +220,6 @@ fn around_read(
     }
 }
 
-// Whether mirrors may be taken back: also if a slot is to stay with its owner.
-fn back_with(left: &[Slot], back: Back) -> Back
-    ensures { result ≡ back_with left.now back }
-{
-    if left.is_empty() { back } else { Back::Allowed }
-}
-
 // What the options and the detour ask for, around these nodes and by these racks.
 fn asked_for<'a>(
     dead: &'a [NodeId],
@@ -238,7 +230,7 @@ fn asked_for<'a>(
     ensures dead { result.dead.now ≡ dead.now }
     ensures left { result.left.now ≡ options.now.left.items }
     ensures extent { result.detour.extent ≡ detour.extent }
-    ensures back { result.back ≡ back_with options.now.left.items detour.back }
+    ensures back { result.detour.back ≡ detour.back }
 {
     let racks = racking.racks.as_ref();
     let left = options.left.as_slice();
@@ -247,13 +239,13 @@ fn asked_for<'a>(
         racks,
         left,
         detour,
-        back: back_with(left, detour.back),
     }
 }
 
 /// Makes the bundle that goes on where one stopped, around the nodes that are dead by the options: its ring, another plan, a certificate, and the history by that plan. An
-/// executor goes on with it: what it holds of a step it finds by the step's kind, partition, slot and node. Slots that the options name stay with their owners; a mirror of
-/// such a slot is taken back in any case. Adds line by line to `words` what becomes of slots and nodes that do not go where they were to go, or at `NoPlan` why.
+/// executor goes on with it: what it holds of a step it finds by the step's kind, partition, slot and node. Slots that the options name stay with their owners, or go to their
+/// mirrors if a copy has given all; other mirrors are taken back only if the detour allows it. Adds line by line to `words` what becomes of slots and nodes that do not go where
+/// they were to go, or at `NoPlan` why.
 ///
 /// Refused is the first fault of the texts; a name that the ring does not declare, and a member without a rack where racks are known, as `UnknownNode(0)`; a partition that
 /// the ring does not have, as `TooLarge` with its line in the layout; a plan that the checker refuses; a history that is not a run of it; and as `NoPlan` a slot that

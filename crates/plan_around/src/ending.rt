@@ -1,19 +1,24 @@
 //! Whether a plan ends where it should that goes on in place of another one.
 
-ghost use Rattle.std.specs.Prelude.{◌≡◌, ◌⊎◌, ℕ, ◌<◌, ◌==◌, true, length, IsTrue, IfOk};
+ghost use Rattle.std.specs.Prelude.{◌≡◌, ◌⊎◌, ℕ, ◌<◌, ◌==◌, ◌||◌, true, length, Some, slice_get, IsTrue, IfOk};
 ghost use Rattle.std.specs.List.{list_any};
 ghost use Rattle.ring_names.specs.Lists.{has};
 ghost use Rattle.ring_table.specs.Value.{RingValue};
 ghost use Rattle.plan_text.specs.Changes.{numbers};
 ghost use Rattle.plan_text.specs.Valid.{is_ring_slot, Suits};
+ghost use Rattle.plan_text.specs.declared.step.Source.{Source};
+ghost use Rattle.plan_text.specs.declared.step.Step.TheVariants.{Copy};
 ghost use Rattle.plan_runs.specs.World.{World as TheWorld};
 ghost use Rattle.plan_goal.specs.Reached.{member_after};
 ghost use Rattle.plan_moves.specs.Owners.{IsPast};
 ghost use Rattle.plan_bundles.specs.Sized.{is_flagged, row_at};
 ghost use Rattle.ring_core.specs.World.{ring_of, plan_of, Meets};
-ghost use Rattle.plan_around.specs.Ends.{EndsWell, IsExcused, IsTouched, ShouldOwn};
-ghost use Rattle.plan_around.specs.Ending.{AreEnds, HintsIn, HoldsIn, MirrorsAt, MirrorsIn, NodeEnds, SlotEnds};
+ghost use Rattle.plan_around.specs.Apart.{is_whole};
+ghost use Rattle.plan_around.specs.Ends.{EndsWell, IsExcused, IsGiven, IsTouched, MayKeep, ShouldOwn};
+ghost use Rattle.plan_around.specs.Ending.{AreEnds, HintsIn, HoldsIn, MirrorsAt, MirrorsIn, NodeEnds, SlotEnds, SlotStays};
 
+use crate::over::is_over;
+use crate::storing::is_node;
 use plan_bundles::{is_flagged, row_at};
 use plan_cover::Present;
 use plan_goal::Dead;
@@ -183,6 +188,57 @@ fn should_own(it: &Endings, old: &Present, slot: Slot, node: NodeId) -> bool
     }
 }
 
+// Whether the step is a copy of the slot that has given all.
+fn is_given_by(before: &World, step: &Step, slot: Slot, number: u32) -> bool
+    ensures same { IsTrue result → (from : Source) × (step.now ≡ Copy slot from) }
+    ensures over { IsTrue result → (w : TheWorld) → Meets before.now w → (w.done number || is_whole w number) ≡ true }
+{
+    match step {
+        Step::Copy(copied, _) => {
+            copied.partition == slot.partition
+                && copied.index == slot.index
+                && is_over(before, step, number)
+        }
+        _ => false,
+    }
+}
+
+// Whether the step of that number is one.
+fn is_given_at(before: &World, plan: &Plan, slot: Slot, number: u32) -> bool
+    ensures { IsTrue result → (w : TheWorld) → Meets before.now w → IsGiven plan.now w slot }
+{
+    if number >= plan.len() {
+        return false;
+    }
+    is_given_by(before, plan.step(number), slot, number)
+}
+
+// Whether a copy of the slot has given all.
+fn is_given(before: &World, plan: &Plan, slot: Slot) -> bool
+    ensures { IsTrue result → (w : TheWorld) → Meets before.now w → IsGiven plan.now w slot }
+{
+    for number in plan.slot_steps(slot) {
+        if is_given_at(before, plan, slot, *number) {
+            return true;
+        }
+    }
+    false
+}
+
+// Whether the node may own in the end a slot that is to stay.
+fn may_keep(before: &World, plan: &Plan, slot: Slot, node: NodeId) -> bool
+    requires slot { is_ring_slot (ring_of before.now) slot ≡ true }
+    requires plan { plan_of before.now ≡ plan.now }
+    ensures { IsTrue result → (w : TheWorld) → Meets before.now w → MayKeep (ring_of before.now) plan.now w slot node }
+{
+    match before.nodes_of(slot) {
+        Some((owner, mirror)) => {
+            owner.0 == node.0 || (is_node(mirror, node) && is_given(before, plan, slot))
+        }
+        None => false,
+    }
+}
+
 // What is found of both plans before their ends are compared: who serves each slot once they are done, and the partitions for which dead nodes keep hints.
 #[derive(Drop)]
 struct Ended<'a> {
@@ -228,6 +284,31 @@ fn slots_end(it: &Endings, ended: &Ended) -> bool
     let q = it.ring.q();
     for partition in 0..q {
         if !row_ends(it, ended, partition) {
+            return false;
+        }
+    }
+    true
+}
+
+// Whether the slot, which is to stay, ends with a node that may own it then.
+fn slot_stays(it: &Endings, ended: &Ended, slot: Slot) -> bool
+    requires { AreEnds it.now ended.now }
+    ensures { IsTrue result → SlotStays it.now slot }
+{
+    if slot.partition >= it.ring.q() || slot.index >= it.ring.n() {
+        return false;
+    }
+    let node = ended.new.at(it.ring, slot).owner;
+    may_keep(it.before, it.old, slot, node)
+}
+
+// Whether all slots do that are to stay.
+fn slots_stay(it: &Endings, ended: &Ended) -> bool
+    requires { AreEnds it.now ended.now }
+    ensures { IsTrue result → (i : ℕ) (s : Slot) → slice_get it.now.left.now i ≡ Some s → SlotStays it.now s }
+{
+    for index in 0..it.left.len() {
+        if !slot_stays(it, ended, it.left[index]) {
             return false;
         }
     }
@@ -356,7 +437,7 @@ pub(crate) fn ends_well(alloc: Global, it: &Endings) -> Result<bool, Refusal>
         hinted,
     };
     let holders = holders(alloc, it, &ended)?;
-    if !slots_end(it, &ended) {
+    if !slots_end(it, &ended) || !slots_stay(it, &ended) {
         return Ok(false);
     }
     Ok(nodes_end(it, &ended, holders.as_slice()))

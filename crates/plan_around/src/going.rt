@@ -9,10 +9,10 @@ ghost use Rattle.history_text.specs.Spelling.{history_text};
 ghost use Rattle.plan_past.specs.Past.{IsSamePast};
 ghost use Rattle.plan_runs.specs.World.{World as TheWorld};
 ghost use Rattle.ring_core.specs.World.{ring_of, plan_of, Meets};
-ghost use Rattle.plan_around.specs.Around.{GoesAround, IsAfter, LeadsOn, RunsApart};
+ghost use Rattle.plan_around.specs.Around.{back_with, GoesAround, IsAfter, LeadsOn, RunsApart};
 ghost use Rattle.plan_around.specs.Ends.{EndsWell};
 
-use crate::alike::are_alike;
+use crate::alike::{Returns, are_alike};
 use crate::apart::are_apart;
 use crate::ending::{Endings, ends_well};
 use crate::retelling::{Retold, retell};
@@ -56,18 +56,22 @@ fn runs_on(
     approved: &Approved,
     before: &World,
     history: &[Entry],
-    dead: &[NodeId],
+    it: &Going,
 ) -> Result<bool, Refusal>
     requires few { length history.now ≤ 1000000 }
     requires ring { ring_of before.now ≡ approved.now.ring }
-    ensures apart { IfOk result (λ b. IsTrue b → RunsApart approved.now.ring approved.now.plan dead.now history.now) }
-    ensures alike { IfOk result (λ b. IsTrue b → LeadsOn approved.now.ring before.now approved.now.plan history.now) }
+    ensures apart { IfOk result (λ b. IsTrue b → RunsApart approved.now.ring approved.now.plan it.now.dead.now history.now) }
+    ensures alike { IfOk result (λ b. IsTrue b → LeadsOn it.now.back it.now.left.now approved.now.ring before.now approved.now.plan history.now) }
 {
     let store = replay(alloc, approved, history)?;
-    if !are_alike(approved.ring(), approved.plan(), before, &store) {
+    let returns = Returns {
+        back: it.back,
+        left: it.left,
+    };
+    if !are_alike(approved.ring(), approved.plan(), before, &store, &returns) {
         return Ok(false);
     }
-    are_apart(alloc, &store, approved.ring(), approved.plan(), dead)
+    are_apart(alloc, &store, approved.ring(), approved.plan(), it.dead)
 }
 
 // The text of the history, if it goes on by the plan; else `NoPlan`, or what the replay refuses.
@@ -80,13 +84,13 @@ fn history_on(
 ) -> Result<Vec<u8>, Refusal>
     requires { ring_of before.now ≡ approved.now.ring }
     ensures run { OnOk result (RunsApart approved.now.ring approved.now.plan it.now.dead.now history.now) }
-    ensures alike { OnOk result (LeadsOn approved.now.ring before.now approved.now.plan history.now) }
+    ensures alike { OnOk result (LeadsOn it.now.back it.now.left.now approved.now.ring before.now approved.now.plan history.now) }
     ensures text { IfOk result (λ v. v.items ≡ history_text approved.now.ring it.now.writers.now history.now) }
 {
     if history.len() > MOST || !are_known(approved.ring(), it.writers, history) {
         return Err(Refusal::NoPlan);
     }
-    if !runs_on(alloc, approved, before, history, it.dead)? {
+    if !runs_on(alloc, approved, before, history, it)? {
         return Err(Refusal::NoPlan);
     }
     let mut out = Vec::new(alloc);
@@ -121,6 +125,13 @@ pub(crate) struct Going<'a> {
     pub(crate) cert: &'a Cert,
 }
 
+// Whether any mirror may be taken back: that is allowed, or a slot is to stay with its owner.
+fn back_with(left: &[Slot], back: Back) -> Back
+    ensures { result ≡ back_with left.now back }
+{
+    if left.is_empty() { back } else { Back::Allowed }
+}
+
 // Whether the entries tell what the old history tells, by the new plan.
 fn tells_past(
     alloc: Global,
@@ -129,21 +140,21 @@ fn tells_past(
     entries: &[Entry],
     counts: &[u32],
 ) -> Result<bool, Refusal>
-    ensures { IfOk result (λ b. IsTrue b → IsSamePast it.now.back it.now.old.now.plan new.now.plan it.now.history.now entries.now) }
+    ensures { IfOk result (λ b. IsTrue b → IsSamePast (back_with it.now.left.now it.now.back) it.now.old.now.plan new.now.plan it.now.history.now entries.now) }
 {
     let plans = SamePast {
         old: it.old.plan(),
         new: new.plan(),
         numbers: it.numbers,
         olds: it.olds,
-        back: it.back,
+        back: back_with(it.left, it.back),
     };
     is_same_past(alloc, &plans, it.history, &Told { entries, counts })
 }
 
 // The history by the new plan. `NoPlan` if it does not tell what the old one tells.
 fn past(alloc: Global, it: &Going, new: &Approved) -> Result<Vec<Entry>, Refusal>
-    ensures { IfOk result (λ v. IsSamePast it.now.back it.now.old.now.plan new.now.plan it.now.history.now v.items) }
+    ensures { IfOk result (λ v. IsSamePast (back_with it.now.left.now it.now.back) it.now.old.now.plan new.now.plan it.now.history.now v.items) }
 {
     let Retold { entries, counts } = retell(alloc, it.old, new, it.numbers, it.history)?;
     if !tells_past(alloc, it, new, entries.as_slice(), counts.as_slice())? {

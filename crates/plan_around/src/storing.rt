@@ -1,6 +1,6 @@
 //! What is asked of a store in the middle of a history.
 
-ghost use Rattle.std.specs.Prelude.{◌≡◌, true};
+ghost use Rattle.std.specs.Prelude.{◌≡◌, true, IsTrue, Some};
 ghost use Rattle.plan_text.specs.Valid.{is_ring_slot};
 ghost use Rattle.plan_runs.specs.World.{World as TheWorld, stage_now};
 ghost use Rattle.ring_core.specs.World.{ring_of, plan_of, Meets};
@@ -37,6 +37,16 @@ pub(crate) fn mirror_of(store: &World, slot: Slot) -> Option<NodeId>
     match store.nodes_of(slot) {
         Some((_, mirror)) => mirror,
         None => None,
+    }
+}
+
+/// Whether the mirror is that node, if there is one.
+pub(crate) fn is_node(mirror: Option<NodeId>, node: NodeId) -> bool
+    ensures { IsTrue result → mirror ≡ Some node }
+{
+    match mirror {
+        Some(found) => found.0 == node.0,
+        None => false,
     }
 }
 

@@ -32,4 +32,4 @@ returns-else-is_last_done c t w u m n x e k f g =
     let there = put_in_ring (ring_of b) slot c.args.index c.put_slot-slot.ensures.partition c.put_slot-slot.ensures.index c.requires.index in
     let mirrored = subst (λ (s : Slot). (stage_now (ring_of b) (plan_of b) u s).mirror ≡ Some x) (sym (c.put_slot-slot.ensures.slot u n)) e in
     let same = same_some c.in-Some.node x (sym c.in-Some.is ∙ c.mirror_of.ensures u n there ∙ mirrored) in
-    subst (λ (y : NodeId). StoredAlike (ring_of a) (plan_of a) w (ring_of b) u c.args.put c.args.index y) same (c.is_stored_alike.ensures t w u m n)
+    subst (λ (y : NodeId). StoredAlike (ring_of a) w (ring_of b) u c.args.put c.args.index y) same (c.is_stored_alike.ensures t w u m n)

@@ -8,7 +8,7 @@ use Rattle.ring_table.specs.Value.{names_of}
 use Rattle.plan_runs.specs.declared.back.Back.{Back}
 use Rattle.history_text.specs.Replays.{parts_of}
 use Rattle.ringplan_job.specs.declared.making.Extent.{Extent}
-use Rattle.plan_around.specs.Around.{GoesAround, back_with}
+use Rattle.plan_around.specs.Around.{GoesAround}
 use Rattle.plan_around.proofs.around.around_bundle.Goals as goal
 
 pub returns : goal.returns
@@ -19,11 +19,11 @@ returns c =
     let names = ap (λ (xs : List (Vec ℕ)). map (λ name. name.items) xs) c.as_slice.ensures.value ∙ c.in_ok-names.ensures in
     let dead = c.asked_for-asked.ensures.dead ∙ c.as_slice-3.ensures.value in
     let named = ap (λ (ns : List (List ℕ)). map (place (names_of read.ring)) ns) (sym names) ∙ c.in_ok-nodes.ensures ∙ ap (λ (xs : List NodeId). map (λ x. Some x.0) xs) (sym dead) in
-    let around = λ (text : List ℕ) (h : GoesAround asked.detour.extent asked.back read.ring asked.dead.now asked.left.now read.writers read.plan read.history.items text).
-    subst (λ (extent : Extent). GoesAround extent (back_with options.left.items c.args.detour.back) read.ring asked.dead.now options.left.items read.writers read.plan read.history.items text)
+    let around = λ (text : List ℕ) (h : GoesAround asked.detour.extent asked.detour.back read.ring asked.dead.now asked.left.now read.writers read.plan read.history.items text).
+    subst (λ (extent : Extent). GoesAround extent c.args.detour.back read.ring asked.dead.now options.left.items read.writers read.plan read.history.items text)
     c.asked_for-asked.ensures.extent
     (subst (λ (back : Back). GoesAround asked.detour.extent back read.ring asked.dead.now options.left.items read.writers read.plan read.history.items text) c.asked_for-asked.ensures.back
-    (subst (λ (left : List Slot). GoesAround asked.detour.extent asked.back read.ring asked.dead.now left read.writers read.plan read.history.items text) c.asked_for-asked.ensures.left h)) in
+    (subst (λ (left : List Slot). GoesAround asked.detour.extent asked.detour.back read.ring asked.dead.now left read.writers read.plan read.history.items text) c.asked_for-asked.ensures.left h)) in
     record {
       around = IfOk-weaker c.around_read.result _ _
           (λ v is. record { parts = parts_of read; read = c.in_ok-read.ensures.read; dead = asked.dead.now; named = named; earlier = is.1; around = around v.items is.0 })

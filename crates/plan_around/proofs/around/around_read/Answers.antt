@@ -23,9 +23,9 @@ returns-in-Ok c =
     let entries = c.as_slice-entries.result.now in
     let same = c.in_ok-approved.ensures.same in
     let run = ∥∥₁_map c.in_ok-store.ensures.ok (λ x. (x.0, x.2)) in (
-      subst (λ (h : List Entry). GoesAround asked.detour.extent asked.back read.ring asked.dead.now asked.left.now read.writers read.plan h text) c.as_slice-entries.ensures.value
-          (subst (λ (p : List Planned). GoesAround asked.detour.extent asked.back read.ring asked.dead.now asked.left.now read.writers p entries text) same.1
-          (subst (λ (r : RingValue). GoesAround asked.detour.extent asked.back r asked.dead.now asked.left.now read.writers approved.plan entries text) same.0 c.in-Ok.ensures)),
+      subst (λ (h : List Entry). GoesAround asked.detour.extent asked.detour.back read.ring asked.dead.now asked.left.now read.writers read.plan h text) c.as_slice-entries.ensures.value
+          (subst (λ (p : List Planned). GoesAround asked.detour.extent asked.detour.back read.ring asked.dead.now asked.left.now read.writers p entries text) same.1
+          (subst (λ (r : RingValue). GoesAround asked.detour.extent asked.detour.back r asked.dead.now asked.left.now read.writers approved.plan entries text) same.0 c.in-Ok.ensures)),
       subst (λ (h : List Entry). IsHistory read.ring read.plan h) c.as_slice-entries.ensures.value
           (subst (λ (p : List Planned). IsHistory read.ring p entries) same.1 (subst (λ (r : RingValue). IsHistory r approved.plan entries) same.0 run)),
     )

@@ -8,5 +8,6 @@ nodes_end-requires-clause-holders c = subst (λ (marks : List Bool). HoldsIn c.a
 pub returns : goal.returns
 returns c = λ t w m. record {
   slots = λ p lp i li. c.slots_end.ensures c.if-not-slots_end.false p lp i li w m;
+  stay = λ i s e. c.slots_stay.ensures c.if-not-slots_stay.false i s e w m;
   members = λ x l. c.nodes_end.ensures t x l w m;
 }

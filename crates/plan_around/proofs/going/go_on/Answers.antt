@@ -14,7 +14,7 @@ use Rattle.ring_core.specs.Replays.{Replays}
 use Rattle.plan_around.specs.Alike.{LeadAlike}
 use Rattle.plan_runs.specs.World.{World as TheWorld}
 use Rattle.ring_core.specs.World.{Meets}
-use Rattle.plan_around.specs.Around.{LeadsOn, RunsApart}
+use Rattle.plan_around.specs.Around.{back_with, LeadsOn, RunsApart}
 use Rattle.plan_around.specs.Ends.{EndsWell}
 use Rattle.plan_around.proofs.Comparing.{led_well}
 use Rattle.plan_around.proofs.Again.{four}
@@ -36,11 +36,11 @@ returns c =
     let of-ring = c.in_ok-approved.ensures.same.0 ∙ (c.in_ok-ring.ensures.ok ∙ c.ring.ensures.value) in
     let of-plan = c.in_ok-approved.ensures.same.1 in
     let entries = c.as_slice.result.now in
-    let past = subst (λ (h : List Entry). IsSamePast it.back it.old.now.plan plan it.history.now h) (sym c.as_slice.ensures.value)
-    (subst (λ (p : List Planned). IsSamePast it.back it.old.now.plan p it.history.now c.in_ok-entries.entries.items) of-plan c.in_ok-entries.ensures) in
+    let past = subst (λ (h : List Entry). IsSamePast (back_with it.left.now it.back) it.old.now.plan plan it.history.now h) (sym c.as_slice.ensures.value)
+    (subst (λ (p : List Planned). IsSamePast (back_with it.left.now it.back) it.old.now.plan p it.history.now c.in_ok-entries.entries.items) of-plan c.in_ok-entries.ensures) in
     let run = subst (λ (r : RingValue). RunsApart r plan it.dead.now entries) of-ring (subst (λ (p : List Planned). RunsApart approved.ring p it.dead.now entries) of-plan c.in_ok-history.ensures.run) in
     let first = subst (λ (p : List Planned). Replays ring p before it.history.now) (sym c.requires.plan) c.requires.replays in
-    let on = subst (λ (r : RingValue). LeadsOn r before plan entries) of-ring (subst (λ (p : List Planned). LeadsOn approved.ring before p entries) of-plan c.in_ok-history.ensures.alike) in
+    let on = subst (λ (r : RingValue). LeadsOn it.back it.left.now r before plan entries) of-ring (subst (λ (p : List Planned). LeadsOn it.back it.left.now approved.ring before p entries) of-plan c.in_ok-history.ensures.alike) in
     let well = subst (λ (p : List Planned). (w : TheWorld) → Meets before w → EndsWell it.extent it.back ring it.old.now.plan w p it.dead.now it.left.now) of-plan c.in_ok-ask_ends.ensures in
     let more = c.as_slice-2.ensures.value ∙ c.in_ok-history.ensures.text ∙ ap (λ (r : RingValue). history_text r it.writers.now entries) of-ring in
     let certified = subst (λ (r : RingValue). IsCertified r plan it.cert.now) (c.in_ok-ring.ensures.ok ∙ c.ring.ensures.value) c.in_ok-approved.ensures.certified in
@@ -52,7 +52,7 @@ returns c =
       cert = it.cert.now;
       history = entries;
       past = past;
-      stores = subst (λ (p : List Planned). LeadAlike ring p plan it.history.now entries) c.requires.plan (on it.history.now first);
+      stores = subst (λ (p : List Planned). LeadAlike it.back it.left.now ring p plan it.history.now entries) c.requires.plan (on it.history.now first);
       ends = led_well it.extent it.back ring it.old.now.plan plan before it.dead.now it.left.now it.history.now c.requires.replays well;
       goes_on = record {
         certified = certified;

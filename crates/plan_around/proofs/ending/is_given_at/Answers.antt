@@ -1,0 +1,13 @@
+use Rattle.std.proofs.Common.{◌∙◌, Some, ap}
+use Rattle.plan_text.specs.declared.step.Step.{Step}
+use Rattle.plan_stage.proofs.Places.{step_at-is}
+use Rattle.plan_around.proofs.ending.is_given_at.Goals as goal
+
+pub returns : goal.returns
+returns c = λ t w m.
+    let copy = c.is_given_by.ensures.same t in (
+      c.args.number,
+      copy.0,
+      step_at-is c.args.plan.now c.args.number c.step.result.now c.step.ensures.value ∙ ap (λ (s : Step). Some s) copy.1,
+      c.is_given_by.ensures.over t w m,
+    )
