@@ -11,6 +11,7 @@ With --instructions a line has what valgrind's callgrind counts in place of seco
 doubling: that is the same on each machine, whatever else it does, and takes some fifty times as long.
 """
 import os
+import random
 import re
 import subprocess
 import sys
@@ -51,6 +52,35 @@ def around(dead, partitions):
     names = ["n%04d" % (9 * k) for k in range(dead)]
     change = ["change 1"] + ["join n%04d" % k for k in range(1024 - dead, 1024)] + ["leave " + x for x in names] + ["end"]
     return ["goal", *[it for x in names for it in ("--dead", x)]], front + "\n".join(change) + "\n"
+
+
+def joined(partitions):
+    """The ring of 1,024 nodes, half of which join: of the plan its bundle, and its steps with what they wait for."""
+    given = members(512, partitions).split("leave ", 1)[0] + "end\n"
+    bundle = subprocess.run([RUN, "goal"], input=given.encode(), stdout=subprocess.PIPE, stderr=subprocess.DEVNULL).stdout.decode()
+    lines = [line.partition(" after ") for line in bundle.split("plan 1\n")[1].split("end\n")[0].splitlines()]
+    return bundle, [line.split() for line, _, _ in lines], [[int(x) for x in after.split()] for _, _, after in lines]
+
+
+def begun(partitions, entries=0):
+    """The first half of a plan's steps is done. With puts between them, so many entries in all, mirrors are set too, and 500 copies are open, with half of their chunks."""
+    bundle, steps, after = joined(partitions)
+    half, draw, events, puts, due = len(steps) // 2, random.Random(1), [], 0, 0.0
+    copies = sum(step[0] == "copy" for step in steps[:half])
+    each = (entries - half - 17 * copies - 4500) // 6 / half if entries else 0
+    for k, step in enumerate(steps[:half]):
+        events += ["open %d" % k, *("chunk %d %d" % (k, c) for c in range(16)), "close %d" % k] if step[0] == "copy" else ["do %d" % k]
+        due += each
+        while due >= 1:
+            key = draw.randrange(30000)
+            events += ["put w%d key%d x%08x" % (key % 64, key, puts), *("write %d %d" % (puts, i) for i in draw.sample(range(7), 4)), "ack %d" % puts]
+            due, puts = due - 1, puts + 1
+    ready = [k for k in range(half, len(steps)) if entries and steps[k][0] == "mirror" and max(after[k], default=0) < half]
+    events += ["do %d" % k for k in ready]
+    done = {*range(half), *ready}
+    for k in [k for k, step in enumerate(steps) if entries and k not in done and step[0] == "copy" and done.issuperset(after[k])][:500]:
+        events += ["open %d" % k, *("chunk %d %d" % (k, c) for c in range(8))]
+    return history(bundle + "script 1\n" + "\n".join(events) + "\nend\n")
 
 
 def history(bundle):
@@ -133,6 +163,8 @@ def families():
     yield ["goal"], "a tenth of the nodes", [lambda q=q: members(102, q) for q in doubled(512, 4096)]
     yield ["goal"], "each slot to another node", [lambda q=q: shifted(q) for q in doubled(512, 4096)]
     yield [*around(100, 512)[0]], "100 dead nodes", [lambda q=q: around(100, q)[1] for q in doubled(512, 4096)]
+    yield ["around", "--dead", "n0003"], "half done", [lambda q=q: begun(q) for q in doubled(1024, 4096)]
+    yield ["around", "--dead", "n0066"], "puts, half done", [lambda n=n: begun(4096, n) for n in (247500, 495000, 990000)]
     plays = {
         "reads, versions": [lambda m=m: hostile_scripts.bundle("reads", m, 500) for m in doubled(128, 1024)],
         "reads, gets": scripts("reads", 500, 32000, 1024),
