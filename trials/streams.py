@@ -97,6 +97,9 @@ def dead():
     plan = run("goal", "--dead", "b", given=said)[0]
     owes("a dead member that leaves", run("goal", "--dead", "b", given=said), contains(b"copy 0 1 slots 0 2"), NO_RACKS, 0)
     owes("a dead member that stays", run("goal", "--dead", "b", given=unsaid), plan, NO_RACKS + b"ringplan: b is dead, so it leaves, though the change does not say so\n", 0)
+    for form in (["--format", "text"], ["--format", "json"]):
+        out, errors, status = run("goal", *form, "--dead", "zz", given=said)
+        owes(f"a dead node that the ring does not declare, {form[1]}", (out + errors, b"", status), contains(b"the command line names zz,"), b"", 2)
     owes("a dead member, twice", run("goal", "--dead", "b", "--dead", "b", given=unsaid), plan, contains(b"b is dead"), 0)
 
 

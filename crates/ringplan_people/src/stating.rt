@@ -447,7 +447,9 @@ fn state_unled(
 {
     unless_memory(*refusal)?;
     let mut words = Words::new(alloc);
-    push_goal_words(alloc, &mut words, bytes, options, refusal)?;
+    if !is_of_options(refusal) || !push_misfits(alloc, &mut words, bytes, options)? {
+        push_goal_words(alloc, &mut words, bytes, options, refusal)?;
+    }
     let object = refused_object(alloc, refusal, words)?;
     refused_answer(object, refusal)
 }
