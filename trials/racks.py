@@ -1,5 +1,5 @@
 #!/usr/bin/env python3
-"""Racks that nobody names. It wants the program as it is built. `trials/racks.py` tries 600 random rings, and `trials/racks.py COUNT [--first SEED] [--keep FOLDER]` so many;
+"""Racks that nobody names. It wants the program as it is built. `trials/racks.py` tries 1,000 random rings, and `trials/racks.py COUNT [--first SEED] [--keep FOLDER]` so many;
 FOLDER gets the bundle of each fault.
 
 The names of a ring's nodes show their racks in one of four styles, and the ring keeps the slots of its partitions apart by racks as far as it can. Nodes join, leave and die,
@@ -251,7 +251,7 @@ def tried(seed: int) -> tuple[str, Fault | None]:
 
 def main() -> int:
     lines = argparse.ArgumentParser(description=__doc__, formatter_class=argparse.RawDescriptionHelpFormatter)
-    lines.add_argument("count", nargs="?", type=int, default=600)
+    lines.add_argument("count", nargs="?", type=int, default=1000)
     lines.add_argument("--first", type=int, default=1, metavar="SEED")
     lines.add_argument("--keep", metavar="FOLDER")
     asked = lines.parse_args()

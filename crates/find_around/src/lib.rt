@@ -3,6 +3,7 @@
 //! but that the checker and the replay can be asked.
 #![tactic(auto)]
 
+mod apart;
 mod around;
 mod crowding;
 mod entries;

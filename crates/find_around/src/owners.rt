@@ -35,19 +35,25 @@ impl Search<'_> {
         owner
     }
 
-    /// The owner of the slot after all steps.
-    pub(crate) fn last_owner(&self, slot: Slot) -> u32 {
+    /// The place of the slot's last move whose switch is left.
+    pub(crate) fn last_left(&self, slot: Slot) -> Option<usize> {
         let mut next = self.moves.last(slot);
         for turn in 0..self.moves.len() {
-            let Some(it) = self.moves.at(next) else {
-                break;
-            };
+            let it = self.moves.at(next)?;
             if self.kept(it.switch).is_some() {
-                return it.target;
+                return next;
             }
             next = it.before;
         }
-        first_owner(self.task.ring, slot)
+        None
+    }
+
+    /// The owner of the slot after all steps.
+    pub(crate) fn last_owner(&self, slot: Slot) -> u32 {
+        match self.moves.at(self.last_left(slot)) {
+            Some(it) => it.target,
+            None => first_owner(self.task.ring, slot),
+        }
     }
 
     // Whether a dead node keeps a hint for the slot.

@@ -54,7 +54,8 @@ impl Search<'_> {
                 self.settle_slot(Slot { partition, index })?;
             }
         }
-        self.make_way()
+        self.make_way()?;
+        self.keep_apart()
     }
 
     // Decides what becomes of the slot's moves.
@@ -157,8 +158,8 @@ impl Search<'_> {
             self.note_planned(it.slot)?;
             return Ok(true);
         }
-        let other = if self.leaves(owner) {
-            self.other_target(it)
+        let other = if self.leaves(owner) || it.next.is_none() {
+            self.other_target(it, owner)
         } else {
             None
         };
@@ -167,14 +168,30 @@ impl Search<'_> {
             self.note_outcome(it.slot, Outcome::Untaken(it.target))?;
             return Ok(false);
         };
-        self.note_outcome(it.slot, Outcome::Elsewhere(other, it.target))?;
+        self.redirect(place, it, owner, other)?;
+        Ok(true)
+    }
+
+    /// The move of a slot that this node owns then goes to the other node in place of its target.
+    pub(crate) fn redirect(
+        &mut self,
+        place: usize,
+        it: &Move,
+        owner: u32,
+        other: u32,
+    ) -> Result<(), Refusal> {
+        let planned = match self.saying_of(it.slot).outcome {
+            Some(Outcome::Elsewhere(node, planned)) if node == it.target => planned,
+            _ => it.target,
+        };
+        self.note_outcome(it.slot, Outcome::Elsewhere(other, planned))?;
         self.own(other);
         self.moves.lead(place, owner, other);
         self.is_changed = true;
         if let (Some(mirror), Some(join)) = (it.mirror, self.task.plan.join_of(NodeId(other))) {
             self.more.add(mirror, join)?;
         }
-        Ok(true)
+        Ok(())
     }
 
     /// The slot stays mirrored for good, and both nodes stay with it.

@@ -9,7 +9,7 @@ use ring_names::{Refusal, Slot};
 const MOST: usize = 16;
 
 // What slots have in common, in the order in which it is said.
-const KINDS: u32 = 14;
+const KINDS: u32 = 15;
 
 // A sum in words: of one slot, of several, what stands before other nodes, and what stands at the end.
 #[derive(Clone, Copy)]
@@ -98,6 +98,10 @@ fn words_of(kind: u32) -> Phrase {
             b"",
             b", since fewer than R slots of the partition can be read",
         ),
+        14 => phrase_at(
+            b", since another slot of the partition is in the rack of ",
+            b"",
+        ),
         _ => phrase_of_mirrored(kind),
     }
 }
@@ -143,6 +147,11 @@ impl Search<'_> {
             },
             Outcome::Crowded(other) => Part {
                 kind: 7,
+                node: owner,
+                other: Some(other),
+            },
+            Outcome::Close(other) => Part {
+                kind: 14,
                 node: owner,
                 other: Some(other),
             },

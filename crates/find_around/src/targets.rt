@@ -50,8 +50,8 @@ impl Search<'_> {
             && at(self.keeping.as_slice(), node as usize) != small(place_of(slot)).saturating_add(1)
     }
 
-    // How many of the partition's other slots are in the node's rack in the end.
-    fn count_kin(&self, node: u32, owners: &[u32]) -> u32 {
+    /// How many of the partition's other slots are in the node's rack in the end.
+    pub(crate) fn count_kin(&self, node: u32, owners: &[u32]) -> u32 {
         let Some(racks) = self.task.racks else {
             return 0;
         };
@@ -64,8 +64,8 @@ impl Search<'_> {
         count
     }
 
-    // The owners of the partition's other slots in the end.
-    fn others(&self, it: &Move) -> [u32; 7] {
+    /// The owners of the partition's other slots in the end.
+    pub(crate) fn others(&self, it: &Move) -> [u32; 7] {
         let mut owners = [u32::MAX; 7];
         let partition = it.slot.partition;
         for index in 0..self.task.ring.n() {
@@ -77,18 +77,24 @@ impl Search<'_> {
         owners
     }
 
-    /// Another target for the move, with fewest slots: in another rack than the partition's other slots, if there is one.
-    pub(crate) fn other_target(&mut self, it: &Move) -> Option<u32> {
-        self.mark_busy(it.slot.partition);
-        self.mark_keeping(it.slot);
+    /// Another target for the move, with fewest of the partition's slots in its rack, then with fewest slots. None also if the owner may stay, with as few there.
+    pub(crate) fn other_target(&mut self, it: &Move, owner: u32) -> Option<u32> {
         let owners = self.others(it);
         let mut best = None;
         let mut least = (u32::MAX, u32::MAX);
+        if !self.leaves(owner) {
+            least = (self.count_kin(owner, &owners), 0);
+        }
+        if least.0 == 0 {
+            return None;
+        }
+        self.mark_busy(it.slot.partition);
+        self.mark_keeping(it.slot);
         for node in 0..small(self.task.ring.nodes().len()) {
             if self.may_take(it.slot, node) {
                 let kin = self.count_kin(node, &owners);
                 let cost = (kin, at(self.owned.as_slice(), node as usize));
-                if best.is_none() || cost < least {
+                if cost < least {
                     best = Some(node);
                     least = cost;
                 }

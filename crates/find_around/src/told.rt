@@ -21,6 +21,8 @@ pub(crate) enum Outcome {
     Untaken(u32),
     /// It stays at its owner, since the node keeps another slot of the partition.
     Crowded(u32),
+    /// It stays at its owner, since another slot of the partition ends in the node's rack.
+    Close(u32),
     /// It stays at its owner, since too few slots can be read.
     Unread,
     /// It stays mirrored to the dead node.
@@ -122,6 +124,11 @@ impl Search<'_> {
             }
             Outcome::Crowded(node) => self.say_of_nodes(
                 b"stays at @: @ keeps another slot of the partition",
+                owner,
+                node,
+            ),
+            Outcome::Close(node) => self.say_of_nodes(
+                b"stays at @: another slot of the partition is in the rack of @",
                 owner,
                 node,
             ),

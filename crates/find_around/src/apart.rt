@@ -1,0 +1,65 @@
+//! Partitions that do not end as planned: moves that have not begun are kept out of the racks of other slots.
+
+use crate::around::Search;
+use crate::told::Outcome;
+use ring_names::{Refusal, Slot};
+
+impl Search<'_> {
+    /// Keeps the slots of each partition that does not end as planned out of the racks of its other slots.
+    pub(crate) fn keep_apart(&mut self) -> Result<(), Refusal> {
+        for partition in 0..self.task.ring.q() {
+            for turn in 0..self.task.ring.n() {
+                if !self.ends_otherwise(partition) || !self.part(partition)? {
+                    break;
+                }
+                self.make_way()?;
+            }
+        }
+        Ok(())
+    }
+
+    // Whether the partition does not end as planned.
+    fn ends_otherwise(&self, partition: u32) -> bool {
+        for index in 0..self.task.ring.n() {
+            if self.saying_of(Slot { partition, index }).outcome.is_some() {
+                return true;
+            }
+        }
+        false
+    }
+
+    // Looks once at each slot of the partition. Answers whether one ends elsewhere by that.
+    fn part(&mut self, partition: u32) -> Result<bool, Refusal> {
+        let mut has_parted = false;
+        for index in 0..self.task.ring.n() {
+            has_parted = self.part_slot(Slot { partition, index })? || has_parted;
+        }
+        Ok(has_parted)
+    }
+
+    // Gives the slot's last move another target or leaves it out, if it has not begun and fewer slots share a rack by that. Answers whether it does.
+    fn part_slot(&mut self, slot: Slot) -> Result<bool, Refusal> {
+        let place = self.last_left(slot);
+        let (Some(found), Some(it)) = (place, self.moves.at(place)) else {
+            return Ok(false);
+        };
+        let owners = self.others(&it);
+        let kin = self.count_kin(it.target, &owners);
+        if kin == 0 || self.has_done(it.mirror) {
+            return Ok(false);
+        }
+        let other = self.other_target(&it, it.source);
+        if self.count_kin(other.unwrap_or(it.source), &owners) >= kin {
+            return Ok(false);
+        }
+        if let Some(other) = other {
+            self.redirect(found, &it, it.source, other)?;
+        } else if self.leaves(it.source) {
+            return Ok(false);
+        } else {
+            self.leave_out_from(place)?;
+            self.note_outcome(slot, Outcome::Close(it.target))?;
+        }
+        Ok(true)
+    }
+}
