@@ -235,7 +235,8 @@ def see_around(case: Case, plan: str, seed: int) -> str:
         rows = rows_possible(case, dead, present, planned, given, mine, can_undo) if can_move else iter([given])
         best.append(min(rows, key=case.pairs, default=given))
     see_racks(case, case.rows, after, best, f"around {' '.join(words)}", plan + history)
-    see_shown(case, now, after, ask(["show"], rest)[0], rest)
+    # The new plan may leave out a join, and the names that are left may show too many racks.
+    see_shown(case, now, after, ask(["show", "--racks-behind", case.separator], rest)[0], rest)
     return "around"
 
 

@@ -138,11 +138,21 @@ fn says<RT: AllocGlobal + Abort>(
 fn speaks_of_texts(rt: HostRuntime) {
     let ring = behind_ring!("");
     let planned = behind_ring!(
-        "plan 1\nend\ncert 1\nend\nringplan: the plan has no steps: the ring is as wanted already\n"
+        "plan 1\nend\ncert 1\nend\nringplan: no racks known: a layout may name them (--layout), or --racks-behind C the character in front of them\nringplan: the plan has no steps: the ring is as wanted already\n"
+    );
+    let around = behind_ring!(
+        "plan 1\nend\ncert 1\nend\nhistory 1\nput w1 k x31 = put 0\nend\nringplan: no racks known: a layout may name them (--layout), or --racks-behind C the character in front of them\n"
     );
     let (exit, dead, rounds) = ("--exit-code", "--dead\0a\0", "--rounds\0001\0");
-    says(&rt, "goal", exit, CHANGE, &mut [0; 139], (0, 63, planned));
-    says(&rt, "around", dead, HISTORY, &mut [0; 111], (0, 0, HISTORY));
+    says(&rt, "goal", exit, CHANGE, &mut [0; 251], (0, 175, planned));
+    says(
+        &rt,
+        "around",
+        dead,
+        HISTORY,
+        &mut [0; 223],
+        (0, 112, around),
+    );
     says(&rt, "windows", rounds, BUNDLE, &mut [0; 76], (0, 0, BUNDLE));
     says(&rt, "after", "", BUNDLE, &mut [0; 54], (0, 0, ring));
     says(&rt, "cert", "", BUNDLE, &mut [0; 76], (0, 0, BUNDLE));
@@ -152,13 +162,13 @@ fn speaks_of_texts(rt: HostRuntime) {
 #[test]
 fn speaks_of_words(rt: HostRuntime) {
     let shown = concat!(
-        "{\"answer\":\"yes\",\"joins\":[],\"leaves\":[],\"moves\":0,\"nodes\":[{\"begin\":1,\"end\":1,\"gives\":0,",
-        "\"is_down\":false,\"is_member\":true,\"name\":\"a\",\"slots\":1,\"takes\":0}],\"rounds\":0,\"steps\":0}\n"
+        "{\"answer\":\"yes\",\"joins\":[],\"leaves\":[],\"moves\":0,\"nodes\":[{\"bears\":1,\"begin\":1,\"end\":1,\"gives\":0,",
+        "\"is_dead\":false,\"is_down\":false,\"is_member\":true,\"name\":\"a\",\"slots\":1,\"takes\":0}],\"rounds\":0,\"steps\":0}\n"
     );
     let none =
         "no 1 1\nrefused: the input is empty\n  A bundle begins with a ring, whose first line is `ring 1`, `ring 2` or `ring 3`.\n";
     let json = "--format\0json\0";
-    says(&rt, "show", json, BUNDLE, &mut [0; 175], (0, 0, shown));
+    says(&rt, "show", json, BUNDLE, &mut [0; 201], (0, 0, shown));
     says(&rt, "why", "", "", &mut [0; 118], (2, 0, none));
     says(&rt, "after", "", "", &mut [0; 118], (2, 118, none));
     let (mut length, mut errors) = (0, 9);
@@ -228,6 +238,6 @@ fn leaves_a_room_that_is_too_small_for_both(rt: HostRuntime) {
         &mut length,
         &mut errors,
     );
-    assert_eq!(rt; (status, length, errors), (4, 139, 63));
+    assert_eq!(rt; (status, length, errors), (4, 251, 175));
     assert!(rt; room.iter().all(|byte| *byte == b' '));
 }

@@ -1,7 +1,7 @@
 -- What is printed, or written to a file.
-use Rattle.std.proofs.Common.{◌≡◌, ◌≢◌, ◌⊎◌, inl, inr, ℕ, List, [], ◌∷◌, ◌++◌, Option, Some, None, drop, refl, sym, ap, ◌∙◌, subst}
+use Rattle.std.proofs.Common.{◌≡◌, ◌≢◌, ◌⊎◌, inl, inr, ℕ, true, false, List, [], ◌∷◌, ◌++◌, map, length, Option, Some, None, drop, refl, sym, ap, ◌∙◌, subst}
 use Rattle.std.proofs.lemmas.List.{append_assoc, append-nil}
-use Rattle.std.specs.Prelude.{IsSome}
+use Rattle.std.specs.Prelude.{IsSome, ◌==◌}
 use Rattle.ringplan_command.specs.declared.files.Files.{Files}
 use Rattle.ringplan_job.specs.declared.job.Job.{Job}
 use Rattle.ringplan_job.specs.declared.making.Making.{Making}
@@ -60,6 +60,11 @@ pub named_in : {X : Type 0} (found : Files) (files : Names) → (files_in found 
 named_in found files (inl h) = inl h
 named_in found files (inr h) = inr h.0
 
+-- where some are counted, some are named
+pub some_named : {X : Type 0} (name : X → List ℕ) (xs : List X) {n : ℕ} → n ≡ length xs → (n == 0) ≡ false → map name xs ≢ []
+some_named name [] same e none = (let h : true ≡ false = subst (λ (k : ℕ). (k == 0) ≡ false) same e in cc)
+some_named name (x ∷ xs) same e none = (let h : name x ∷ map name xs ≡ [] = none in cc)
+
 -- a run by a line that names these files
 abbrev pub RanBy : Asked → Names → Option (List ℕ) → Option (List ℕ) → Option (List ℕ) → ℕ → Type 0
 RanBy asked files told old new result = (bytes : List ℕ) × Tells (told_by files told) bytes × Runs asked files bytes old new result
@@ -87,11 +92,11 @@ ran_input asked files found told old new result (inr e) (bytes, tells, runs) =
     (bytes, tells_less files told bytes tells, inl (none.0, none.1, none.2, only_printed files.output old new none.0 none.1 result none.3))
 
 -- files were read
-pub ran_files : (asked : Asked) (files found : Names) (told other old new : Option (List ℕ)) (result : ℕ) → found.inputs ≢ [] → (found ≡ files) ⊎ (found ≡ no_files)
-    → (bytes : List ℕ) × Tells other bytes × RunsTo asked found.output bytes old new result → RanBy asked files told old new result
-ran_files asked files found told other old new result some (inl e) (bytes, tells, runs) =
+pub ran_files : {AreRead : List ℕ → Type 0} (asked : Asked) (files found : Names) (told old new : Option (List ℕ)) (result : ℕ) → found.inputs ≢ []
+    → (found ≡ files) ⊎ (found ≡ no_files) → (bytes : List ℕ) × AreRead bytes × RunsTo asked found.output bytes old new result → RanBy asked files told old new result
+ran_files asked files found told old new result some (inl e) (bytes, tells, runs) =
     subst (λ (f : Names). RanBy asked f told old new result) e (bytes, tells_nothing found.inputs told bytes some, inl runs)
-ran_files asked files found told other old new result some (inr e) h = absurd (some (ap (λ (f : Names). f.inputs) e))
+ran_files asked files found told old new result some (inr e) h = absurd (some (ap (λ (f : Names). f.inputs) e))
 
 -- a file could not be read
 pub ran_unopened : (asked : Asked) (files found : Names) (told old : Option (List ℕ)) (result : ℕ) → found.inputs ≢ [] → (found ≡ files) ⊎ (found ≡ no_files)

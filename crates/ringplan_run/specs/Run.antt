@@ -1,5 +1,5 @@
 -- How a run of the program ends.
-use Rattle.std.specs.Prelude.{◌≡◌, ◌≢◌, ◌⊎◌, ⊤, ℕ, ◌<◌, ◌≤◌, List, [], ◌∷◌, Option, None, IsSome, MatchOption, Result, Ok, Err, length, if◌then◌else◌}
+use Rattle.std.specs.Prelude.{◌≡◌, ◌≢◌, ◌⊎◌, ℕ, ◌<◌, ◌≤◌, List, [], ◌∷◌, Option, None, IsSome, MatchOption, Result, Ok, Err, length}
 use Rattle.ring_names.specs.declared.refusal.Refusal.{Refusal}
 use Rattle.ring_names.specs.declared.refusal.Refusal.TheVariants.{TooLarge, OutOfMemory, ReadFailed}
 use Rattle.ring_names.specs.Refusals.{line_of}
@@ -95,7 +95,7 @@ abbrev pub Runs : Asked → Names → List ℕ → Option (List ℕ) → Option 
 Runs asked files bytes old new result = RunsTo asked files.output bytes old new result ⊎ IsUnopened files.inputs old new result
 
 -- what is told, and nothing if a file is named
-pub told_unless : List (List ℕ) → Option (List ℕ) → Option (List ℕ)
+abbrev pub told_unless : List (List ℕ) → Option (List ℕ) → Option (List ℕ)
 told_unless [] told = told
 told_unless (name ∷ more) told = None
 
