@@ -39,7 +39,7 @@ done
 kit=$(dirname "$(dirname "$(readlink -f "$(command -v rt)")")")
 words=(--crate-name ringplan_c --crate-type staticlib --links ringplan_c= --antt-project "$kit/rattle/logic/antt-project.json")
 words+=(--extern "std=$kit/rlibs/std.rlib" --extern "clap=$kit/rlibs/clap.rlib" -L "dependency=$kit/rlibs")
-for name in ringplan_command ringplan_people ringplan_job ringplan_jobs ring_names; do
+for name in change_text ringplan_command ringplan_people ringplan_job ringplan_jobs ring_names; do
     words+=(--extern "$name=$top/crates/$name/out/rlib/$name.rlib")
 done
 for folder in "$top"/crates/*/out/rlib; do
