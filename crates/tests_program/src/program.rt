@@ -92,7 +92,6 @@ fn silent<RT: AllocGlobal + Files + Eprint + Threads + Wait + Sync + Abort>(
 fn mistakes_told_on_standard_error(rt: HostRuntime) {
     silent(&rt, &["ringplan", "verify"], 2);
     silent(&rt, &["ringplan", "check", "--fast"], 2);
-    silent(&rt, &["ringplan", "check", "one", "other"], 2);
     silent(&rt, &["ringplan", "judge"], 2);
     silent(&rt, &["ringplan", "bundle"], 2);
     silent(&rt, &["ringplan", "goal", "--even"], 2);
@@ -118,6 +117,7 @@ fn mistakes_told_on_standard_error(rt: HostRuntime) {
 fn files_that_are_not_there(rt: HostRuntime) {
     silent(&rt, &["ringplan", "check", "none.bundle"], 3);
     silent(&rt, &["ringplan", "show", "none.bundle"], 3);
+    silent(&rt, &["ringplan", "check", "one", "other"], 3);
 }
 
 // The text begins with the other.
