@@ -166,7 +166,7 @@ def see_goal(case: Case) -> str:
             raise Fault(f"`goal` finds no plan: {said[:300]}", text)
         return ""
     found = re.search(r"racks: what follows the last (.) of a name \((.*)\)", said)
-    if (found is not None) != case.is_known() or found and found[1] != case.separator or not found and "no racks known" not in said:
+    if (found is not None) != case.is_known() or found and found[1] != case.separator or not found and "no racks are known" not in said:
         raise Fault(f"the racks of {case.separator!r} are {'' if case.is_known() else 'not '}known, and standard error says {said[:300]!r}", text)
     for words in (["steps"], ["show"], ["draw"], ["windows", "--rounds", "1"]):
         if ask([*words, *dead], text)[0] != ask([*words, *dead], plan)[0]:

@@ -12,7 +12,7 @@ tried = 0
 
 
 # What standard error says of a goal whose nodes have no racks.
-NO_RACKS = b"ringplan: no racks known: a layout may name them (--layout), or --racks-behind C the character in front of them\n"
+NO_RACKS = b"ringplan: no racks are known. Name them in a layout (--layout), or give the byte before them (--racks-behind C)\n"
 
 def run(*words, given=b"", folder=None):
     ran = subprocess.run([RUN, *words], input=given, stdout=subprocess.PIPE, stderr=subprocess.PIPE, timeout=60, cwd=folder)
@@ -132,7 +132,7 @@ def layouts(folder):
             it.write(text)
         for word in ("goal", "show", "draw", "steps", "windows --rounds 1"):
             found = run(*word.split(), "--layout", plan, given=given)
-            begins = errors or b"ringplan: no racks known: "
+            begins = errors or b"ringplan: no racks are known. "
             owes(f"{word} by layout {text!r}", found, lambda it: bool(it) == (not errors), lambda it: it.startswith(begins), 2 if errors else 0)
     with open(plan, "wb") as it:
         it.write(b"layout 1\nalias a riak@10.0.0.1\nrack a x\nrack b y\nrack c x\nend\n")
@@ -141,7 +141,7 @@ def layouts(folder):
     owes("a fault before the layout's", run("show", "--layout", plan, given=read("copy_out_of_order")), b"", contains(b"no 2"), 1)
     with open(plan, "wb") as it:
         it.write(b"layout 1\nsize 1 5\nend\n")
-    owes("a rate", run("show", "--layout", plan, "--rate", "2", given=given), lambda it: b"at 2 a second the plan ends in 4 s at the earliest" in b" ".join(it.split()), contains(b"no racks known"), 0)
+    owes("a rate", run("show", "--layout", plan, "--rate", "2", given=given), lambda it: b"at 2 a second the plan ends in 4 s at the earliest" in b" ".join(it.split()), contains(b"no racks are known"), 0)
     for form in ("text", "json"):
         owes("a rate without a layout", run("show", "--rate", "2", "--format", form), b"", contains(b"'--rate <N>' wants '--layout <FILE>'"), 2)
     for rate in ("0", "4294967296", "x", ""):

@@ -73,7 +73,7 @@ impl Racking {
 
 // What is said if no racks are known.
 const NONE_KNOWN: &[u8; 112] =
-    b"ringplan: no racks known: a layout may name them (--layout), or --racks-behind C the character in front of them\n";
+    b"ringplan: no racks are known. Name them in a layout (--layout), or give the byte before them (--racks-behind C)\n";
 
 // The bytes behind which names may name racks.
 const SEPARATORS: [u8; 4] = [b'.', b'-', b':', b'_'];

@@ -138,10 +138,10 @@ fn says<RT: AllocGlobal + Abort>(
 fn speaks_of_texts(rt: HostRuntime) {
     let ring = behind_ring!("");
     let planned = behind_ring!(
-        "plan 1\nend\ncert 1\nend\nringplan: no racks known: a layout may name them (--layout), or --racks-behind C the character in front of them\nringplan: the plan has no steps: the ring is as wanted already\n"
+        "plan 1\nend\ncert 1\nend\nringplan: no racks are known. Name them in a layout (--layout), or give the byte before them (--racks-behind C)\nringplan: the plan has no steps: the ring is as wanted already\n"
     );
     let around = behind_ring!(
-        "plan 1\nend\ncert 1\nend\nhistory 1\nput w1 k x31 = put 0\nend\nringplan: no racks known: a layout may name them (--layout), or --racks-behind C the character in front of them\n"
+        "plan 1\nend\ncert 1\nend\nhistory 1\nput w1 k x31 = put 0\nend\nringplan: no racks are known. Name them in a layout (--layout), or give the byte before them (--racks-behind C)\n"
     );
     let (exit, dead, rounds) = ("--exit-code", "--dead\0a\0", "--rounds\0001\0");
     says(&rt, "goal", exit, CHANGE, &mut [0; 251], (0, 175, planned));
