@@ -27,9 +27,9 @@ pub struct ReplayBundle {
     pub history: Vec<Entry>,
 }
 
-// Reads a bundle's front and its history. A fault of the front comes first.
+/// Reads the lines of a ring, of a plan of it, of the plan's certificate and of a history, and leaves what follows them. The first line at fault decides.
 #[tactic(auto, unfolding(crate::specs::Replays::replay_at))]
-fn read_parts(alloc: Global, lines: &mut Lines) -> Result<ReplayBundle, Refusal>
+pub fn read_replay_section(alloc: Global, lines: &mut Lines) -> Result<ReplayBundle, Refusal>
     ensures read { Reads (map_ok parts_of result) lines.new (replay_at lines.old) }
     ensures parts { IfOk result IsReplay }
     ensures late { Late 4 result lines.old lines.new (replay_at lines.old) }
@@ -58,7 +58,7 @@ pub fn read_replay(alloc: Global, bytes: &[u8]) -> Result<ReplayBundle, Refusal>
     ensures late { IfErr result (λ e. e ≡ OutOfMemory → NoFaultBefore 5 (whole_text replay_at bytes.now)) }
 {
     let mut lines = Lines::of(bytes);
-    let bundle = read_parts(alloc, &mut lines)?;
+    let bundle = read_replay_section(alloc, &mut lines)?;
     lines.ended()?;
     Ok(bundle)
 }

@@ -9,7 +9,7 @@ mod reading;
 mod said;
 mod writing;
 
-pub use bundle::{ReplayBundle, read_replay};
+pub use bundle::{ReplayBundle, read_replay, read_replay_section};
 pub use known::are_known;
 pub use lines::{entry_line, keep_entry};
 pub use reading::{read_history, read_history_section};

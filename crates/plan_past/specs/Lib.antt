@@ -1,2 +1,2 @@
 pub mod Past
-pub mod Taken
+pub mod Slots

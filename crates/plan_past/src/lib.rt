@@ -6,9 +6,10 @@ mod names;
 mod past;
 mod renaming;
 mod same;
-mod taken;
+mod slots;
 mod telling;
 
 pub use past::{SamePast, Told, is_same_past};
 pub use renaming::renamed;
 pub use same::have_same;
+pub use slots::{SlotSet, is_slot};

@@ -4,11 +4,11 @@ ghost use Rattle.std.specs.Prelude.{◌≡◌, ◌≤◌, ◌++◌, false, lengt
 ghost use Rattle.std.specs.List.{list_all};
 ghost use Rattle.ring_names.specs.declared.ids.Slot.{Slot as TheSlot};
 ghost use Rattle.plan_past.specs.Past.{may_go, taken_after, IsSamePast, Tells};
-ghost use Rattle.plan_past.specs.Taken.{is_in};
+ghost use Rattle.plan_past.specs.Slots.{is_in};
 
 use crate::names::{allows, mirror_in, number_in};
 use crate::same::keep_all;
-use crate::taken::Taken;
+use crate::slots::SlotSet;
 use crate::telling::is_told;
 use plan_runs::{Back, Entry, Event};
 use plan_text::Plan;
@@ -59,7 +59,7 @@ fn may_all_go(back: Back, old: &Plan, numbers: &[Option<u32>], history: &[Entry]
 
 // Adds the slot of a mirror that the event sets, if the mirror is taken back.
 fn take_back(
-    taken: &mut Taken,
+    taken: &mut SlotSet,
     old: &Plan,
     numbers: &[Option<u32>],
     event: &Event,
@@ -90,7 +90,7 @@ fn cut(entries: &[Entry], count: u32) -> Option<(&[Entry], &[Entry])>
 
 // Whether the entries tell the earlier ones, one after the other, where no mirror was taken back before.
 fn are_told(
-    taken: &mut Taken,
+    taken: &mut SlotSet,
     old: &Plan,
     numbers: &[Option<u32>],
     earlier: &[Entry],
@@ -135,6 +135,6 @@ pub fn is_same_past(
     {
         return Ok(false);
     }
-    let mut taken = Taken::new(alloc);
+    let mut taken = SlotSet::new(alloc);
     are_told(&mut taken, it.old, it.numbers, earlier, told)
 }

@@ -4,14 +4,8 @@ ghost use Rattle.std.specs.Prelude.{◌≡◌, ℕ, IsTrue};
 ghost use Rattle.plan_past.specs.Past.{AreSame, Keeps};
 
 use crate::names::number_in;
+use crate::slots::is_slot;
 use plan_text::{Plan, Source, Step};
-use ring_names::Slot;
-
-fn is_slot(a: Slot, b: Slot) -> bool
-    ensures { IsTrue result → b ≡ a }
-{
-    a.partition == b.partition && a.index == b.index
-}
 
 fn is_source(a: &Source, b: &Source) -> bool
     ensures { IsTrue result → b.now ≡ a.now }

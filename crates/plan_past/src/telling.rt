@@ -4,15 +4,15 @@ ghost use Rattle.std.specs.Prelude.{◌≡◌, ◌∷◌, [], IsTrue, IfOk};
 ghost use Rattle.std.specs.List.{list_all};
 ghost use Rattle.plan_runs.specs.declared.event.Reply.{Reply as TheReply};
 ghost use Rattle.plan_past.specs.Past.{is_write, IsOtherTicket, IsToldBy, StandFor, TellsReply};
-ghost use Rattle.plan_past.specs.Taken.{is_in};
+ghost use Rattle.plan_past.specs.Slots.{is_in};
 
 use crate::renaming::renamed;
-use crate::taken::Taken;
+use crate::slots::SlotSet;
 use plan_runs::{Entry, Event, Reply, is_same_event, is_same_reply};
 use ring_names::Refusal;
 
 // Whether both are tickets of one slot, of which a mirror was taken back.
-fn is_other_ticket(taken: &Taken, reply: &Reply, other: &Reply) -> bool
+fn is_other_ticket(taken: &SlotSet, reply: &Reply, other: &Reply) -> bool
     ensures { IsTrue result → IsOtherTicket (is_in taken.now) reply.now other.now }
 {
     match (reply, other) {
@@ -24,7 +24,7 @@ fn is_other_ticket(taken: &Taken, reply: &Reply, other: &Reply) -> bool
 }
 
 // Whether the second reply tells the first.
-fn tells_reply(taken: &Taken, reply: &Reply, other: &Reply) -> bool
+fn tells_reply(taken: &SlotSet, reply: &Reply, other: &Reply) -> bool
     ensures { IsTrue result → TellsReply (is_in taken.now) reply.now other.now }
 {
     is_same_reply(reply, other) || is_other_ticket(taken, reply, other)
@@ -55,7 +55,7 @@ fn stand_for(event: &Event, told: &[Entry]) -> bool
 }
 
 // Whether they are one entry of that event, with a reply that tells that one.
-fn is_one(taken: &Taken, event: &Event, reply: &Reply, told: &[Entry]) -> bool
+fn is_one(taken: &SlotSet, event: &Event, reply: &Reply, told: &[Entry]) -> bool
     ensures { IsTrue result → (r : TheReply) × (told.now ≡ record { event = event.now; reply = r } ∷ []) × TellsReply (is_in taken.now) reply.now r }
 {
     let Some((first, more)) = told.split_first() else {
@@ -67,7 +67,7 @@ fn is_one(taken: &Taken, event: &Event, reply: &Reply, told: &[Entry]) -> bool
 /// Whether these entries tell the entry.
 pub(crate) fn is_told(
     numbers: &[Option<u32>],
-    taken: &Taken,
+    taken: &SlotSet,
     entry: &Entry,
     told: &[Entry],
 ) -> Result<bool, Refusal>

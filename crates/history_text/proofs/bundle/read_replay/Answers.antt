@@ -3,4 +3,4 @@ use Rattle.history_text.specs.Replays.{replay_at}
 use Rattle.history_text.proofs.bundle.read_replay.Goals as goal
 
 pub returns-in_err-bundle-clause-late : goal.returns-in_err-bundle-clause-late
-returns-in_err-bundle-clause-late c = late-whole 4 5 c.from_residual.result c.in_err-bundle.field-0.0 c.args.bytes.now c.of-lines.result c.read_parts.new.lines replay_at four-lines c.from_residual.ensures.1 c.of-lines.ensures c.in_err-bundle.ensures.late
+returns-in_err-bundle-clause-late c = late-whole 4 5 c.from_residual.result c.in_err-bundle.field-0.0 c.args.bytes.now c.of-lines.result c.read_replay_section.new.lines replay_at four-lines c.from_residual.ensures.1 c.of-lines.ensures c.in_err-bundle.ensures.late

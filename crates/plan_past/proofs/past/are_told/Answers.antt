@@ -1,5 +1,5 @@
 use Rattle.std.proofs.Common.{false}
-use Rattle.plan_past.specs.Taken.{is_in}
+use Rattle.plan_past.specs.Slots.{is_in}
 use Rattle.plan_past.proofs.OneByOne.{alike, ends, goes_on}
 use Rattle.plan_past.proofs.past.are_told.Goals as goal
 

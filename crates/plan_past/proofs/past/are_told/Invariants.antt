@@ -1,6 +1,6 @@
 use Rattle.std.proofs.Common.{false, length}
 use Rattle.plan_past.specs.Past.{Tells}
-use Rattle.plan_past.specs.Taken.{is_in}
+use Rattle.plan_past.specs.Slots.{is_in}
 use Rattle.plan_past.proofs.past.are_told.Given as goal
 
 abbrev pub invariant-entries : goal.invariant-entries

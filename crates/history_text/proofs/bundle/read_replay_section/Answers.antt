@@ -4,7 +4,7 @@ use Rattle.texts.proofs.Parts.{late-first, late-second, bad-second, good-second,
 use Rattle.history_text.specs.Reading.{history_at}
 use Rattle.history_text.specs.Replays.{parts_of, replay_of, replay_at}
 use Rattle.history_text.proofs.HistoryLates.{history-on}
-use Rattle.history_text.proofs.bundle.read_parts.Goals as goal
+use Rattle.history_text.proofs.bundle.read_replay_section.Goals as goal
 
 pub returns-in_err-front-clause-late : goal.returns-in_err-front-clause-late
 unfolding replay_at
