@@ -23,4 +23,4 @@ pub use rings::ring_after;
 pub use room::MAX_WINDOWS;
 pub use sections::{Kind, front, kind_of};
 pub use sized::{has_sizes, is_flagged, row_at, sizes_of};
-pub use windows::cut_plan;
+pub use windows::{cut_plan, is_same_ring};

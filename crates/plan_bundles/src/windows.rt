@@ -46,8 +46,8 @@ fn window_over(alloc: Global, ring: Ring, plan: Plan) -> Result<Window, Refusal>
     }
 }
 
-// Whether the two rings have one text.
-fn is_same_ring(alloc: Global, one: &Ring, other: &Ring) -> Result<bool, Refusal>
+/// Whether the two rings have one text.
+pub fn is_same_ring(alloc: Global, one: &Ring, other: &Ring) -> Result<bool, Refusal>
     ensures { IfOk result (λ is. IsTrue is → ring_text one.now ≡ ring_text other.now) }
 {
     let text = write_ring(alloc, one)?;
