@@ -59,7 +59,7 @@ def parts_of(text: str) -> tuple[list[str], list[str]]:
     plain = re.sub(r"`[^`\n]*`", "`x`", "\n".join(line for line in own.splitlines() if not line.startswith(("    ", "#", "<", "!"))))
     rows = [line for line in plain.splitlines() if line.startswith("|") and "---" not in line]
     lines = [re.sub(r"^\s*(-|\d+\.) ", "\n\n", line) for line in plain.splitlines() if not line.startswith("|")]
-    return re.split(r"\n\s*\n", "\n".join(lines)), [cell for row in rows for cell in row.strip("| ").split(" | ")]
+    return re.split(r"\n\s*\n", "\n".join(lines)), [cell for row in rows for cell in re.split(r" (?:\| )+", row.strip("| "))]
 
 
 def has_three_of(sentence: str) -> bool:
