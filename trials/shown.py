@@ -157,7 +157,7 @@ def open_moves(plan: str, done: set[int]) -> list[str]:
         ends = next((k for k in later if steps[k][0] == "switch"), len(steps))
         if ends not in done:
             left = ", ".join(str(k) for k in later if k <= ends and k not in done)
-            line = "slot %s of partition %s, to %s: begun by step %d; to do: %s" % (fields[2], fields[1], fields[3], number, left)
+            line = "slot %s.%s, to %s: begun by step %d; to do: %s" % (fields[1], fields[2], fields[3], number, left)
             found.append((int(fields[1]), int(fields[2]), number, line))
     return [line for *_, line in sorted(found)]
 
