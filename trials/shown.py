@@ -238,9 +238,10 @@ def words_of(text: str) -> list[str]:
 
 
 def labels_of(drawn_picture: str) -> set[str]:
-    """The names of nodes that a picture writes."""
+    """The names of nodes that a picture writes, without what stands beside them."""
     shapes = xml.dom.minidom.parseString(drawn_picture).getElementsByTagName("text")
-    return {it.firstChild.data for it in shapes if "n" in it.getAttribute("class").split() and it.firstChild}
+    labels = [it.firstChild.data for it in shapes if "n" in it.getAttribute("class").split() and it.firstChild]
+    return {re.sub("^[x+~-] ", "", it).split(" ")[0] for it in labels}
 
 
 def aliases_wrong(judge: Judge, case: Case, pick: random.Random, given: tuple[str, list[str], str]) -> None:

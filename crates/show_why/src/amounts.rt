@@ -28,8 +28,8 @@ pub fn manner_of(word: &[u8]) -> Manner {
     match factor_of(unit) {
         Some(factor) if !unit.is_empty() => Manner::Unit(thousandths.saturating_mul(factor) / 1000),
         Some(_) if are_groups(front) => Manner::Groups,
-        Some(_) => Manner::Fraction,
-        None => Manner::Other,
+        Some(_) if front.iter().any(|byte| is_parting(*byte)) => Manner::Fraction,
+        _ => Manner::Other,
     }
 }
 

@@ -278,7 +278,7 @@ fn tell_number(alloc: Global, line: Line, said: &mut Said, place: usize, title: 
     said.title(title);
     match manner_of(word) {
         Manner::Fraction => line.part(said, place, b"a fraction"),
-        Manner::Unit(bytes) if place == 2 => {
+        Manner::Unit(bytes) if line.word() == b"size".as_slice() && place == 2 => {
             line.part(said, place, b"a unit: write it without");
             if let Some(words) = tell_bytes(alloc, said, bytes) {
                 line.replace(said, place, words.as_slice());
