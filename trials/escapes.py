@@ -176,7 +176,7 @@ def layouts(draw: random.Random) -> Iterator[str]:
     bundle = (TOP / "examples/plan_replace.bundle").read_bytes()
     for poison in POISONS:
         with tempfile.NamedTemporaryFile() as file:
-            line = draw.choice([poison, b"size 1 " + poison, b"rack a " + poison, b"alias a " + poison, b"dead " + poison])
+            line = draw.choice([poison, b"size 1 " + poison, b"rack a " + poison, b"alias a " + poison, b"alias a x" + poison, b"dead " + poison])
             file.write(b"layout 1\nsize 0 5\n" + line + b"\nend\n")
             file.flush()
             for words in (
@@ -184,6 +184,8 @@ def layouts(draw: random.Random) -> Iterator[str]:
                 "goal --format json",
                 "show",
                 "show --format json",
+                "draw",
+                "draw --map",
             ):
                 printed = ask(f"{words} --layout {file.name}", bundle)
                 if seen := control(printed.out) or control(printed.errors):

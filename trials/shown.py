@@ -4,7 +4,8 @@
 
 The changes are those of `trials/sizes.py`. Of each: the ring alone by a layout with racks, aliases, sizes and dead nodes, as a table and as JSON; the plan with a dead node;
 and the first steps of a run, in which nodes go down and come up again. Counted are slots and sizes by node, the balance of nodes that answer, the partitions that
-still answer if any node fails more, what is left to move and when that can end at the earliest, and the moves that are open after a run, of which `after` names all. In a picture the names of silent nodes are crossed out and say why."""
+still answer if any node fails more, what is left to move and when that can end at the earliest, and the moves that are open after a run, of which `after` names all. In a picture the names of silent nodes are crossed out and say why.
+With aliases the words and labels of a plan are the same but for the names, columns are aligned by characters, and pictures are well-formed."""
 import argparse
 import json
 import random
@@ -157,7 +158,7 @@ def open_moves(plan: str, done: set[int]) -> list[str]:
         ends = next((k for k in later if steps[k][0] == "switch"), len(steps))
         if ends not in done:
             left = ", ".join(str(k) for k in later if k <= ends and k not in done)
-            line = "slot %s of partition %s, to %s: begun by step %d; to do: %s" % (fields[2], fields[1], fields[3], number, left)
+            line = "slot %s.%s, to %s: begun by step %d; to do: %s" % (fields[1], fields[2], fields[3], number, left)
             found.append((int(fields[1]), int(fields[2]), number, line))
     return [line for *_, line in sorted(found)]
 
@@ -220,6 +221,51 @@ def picture_wrong(judge: Judge, drawn_picture: str, names: list[str], silent: di
         judge.owes("a picture says why of " + v, bool(is_said), True)
 
 
+# Aliases as people have them: of a store, in letters of two and three bytes, with marks of XML, and longer than a name.
+ALIASES = ("riak@10.0.0.%d", "K\u00f6ln-%d", "\u6771\u4eac-%d", "a<b>&\"%d\"", "cassandra-production-%d-eu-central-1.compute.internal", "\ufffe%d")
+NAME = re.compile(r"n\d\d\.r\d+")
+
+
+def cut(alias: str) -> str:
+    """The alias as words of a plan have it."""
+    alias = alias.replace("\ufffe", "?")
+    return alias if len(alias) <= 32 else alias[:15] + ".." + alias[-15:]
+
+
+def words_of(text: str) -> list[str]:
+    """The words from the second paragraph on, without bars."""
+    return [it for it in text.split("\n\n", 1)[1].split() if it.strip("=+-")]
+
+
+def labels_of(drawn_picture: str) -> set[str]:
+    """The names of nodes that a picture writes, without what stands beside them."""
+    shapes = xml.dom.minidom.parseString(drawn_picture).getElementsByTagName("text")
+    labels = [it.firstChild.data for it in shapes if "n" in it.getAttribute("class").split() and it.firstChild]
+    return {re.sub("^[x+~-] ", "", it).split(" ")[0] for it in labels}
+
+
+def aliases_wrong(judge: Judge, case: Case, pick: random.Random, given: tuple[str, list[str], str]) -> None:
+    """Whether words and pictures of a plan have aliases in place of names."""
+    text, words, folder = given
+    plain, pictures = run(["show", "--all", *words], text), [run(["draw", *kind, *words], text) for kind in ([], ["--map"])]
+    aliases = {v: pick.choice(ALIASES) % at for at, v in enumerate(case.names) if pick.random() < 0.7}
+    written(case, [], aliases, folder)
+    found = run(["show", "--all", *words], text)
+
+    def named(it: str) -> str:
+        return NAME.sub(lambda name: cut(aliases.get(name[0], name[0])), it)
+
+    judge.owes("words with aliases", [it for it in zip(words_of(found), words_of(named(plain))) if it[0] != it[1]][:3], [])
+    judge.owes("names beside aliases", [v for v in aliases if v in found], [])
+    rows = found.split("never more than")[0].splitlines()[-1] + "never more than", re.findall(r"^  [x+~-] .*$", found, re.MULTILINE)
+    at = len(rows[0]) - len("never more than")
+    judge.owes("rows that are not aligned", [row for row in rows[1] if row[at - 2 : at] != "  " or row[at : at + 1] == " "], [])
+    for kind, before in zip(([], ["--map"]), pictures):
+        after = run(["draw", *kind, *words], text)
+        judge.owes("labels with aliases", labels_of(after), set(map(named, labels_of(before))))
+        judge.owes("names in a picture", [v for v in aliases if v in after], [])
+
+
 def plan_wrong(judge: Judge, case: Case, pick: random.Random, folder: str) -> None:
     """A plan with a dead node, and a run of it."""
     layout = ["--layout", written(case, [], {}, folder)]
@@ -271,6 +317,7 @@ def plan_wrong(judge: Judge, case: Case, pick: random.Random, folder: str) -> No
         shown = set(case.members) | set(case.joins)
         names = {v: "dead" if v in dead else "down" for v in silent if not kind or v in shown}
         picture_wrong(judge, run(["draw", *kind, *words], plan + history), case.names, names)
+    aliases_wrong(judge, case, pick, (plan + history, words, folder))
 
 
 def wrong(number: int) -> list[str]:

@@ -113,19 +113,18 @@ def layouts(folder):
     def faulty(line: int, fault: str) -> bytes:
         return f"ringplan: line {line} of the layout {plan}: {fault}\n".encode()
 
-    unknown = "not `rack NODE NAME`, `weight NODE K`, `size P N`, `alias NODE TEXT`, `dead NODE` or `end`"
     for text, errors in (
         (b"layout 1\nsize 0 5\nsize 2 0\nend\n", b""),
         (b"layout 1\nend\n", b""),
         (b"layout 1\n\n# a comment\n#another\nend\n", b""),
         (b"layout 1\nsize 0 5\nsize 1 5\nsize 7 5\nend\n", b"no 2 4\n" + partition),
         (b"layout 1\nsize 0 5\nweight bb 2\nend\n", b"no 3 0\n" + node),
-        (b"layout 1\nsize 0 5\nsize 1", faulty(3, unknown)),
-        (b"", faulty(1, "a layout begins with `layout 1`")),
-        (b"layout 1\nsize 0 x\nend\n", faulty(2, unknown)),
-        (b"layout 1\nsize 0 281474976710656\nend\n", faulty(2, "a number is too great, or there are too many lines")),
+        (b"layout 1\nsize 0 5\nsize 1", faulty(3, "the text ends in line 3, which has no newline")),
+        (b"", faulty(1, "it is empty")),
+        (b"layout 1\nsize 0 x\nend\n", faulty(2, "a size is a whole number")),
+        (b"layout 1\nsize 0 281474976710656\nend\n", faulty(2, "a size is at most 281,474,976,710,655")),
         (b"layout 1\nsize 0 281474976710655\nend\n", b""),
-        (b"layout 1\nsize 1 5\nsize 0 5\nsize 1 5\nend\n", faulty(4, "an earlier line says the same of that node or partition")),
+        (b"layout 1\nsize 1 5\nsize 0 5\nsize 1 5\nend\n", faulty(4, "`size 1` stands a second time")),
         (b"layout 1\nrack a x\nend\n", b"no 3 0\nrefused: the rack of "),
     ):
         with open(plan, "wb") as it:
@@ -149,6 +148,118 @@ def layouts(folder):
     for word in ("after", "why", "cert"):
         owes(f"{word} by a layout", run(*word.split(), "--layout", plan), b"", contains(b"unexpected argument"), 2)
     owes("goal by no layout", run("goal", "--layout", f"{folder}/none", given=given), b"", contains(b"No such file or directory"), 3)
+
+
+# Lines of a layout as people write them: what is said of the line, a part of the words about it, and whether a mend makes a layout of the text.
+HABITS = (
+    (b"size 0 0,5", "a size is a whole number", b"a fraction", False),
+    (b"size 0 1.5", "a size is a whole number", b"a fraction", False),
+    (b"size 0 15GiB", "a size is a whole number", b"this is 16106127360.", True),
+    (b"size 0 1.5KB", "a size is a whole number", b"this is 1500.", True),
+    (b"size 0 15 GiB", "a size has no unit", b"this is 16106127360.", False),
+    (b"size 0 1,048,576", "a size is a whole number", b"`1048576` was meant?", True),
+    (b"size 0 -5", "a size is a whole number", b"no number", False),
+    (b"size 0 007", "a size is a whole number", b"no zero in front", True),
+    (b"size 0", "it has too few fields", b"`size <partition> <size>`", False),
+    (b"size 0 5 6", "it has too many fields", b"more than the line has", False),
+    (b"size 4096 5", "partitions are 0 to 4,095", b"too large", False),
+    (b"size x 5", "a partition is a whole number", b"no number", False),
+    (b"weight a 0", "a weight is 1 to 1,000", b"too small", False),
+    (b"weight a 1001", "a weight is 1 to 1,000", b"too large", False),
+    (b"weight a 1.5", "a weight is a whole number", b"a fraction", False),
+    (b"wieght a 2", "no line of a layout begins so", b"`weight` was meant?", True),
+    (b"node a 2", "no line of a layout begins so", b"Here may stand: `rack <node> <name>`", False),
+    (b"rack a R1", "the name has a letter that names do not have", b"1 to 32 of a-z 0-9", False),
+    (b"rack a " + b"r" * 33, "the name has 33 bytes, and may have 32", b"too long", False),
+    (b"alias riak@10.0.0.1 a", "the name has a letter that names do not have", b"is its alias", False),
+    (b"alias a two words", "an alias has no spaces", b"after the space", False),
+    (b"alias a " + b"x" * 256, "the alias has 256 bytes, and may have 255", b"too long", False),
+    (b"alias a \xe9", "the alias is not UTF-8", b"iconv -f LATIN1", False),
+    (b"alias a x\x07", "the alias has a control character", b"", False),
+    (b" size 0 5", "its blanks are wrong", b"it begins with a blank", True),
+    (b"size  0 5", "its blanks are wrong", b"more than one space", True),
+    (b"size\t0 5", "its blanks are wrong", b"it has a tab", True),
+    (b"size,0,5", "its blanks are wrong", b"it has a comma", True),
+    (b"size 0 5\r", "its line end is that of Windows", b"carriage return", True),
+    (b"end now", "it has too many fields", b"`end`", False),
+)
+
+
+def habits(folder):
+    """What is said of a layout's line that is written as a text may not be, and whether the mend that is shown makes a layout."""
+    given, name = read("plan_replace"), f"{folder}/layout"
+    whole = b"layout 1\nsize 1 5\nend\n"
+    for line, said, part, is_mended in HABITS:
+        judge_layout(name, given, b"layout 1\nsize 1 5\n" + line + b"\nend\n", (3, said, part, is_mended))
+    for text, number, said, part, is_mended in (
+        (b"layout 2\nend\n", 1, "the layout has format 2, and this program reads 1", b"newer ringplan", False),
+        (b"size 1 5\nend\n", 1, "a layout begins with `layout 1`", b"comes first", True),
+        (b"# mine\nlayout 1\nend\n", 1, "a layout begins with `layout 1`", b"comes first", False),
+        (b"Layout 1\nend\n", 1, "a layout begins with `layout 1`", b"no first line", True),
+        (given, 1, "a layout begins with `layout 1`", b"right file?", False),
+        (b"layout 1\nsize 1 5\n", 3, "its line `end` is missing", b"after the last line", True),
+        (b"layout 1\nsize 1 5\nend", 3, "the text ends without a newline after `end`", b"no newline", True),
+        (whole + b"size 0 5\n", 4, "it stands after the line `end`, which is the last", b"more than a layout", False),
+        (whole.replace(b"\n", b"\r\n"), 1, "its line end is that of Windows", b"All 3 lines are so: `tr -d", True),
+        (b"\xef\xbb\xbf" + whole, 1, "the text begins with a byte order mark", b"three bytes", True),
+        (whole.decode().encode("utf-16"), 1, "it is UTF-16, and a text here has one byte a letter", b"iconv -f UTF-16", False),
+        (gzip.compress(whole), 1, "it is compressed by gzip", b"gunzip", False),
+        (bytes(range(128, 256)) * 4, 1, "it is not a text", b"", False),
+        (b"layout 1\n" + b"".join(b"alias n%d x\n" % it for it in range(8193)) + b"end\n", 8194, "a layout says at most 8,192 things", b"", False),
+    ):
+        judge_layout(name, given, text, (number, said, part, is_mended))
+
+
+def judge_layout(name, given, text, due):
+    """The words about a layout that is refused, and the layout that its mend makes."""
+    number, said, part, is_mended = due
+    with open(name, "wb") as it:
+        it.write(text)
+    found = run("goal", "--layout", name, given=given)
+    first = f"ringplan: line {number} of the layout {name}: {said}\n".encode()
+    owes(f"a layout with {text[:60]!r}", found, b"", lambda it: it.startswith(first) and part in it and (b"then it can be read." in it) == is_mended, 2)
+    if is_mended:
+        with open(name, "wb") as it:
+            it.write(mended_layout(text, found[1].decode()))
+        owes(f"a layout that is mended, from {text[:60]!r}", run("goal", "--layout", name, given=given), lambda it: it != b"", lambda it: it.startswith(NO_RACKS), 0)
+
+
+def mended_layout(text, told):
+    """The text with the mend that the words show."""
+    if "all of them, by that command" in told:
+        return text.replace(b"\r", b"")
+    lines, new = text.split(b"\n"), {}
+    for number, words in re.findall(r"^ *(\d+) \+ (.*)$", told, re.MULTILINE):
+        new.setdefault(int(number), []).append(words.encode())
+    ends = b"" if text.endswith(b"\n") else b"\n"
+    return b"\n".join(b"\n".join(new.get(at, [line])) for at, line in enumerate(lines, 1)) + ends
+
+
+def strangers(folder):
+    """Names that a ring lacks, racks that names lack, and too few nodes that live."""
+    given, name = read("plan_replace"), f"{folder}/layout"
+    ring = given.split(b"change 1\n")[0]
+    nodes = [line.split()[1].decode() for line in ring.splitlines() if line.startswith(b"node ")]
+    far = "  It declares " + ", ".join(f"`{node}`" for node in nodes) + "."
+    for line in (b"dead zzzz", b"rack zzzz x", b"weight zzzz 2", b"alias zzzz x"):
+        with open(name, "wb") as it:
+            it.write(b"layout 1\n" + line + b"\nend\n")
+        owes(f"{line!r} in a layout", run("goal", "--layout", name, given=given), b"", lambda it: it.decode().endswith(f"names zzzz, and the ring declares no such node\n{far}\n"), 2)
+    owes("a dead node that is far from each", run("goal", "--dead", "zzzz", given=given), b"", lambda it: it.decode().endswith(far + "\n"), 2)
+    long = given.replace(b" b", b" birch")
+    for words in (["--dead", "brich"], ["--layout", name]):
+        with open(name, "wb") as it:
+            it.write(b"layout 1\ndead brich\nend\n")
+        owes(f"a name that is near, {words[0]}", run("goal", *words, given=long), b"", lambda it: it.endswith(b"names brich, and the ring declares no such node\n  `birch` was meant?\n"), 2)
+    for command in ("goal", "show", "draw", "steps", "windows --rounds 1"):
+        found = run(*command.split(), "--racks-behind", ",", given=given)
+        owes(f"{command} with a separator that names lack", found, b"", lambda it: it.startswith(b"no 3 0\nrefused: there is no `,` in the name of the node "), 2)
+    ends = given.replace(b" a", b" a.")
+    owes("a name that ends in the separator", run("goal", "--racks-behind", ".", given=ends), b"", contains(b"refused: nothing follows the last `.` in the name of the node a.,"), 2)
+    few = b"no 28\nrefused: there is no plan: 2 members would be left, and a partition needs 3\n"
+    goal = ring.replace(b"node d 4 out", b"node d 4 in").replace(b"slots 0 a b c", b"slots 0 a d c")
+    for text in (ring + b"change 1\njoin d\nend\n", ring + goal):
+        owes("too few nodes that live", run("goal", "--dead", "b", "--dead", "c", given=text), b"", lambda it: it.startswith(few) and it.count(b"\n") == 3, 1)
 
 
 def outputs(folder):
@@ -600,6 +711,8 @@ with tempfile.TemporaryDirectory() as scratch:
     files(scratch)
     outputs(scratch)
     layouts(scratch)
+    habits(scratch)
+    strangers(scratch)
     parts(scratch)
     kinds(scratch)
 dead()

@@ -241,9 +241,9 @@ fn push_move(out: &mut Words, ring: &Ring, plan: &Plan, progress: Option<&Progre
         return;
     };
     out.fill(
-        b"  slot # of partition #, to @: begun by step #",
+        b"  slot #.#, to @: begun by step #",
         &[ring.name(node.0)],
-        &[slot.index, slot.partition, step],
+        &[slot.partition, slot.index, step],
     );
     match progress {
         Some(progress) => push_left(out, plan, progress, slot, step),

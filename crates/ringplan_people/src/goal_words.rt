@@ -1,9 +1,9 @@
 //! Why no plan leads to the ring that is wished for, in words.
 
 use crate::history_words::unless_memory;
-use crate::why::{push_few, push_words_of};
+use crate::why::{push_few, push_too_few, push_words_of};
 use change_text::{Options, Unreadable, Wanted, read_wanted};
-use helpers::Words;
+use helpers::{Words, small};
 use plan_bundles::{Kind, dead_by, front, goal_of, kind_of, nodes_of};
 use plan_goal::{Aim, Goal, Unfit, is_among, why_unfit};
 use ring_names::{NodeId, Refusal};
@@ -11,16 +11,25 @@ use ring_table::Ring;
 use show_why::{Page, Said, push_printed, tell_text};
 use std::alloc::Global;
 
-// Adds which partitions are unread, and why that matters.
-fn push_unread(out: &mut Words, ring: &Ring, unread: &[u32]) {
+// How many partitions a refusal names.
+const NAMED: usize = 20;
+
+// Adds which partitions are unread, at most so many, and why that matters.
+fn push_unread(out: &mut Words, ring: &Ring, unread: &[u32], most: usize) {
     out.text(if unread.len() == 1 {
         b"partition "
     } else {
         b"partitions "
     });
     for (place, partition) in unread.iter().enumerate() {
-        out.text(if place > 0 { b", " } else { b"" });
-        out.number(*partition);
+        if place < most {
+            out.text(if place > 0 { b", " } else { b"" });
+            out.number(*partition);
+        }
+    }
+    let others = small(unread.len().saturating_sub(most));
+    if others > 0 {
+        out.fill(b" and # others", &[], &[others]);
     }
     out.fill(
         b" cannot be read: a slot of a dead node is copied from # live owners, and fewer are left",
@@ -54,13 +63,13 @@ fn push_unfit(out: &mut Words, goal: &Goal, unread: &[u32], unfit: Unfit) {
             &[],
         ),
         Unfit::DeadOwner(slot) => out.fill(
-            b"refused: slot # of partition # shall go to a node that is named dead\n",
+            b"refused: slot #.# is to go to a node that is named dead\n",
             &[],
-            &[slot.index, slot.partition],
+            &[slot.partition, slot.index],
         ),
         Unfit::Unread(_) => {
             out.text(b"refused: ");
-            push_unread(out, ring, unread);
+            push_unread(out, ring, unread, NAMED);
             out.text(b"\n  `goal --partial` plans the rest, and leaves these as they are.\n");
         }
     }
@@ -82,11 +91,25 @@ fn push_no_plan(
         wanted: &goal.wanted,
         dead: dead.as_slice(),
     });
+    let left = count_living(&goal.wanted, dead.as_slice());
     match unfit {
+        Some(Unfit::DeadOwner(_) | Unfit::Unread(_)) if left < goal.wanted.n() => {
+            push_too_few(alloc, out, left, goal.wanted.n())
+        }
         Some(unfit) => push_unfit(out, goal, unread, unfit),
         None => out.text(b"refused: the planner found no plan\n"),
     }
     Ok(())
+}
+
+// How many members of the ring are not dead.
+fn count_living(ring: &Ring, dead: &[NodeId]) -> u32 {
+    let mut count = 0u32;
+    for node in 0..small(ring.nodes().len()) {
+        let node = NodeId(node);
+        count = count.saturating_add(u32::from(ring.is_member(node) && !is_among(dead, node)));
+    }
+    count
 }
 
 // The refusal of a line, as many lines less.
@@ -257,7 +280,7 @@ pub fn push_left(
     let (goal, unread) = goal_of(alloc, bytes, options)?;
     if !unread.is_empty() {
         out.text(b"ringplan: ");
-        push_unread(out, &goal.ring, unread.as_slice());
+        push_unread(out, &goal.ring, unread.as_slice(), usize::MAX);
         out.text(b": so no slot of these moves\n");
     }
     Ok(())

@@ -5,6 +5,7 @@ mod after;
 mod cert;
 mod goal_words;
 mod history_words;
+mod layout_words;
 mod object;
 mod painting;
 mod racks;
@@ -18,6 +19,7 @@ mod why;
 mod windows;
 
 pub use after::after_bundle;
+pub use layout_words::layout_fault;
 pub use reporting::{Report, report_bundle, report_unread};
 pub use show::{draw_bundle, show_bundle};
 pub use stating::state_bundle;

@@ -1,6 +1,6 @@
 //! The racks that are known, and what of the options does not fit a bundle, in words.
 
-use change_text::{Options, read_wanted};
+use change_text::{Options, RackRule, read_wanted};
 use helpers::Words;
 use layout_text::{Entry, Fact};
 use plan_bundles::{
@@ -50,10 +50,31 @@ fn push_undeclared(
     for node in ring.nodes() {
         nearest.look(alloc, name, node.name.as_slice())?;
     }
-    if !nearest.word.is_empty() {
+    if nearest.word.is_empty() {
+        push_declared(out, ring);
+    } else {
         out.fill(b"  `@` was meant?\n", &[nearest.word], &[]);
     }
     Ok(())
+}
+
+// How many nodes are named that a ring declares.
+const NAMED: usize = 6;
+
+// Says which nodes the ring declares.
+fn push_declared(out: &mut Words, ring: &Ring) {
+    let mut words: &[u8] = b"  It declares `@`";
+    for (place, node) in ring.nodes().iter().enumerate() {
+        if place < NAMED {
+            out.fill(words, &[node.name.as_slice()], &[]);
+            words = b", `@`";
+        }
+    }
+    out.text(if ring.nodes().len() > NAMED {
+        b", ..\n"
+    } else {
+        b".\n"
+    });
 }
 
 // Says why the fact does not fit the ring.
@@ -96,12 +117,27 @@ fn push_unracked(
     let Some(node) = unracked(alloc, ring, members.as_slice(), options)? else {
         return Ok(false);
     };
-    out.fill(
-        b"refused: the rack of @ is not known, and each member needs one\n",
-        &[ring.name(node)],
-        &[],
-    );
+    match options.racks {
+        RackRule::Behind(byte) => push_unparted(out, ring.name(node), byte),
+        _ => out.fill(
+            b"refused: the rack of @ is not known, and each member needs one\n",
+            &[ring.name(node)],
+            &[],
+        ),
+    }
     Ok(true)
+}
+
+// Says that no rack follows the separator in the name of a member.
+fn push_unparted(out: &mut Words, name: &[u8], byte: u8) {
+    let separator = [if byte.is_ascii_graphic() { byte } else { b'?' }];
+    let words: &[u8] = if name.contains(&byte) {
+        b"refused: nothing follows the last `@` in the name of the node @, and each member needs a rack\n"
+    } else {
+        b"refused: there is no `@` in the name of the node @, and each member needs a rack\n"
+    };
+    out.fill(words, &[&separator, name], &[]);
+    out.text(b"  `--racks-behind none` plans without racks, and a layout names them.\n");
 }
 
 /// Whether a refusal may be of the options: an unknown name, or a partition that there is not.

@@ -17,7 +17,10 @@ use ring_names::{NodeId, Refusal};
 use ring_table::{Ring, read_ring};
 use ringplan_job::{Picture, Shape as Asked, Wish};
 use show_picture::{Sheet, map_picture, picture};
-use show_plan::{Facts, Present, Scene, Shape, Sized, View, Volumes, ring_summary, summary};
+use show_plan::{
+    Facts, NodeNames, Present, Scene, Shape, Sized, View, Volumes, ring_summary, short_labels,
+    summary,
+};
 use std::alloc::Global;
 
 /// What is shown of a bundle's plan, and how far its history has come, where there is one.
@@ -172,6 +175,18 @@ fn sized(volumes: Option<&Volumes>, rate: Option<u32>) -> Option<Sized<'_>> {
     }
 }
 
+// The aliases of a study's nodes in words.
+fn aliases_shown(
+    alloc: Global,
+    found: &Study,
+    options: &Options,
+) -> Result<Option<Labels>, Refusal> {
+    match aliases_of(alloc, found.approved.ring(), &options.layout)? {
+        Some(aliases) => Ok(Some(short_labels(alloc, &aliases)?)),
+        None => Ok(None),
+    }
+}
+
 // The racks of a study's nodes. Adds which they are, if a change was planned.
 fn racks_shown(
     alloc: Global,
@@ -200,6 +215,7 @@ fn show_plan(
 {
     let found = studied(alloc, bytes, options)?;
     let racks = racks_shown(alloc, bytes, &found, options, words)?;
+    let aliases = aliases_shown(alloc, &found, options)?;
     let Shown {
         scene,
         progress,
@@ -213,6 +229,7 @@ fn show_plan(
     let view = View {
         alloc,
         ring,
+        names: NodeNames::new(ring, aliases.as_ref()),
         plan,
         scene: &scene,
         present: &present,
@@ -238,6 +255,7 @@ pub fn draw_bundle(
 {
     let found = studied(alloc, bytes, options)?;
     let racks = racks_shown(alloc, bytes, &found, options, words)?;
+    let aliases = aliases_shown(alloc, &found, options)?;
     let Shown {
         scene,
         progress,
@@ -245,9 +263,11 @@ pub fn draw_bundle(
     } = shown_by(alloc, &found, options)?;
     let moved = volumes_of(alloc, &found, &scene, progress.as_ref(), options)?;
     let (progress, volumes) = (progress.as_ref(), moved.as_ref());
+    let ring = found.approved.ring();
     let sheet = Sheet {
         alloc,
-        ring: found.approved.ring(),
+        ring,
+        names: NodeNames::new(ring, aliases.as_ref()),
         plan: found.approved.plan(),
         scene: &scene,
         present: &present,

@@ -206,10 +206,15 @@ pub(crate) fn push_few(
     if members >= wanted.ring.n() {
         return Ok(false);
     }
-    let mut said = Said::new(alloc);
-    tell_few(&mut said, members, wanted.ring.n());
-    said.push(out, Page { bytes: b"" });
+    push_too_few(alloc, out, members, wanted.ring.n());
     Ok(true)
+}
+
+/// Says that so many members are too few for partitions of so many slots.
+pub(crate) fn push_too_few(alloc: Global, out: &mut Words, members: u32, slots: u32) {
+    let mut said = Said::new(alloc);
+    tell_few(&mut said, members, slots);
+    said.push(out, Page { bytes: b"" });
 }
 
 // Says why there is no plan for a change.
@@ -228,14 +233,12 @@ fn tell_few(said: &mut Said, members: u32, slots: u32) {
         said.title(b"the planner found no plan");
         return;
     }
-    said.title_with(
-        b"there is no plan: # members would be left",
-        &[],
-        &[members],
-    );
-    said.note(
-        b"Partition 0 cannot be filled, nor any other: each slot of one wants a member of its own.",
-    );
+    let title: &[u8] = if members == 1 {
+        b"there is no plan: # member would be left, and a partition needs #"
+    } else {
+        b"there is no plan: # members would be left, and a partition needs #"
+    };
+    said.title_with(title, &[], &[members, slots]);
     said.note(b"Let fewer nodes leave, or more join.")
 }
 

@@ -3,21 +3,21 @@
 ghost use Rattle.std.specs.Prelude.{◌≡◌, ◌⊎◌, IfErr, IfOk};
 ghost use Rattle.ringplan_run.specs.Run.{HasLayout, IsRead, unlaid};
 
-use crate::files::{Harmless, Limit, open};
+use crate::files::{Harmless, Limit, open, say};
+use crate::program::NO_MEMORY;
 use change_text::Options;
 use layout_text::{Layout, read_layout};
 use ring_names::Refusal;
 use ringplan_jobs::read_all;
+use ringplan_people::layout_fault;
 use std::alloc::Global;
-use std::io::Read;
 use std::rt::Files;
 
 // The layout of a text.
-fn layout_of<R: Read + Drop>(alloc: Global, input: &mut R) -> Result<Layout, Refusal>
+fn layout_of(alloc: Global, bytes: &[u8]) -> Result<Layout, Refusal>
     ensures { IfOk result IsRead }
 {
-    let bytes = read_all(alloc, input)?;
-    read_layout(alloc, bytes.as_slice())
+    read_layout(alloc, bytes)
 }
 
 // The exit status if a layout is refused.
@@ -30,28 +30,20 @@ fn status_of(refusal: Refusal) -> u8
     }
 }
 
-// What is wrong with a line of a layout.
-fn fault_of(refusal: Refusal) -> &'static str {
-    match refusal {
-        Refusal::BadLine(1) => "a layout begins with `layout 1`",
-        Refusal::BadLine(_) =>
-            "not `rack NODE NAME`, `weight NODE K`, `size P N`, `alias NODE TEXT`, `dead NODE` or `end`",
-        Refusal::TooLarge(_) => "a number is too great, or there are too many lines",
-        Refusal::Repeated(_) => "an earlier line says the same of that node or partition",
-        _ => "it cannot be read",
-    }
-}
-
-// Says why a layout is refused.
-fn tell<RT: Eprint>(rt: &RT, refusal: Refusal, name: &str) {
-    let name = Harmless { text: name };
-    let fault = fault_of(refusal);
-    let _ = match refusal {
-        Refusal::BadLine(line) | Refusal::TooLarge(line) | Refusal::Repeated(line) => {
-            eprint!(rt; "ringplan: line {line} of the layout {name}: {fault}\n")
-        }
-        _ => eprint!(rt; "ringplan: the layout {name}: {fault}\n"),
+// Says why a layout is refused, with the line of its text.
+fn tell<RT: AllocGlobal + Eprint>(rt: &RT, refusal: Refusal, name: &str, bytes: &[u8]) {
+    let Ok(words) = layout_fault(rt.alloc(), bytes, &refusal) else {
+        say(rt, NO_MEMORY);
+        return;
     };
+    let name = Harmless { text: name };
+    let _ = match refusal {
+        Refusal::BadLine(line) | Refusal::TooLarge(line) | Refusal::Repeated(line) if line > 0 => {
+            eprint!(rt; "ringplan: line {line} of the layout {name}: ")
+        }
+        _ => eprint!(rt; "ringplan: the layout {name}: "),
+    };
+    say(rt, words.as_slice());
 }
 
 // The layout that a file has.
@@ -60,10 +52,17 @@ fn layout_in<RT: AllocGlobal + Files + Eprint>(rt: &RT, name: &str) -> Result<La
     ensures status { IfErr result (λ status. (status ≡ 2) ⊎ (status ≡ 3)) }
 {
     let mut file = open(rt, name, Limit::Whole)?;
-    match layout_of(rt.alloc(), &mut file) {
+    let bytes = match read_all(rt.alloc(), &mut file) {
+        Ok(bytes) => bytes,
+        Err(refusal) => {
+            tell(rt, refusal, name, &[]);
+            return Err(status_of(refusal));
+        }
+    };
+    match layout_of(rt.alloc(), bytes.as_slice()) {
         Ok(layout) => Ok(layout),
         Err(refusal) => {
-            tell(rt, refusal, name);
+            tell(rt, refusal, name, bytes.as_slice());
             Err(status_of(refusal))
         }
     }

@@ -37,9 +37,9 @@ fn whole_words(sheet: &Sheet, shown: &Shown, takes: bool) -> Words {
     });
     let reads = sheet.scene.shown.read_by(shown);
     if !takes {
-        words.text(sheet.ring.name(shown.to));
+        words.text(sheet.names.name(shown.to));
     } else if reads.len() == 1 {
-        words.text(sheet.ring.name(reads[0]));
+        words.text(sheet.names.name(reads[0]));
     } else {
         words.number(small(reads.len()));
         words.text(b" nodes");
@@ -88,9 +88,9 @@ fn title(sheet: &Sheet, shown: &Shown) -> Words {
     words.text(b" of partition ");
     words.number(shown.slot.partition);
     words.text(b" from ");
-    show_plan::push_names(&mut words, sheet.ring, sheet.scene.shown.read_by(shown), 7);
+    show_plan::push_names(&mut words, sheet.names, sheet.scene.shown.read_by(shown), 7);
     words.text(b" to ");
-    words.text(sheet.ring.name(shown.to));
+    words.text(sheet.names.name(shown.to));
     words
 }
 

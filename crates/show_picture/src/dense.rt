@@ -168,7 +168,7 @@ fn label(sheet: &Sheet, band: &Band) -> Words {
     match band.node {
         Some(node) => {
             words.text(sign(band.kind));
-            words.text(sheet.ring.name(node));
+            words.text(sheet.names.name(node));
             if sheet.is_silent(node) {
                 words.byte(b' ');
                 words.text(sheet.present.silence(node));

@@ -1,6 +1,6 @@
 //! Words that fit into their room.
 
-use crate::svg::{Point, push_begin, push_measure};
+use crate::svg::{Point, push_begin, push_escaped, push_measure};
 use crate::widths::width;
 use helpers::Words;
 
@@ -56,7 +56,7 @@ pub fn push_fitting(out: &mut Words, at: Point, look: Look, words: &Words, room:
         None => push_narrow(out, LEAST, room),
     }
     out.byte(b'>');
-    out.words(words);
+    push_escaped(out, words);
     out.text(b"</text>\n");
 }
 

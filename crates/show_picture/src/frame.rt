@@ -20,7 +20,7 @@ pub const ROOM: u32 = WIDE - 2 * MARGIN;
 // What the plan does.
 fn tell_change(sheet: &Sheet, out: &mut Words) {
     let scene = sheet.scene;
-    push_change(out, sheet.ring, scene);
+    push_change(out, sheet.names, scene);
     out.text(b": ");
     push_moves(out, scene, b"slot moves", b"slots move");
     out.text(b" in ");
@@ -144,7 +144,7 @@ pub fn name_class(sheet: &Sheet, node: u32) -> &'static [u8] {
 pub fn push_name(sheet: &Sheet, out: &mut Words, at: Point, node: u32, room: u32) {
     let look = Look::new(name_class(sheet, node), 12, b" text-anchor=\"end\"");
     let mut words = Words::new(sheet.alloc);
-    words.text(sheet.ring.name(node));
+    words.text(sheet.names.name(node));
     let is_bold = sheet.leaves(node) || sheet.joins(node);
     let room = if is_bold {
         (room / 9).saturating_mul(8)
@@ -168,7 +168,7 @@ pub fn push_idle(sheet: &Sheet, out: &mut Words, at: Point) -> Result<(), Refusa
     }
     let mut words = Words::new(sheet.alloc);
     words.text(b"No part in it: ");
-    push_names(&mut words, sheet.ring, idle.as_slice(), 6);
+    push_names(&mut words, sheet.names, idle.as_slice(), 6);
     words.byte(b'.');
     let room = WIDE.saturating_sub(MARGIN).saturating_sub(at.x);
     push_fitting(out, at, Look::new(b"h", 11, b""), &words, room);

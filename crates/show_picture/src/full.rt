@@ -248,7 +248,7 @@ fn words_before(sheet: &Sheet, nodes: &[u32]) -> Result<u32, Refusal> {
     let mut wide = NARROW;
     for node in nodes {
         let (role, at_once, sizes) = sides_of(sheet, *node);
-        wide = wide.max(width(sheet.ring.name(*node), 12).saturating_mul(9) / 8);
+        wide = wide.max(width(sheet.names.name(*node), 12).saturating_mul(9) / 8);
         wide = wide.max(width(role.end()?.as_slice(), 10));
         wide = wide.max(width(at_once.end()?.as_slice(), 10));
         wide = wide.max(width(sizes.end()?.as_slice(), 10));

@@ -229,7 +229,7 @@ impl Grid {
 
 // What stands over a column: the name of its node or of the first, or that of its rack.
 fn label(sheet: &Sheet, columns: &Columns, column: &Column) -> Words {
-    let own = sheet.ring.name(column.node);
+    let own = sheet.names.name(column.node);
     let mut words = Words::new(sheet.alloc);
     match (columns.sharing, columns.racks) {
         (Sharing::Racks, Some(racks)) => words.text(racks.name(column.node)),

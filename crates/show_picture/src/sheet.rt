@@ -4,7 +4,7 @@ use helpers::{Words, at, word};
 use plan_moves::Progress;
 use plan_text::Plan;
 use ring_table::Ring;
-use show_plan::{Present, Scene, Shown, Volumes, push_short};
+use show_plan::{NodeNames, Present, Scene, Shown, Volumes, push_short};
 use std::alloc::Global;
 
 /// An approved plan with what is shown of it, and how far a run has come, where there is one.
@@ -12,6 +12,7 @@ use std::alloc::Global;
 pub struct Sheet<'a> {
     pub alloc: Global,
     pub ring: &'a Ring,
+    pub names: NodeNames<'a>,
     pub plan: &'a Plan,
     pub scene: &'a Scene,
     /// How the ring stands after the last entry of the history, or before the first step.

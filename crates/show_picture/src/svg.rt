@@ -67,11 +67,30 @@ pub fn push_area(out: &mut Words, area: Area, class: &[u8], more: &[u8]) {
     out.text(b"/>\n");
 }
 
+/// Text as SVG has it, with references for its marks: an alias may have them.
+pub fn push_text(out: &mut Words, text: &[u8]) {
+    for byte in text {
+        match *byte {
+            b'&' => out.text(b"&amp;"),
+            b'<' => out.text(b"&lt;"),
+            b'>' => out.text(b"&gt;"),
+            b'"' => out.text(b"&quot;"),
+            other => out.byte(other),
+        }
+    }
+}
+
+/// The text of words that were written elsewhere, as SVG has it.
+pub fn push_escaped(out: &mut Words, words: &Words) {
+    push_text(out, words.as_slice());
+    out.heed(words);
+}
+
 /// A rectangle with words that show where a pointer rests on it.
 pub fn push_titled(out: &mut Words, area: Area, class: &[u8], more: &[u8], title: &Words) {
     push_open(out, area, class, more);
     out.text(b"><title>");
-    out.words(title);
+    push_escaped(out, title);
     out.text(b"</title></rect>\n");
 }
 
@@ -82,12 +101,12 @@ pub fn push_begin(out: &mut Words, at: Point) {
     push_measure(out, b"y", at.y);
 }
 
-/// Words at a place, with attributes, each after a space. Names of nodes and the words here have no character that must be escaped.
+/// Words at a place, with attributes, each after a space.
 pub fn push_words(out: &mut Words, at: Point, attributes: &[u8], words: &[u8]) {
     push_begin(out, at);
     out.text(attributes);
     out.byte(b'>');
-    out.text(words);
+    push_text(out, words);
     out.text(b"</text>\n");
 }
 
@@ -117,9 +136,9 @@ pub fn push_picture(out: &mut Words, height: u32, caption: &Caption, shapes: &Wo
     push_measure(out, b"width", WIDE);
     push_measure(out, b"height", height);
     out.text(b" role=\"img\" aria-labelledby=\"title about\">\n<title id=\"title\">");
-    out.words(&caption.title);
+    push_escaped(out, &caption.title);
     out.text(b"</title>\n<desc id=\"about\">");
-    out.words(&caption.about);
+    push_escaped(out, &caption.about);
     out.text(b"</desc>\n");
     out.text(STYLE);
     let whole = Area {

@@ -1,19 +1,20 @@
 //! Who joins and who leaves, and what must move for it.
 
-use crate::names::{push_many, push_names};
+use crate::names::{NodeNames, push_many, push_names};
 use crate::present::Present;
 use crate::scene::Scene;
+use crate::writing::columns;
 use helpers::{Words, small};
 use ring_table::Ring;
 
 // `a and b join`, or nothing where nobody does.
-fn push_who(out: &mut Words, ring: &Ring, nodes: &[u32], one: &[u8], more: &[u8]) {
+fn push_who(out: &mut Words, names: NodeNames, nodes: &[u32], one: &[u8], more: &[u8]) {
     let mut width = 0usize;
     for node in nodes {
-        width = width.saturating_add(ring.name(*node).len());
+        width = width.saturating_add(columns(names.name(*node)));
     }
     if nodes.len() <= 3 && width <= 40 {
-        push_names(out, ring, nodes, 3);
+        push_names(out, names, nodes, 3);
     } else {
         push_many(out, small(nodes.len()), b"node", b"nodes");
     }
@@ -22,19 +23,19 @@ fn push_who(out: &mut Words, ring: &Ring, nodes: &[u32], one: &[u8], more: &[u8]
 }
 
 /// Who joins and who leaves.
-pub fn push_change(out: &mut Words, ring: &Ring, scene: &Scene) {
+pub fn push_change(out: &mut Words, names: NodeNames, scene: &Scene) {
     let (joins, leaves) = (scene.joins.as_slice(), scene.leaves.as_slice());
     if joins.is_empty() && leaves.is_empty() {
         out.text(b"Nobody joins or leaves");
     }
     if !joins.is_empty() {
-        push_who(out, ring, joins, b"joins", b"join");
+        push_who(out, names, joins, b"joins", b"join");
     }
     if !joins.is_empty() && !leaves.is_empty() {
         out.text(b" and ");
     }
     if !leaves.is_empty() {
-        push_who(out, ring, leaves, b"leaves", b"leave");
+        push_who(out, names, leaves, b"leaves", b"leave");
     }
 }
 

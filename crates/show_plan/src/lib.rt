@@ -23,7 +23,7 @@ mod writing;
 
 pub use change::{fewest_moves, push_change, push_moves};
 pub use loads::Loads;
-pub use names::{push_many, push_names, push_quorum};
+pub use names::{NodeNames, push_many, push_names, push_quorum, short_labels};
 pub use overview::{Shape, Sized, View, summary};
 pub use present::Present;
 pub use ring::{Facts, ring_summary, stored_by};

@@ -1,10 +1,80 @@
 //! The names of nodes, and counts in words.
 
-use helpers::Words;
+use helpers::{Labels, Words};
+use ring_names::Refusal;
 use ring_table::Ring;
+use std::alloc::Global;
+use std::str;
+
+// The most characters of a name, and how many of a longer one stand before the points in its middle, and after them.
+const MOST: usize = 32;
+
+const KEPT: usize = 15;
+
+/// The names of a ring's nodes in words: their aliases, if they have some.
+#[derive(Clone, Copy)]
+pub struct NodeNames<'a> {
+    ring: &'a Ring,
+    aliases: Option<&'a Labels>,
+}
+
+impl<'a> NodeNames<'a> {
+    /// The aliases are as `short_labels` makes them.
+    pub fn new(ring: &'a Ring, aliases: Option<&'a Labels>) -> NodeNames<'a> {
+        NodeNames { ring, aliases }
+    }
+
+    pub fn ring(&self) -> &'a Ring {
+        self.ring
+    }
+
+    /// The name of the node.
+    pub fn name(&self, node: u32) -> &'a [u8] {
+        match self.aliases {
+            Some(aliases) if !aliases.name(node).is_empty() => aliases.name(node),
+            _ => self.ring.name(node),
+        }
+    }
+}
+
+/// The labels with at most 32 characters each: a longer one has `..` in place of its middle.
+pub fn short_labels(alloc: Global, labels: &Labels) -> Result<Labels, Refusal> {
+    let mut short = Labels::new(alloc);
+    for node in 0..helpers::small(labels.numbers().len()) {
+        match str::from_utf8(labels.name(node)) {
+            Ok(label) if !label.is_empty() => {
+                short.add(short_of(alloc, label)?.as_str().as_bytes())?;
+            }
+            _ => short.add_alone()?,
+        }
+    }
+    Ok(short)
+}
+
+// The label with at most 32 characters.
+fn short_of(alloc: Global, label: &str) -> Result<String, Refusal> {
+    let count = label.chars().count();
+    let mut short = String::new(alloc);
+    for (place, letter) in label.chars().enumerate() {
+        if count <= MOST || place < KEPT || place >= count.saturating_sub(KEPT) {
+            short.push(shown(letter))?;
+        } else if place == KEPT {
+            short.push_str("..")?;
+        }
+    }
+    Ok(short)
+}
+
+// The character, or a question mark for the two that XML does not have.
+fn shown(letter: char) -> char {
+    match letter {
+        '\u{fffe}' | '\u{ffff}' => '?',
+        other => other,
+    }
+}
 
 /// The names of the nodes: `a`, `a and b`, `a, b and c`. Of more than `most` nodes the last stand as a number: `a, b and 7 others`.
-pub fn push_names(out: &mut Words, ring: &Ring, nodes: &[u32], most: usize) {
+pub fn push_names(out: &mut Words, names: NodeNames, nodes: &[u32], most: usize) {
     let shown = if nodes.len() > most {
         most.saturating_sub(1)
     } else {
@@ -20,7 +90,7 @@ pub fn push_names(out: &mut Words, ring: &Ring, nodes: &[u32], most: usize) {
             let is_last = others == 0 && place.saturating_add(1) == shown;
             out.text(if is_last { b" and " } else { b", " });
         }
-        out.text(ring.name(*node));
+        out.text(names.name(*node));
         place = place.saturating_add(1);
     }
     if others > 0 {

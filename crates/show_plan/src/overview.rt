@@ -3,7 +3,7 @@
 use crate::change::{count_members, fewest_moves, push_change, push_moves};
 use crate::domains::sharing;
 use crate::failing::{all_pairs, count_crowded, count_shared, kept_by_one};
-use crate::names::{push_many, push_names, push_quorum};
+use crate::names::{NodeNames, push_many, push_names, push_quorum};
 use crate::present::Present;
 use crate::rounds::push_rounds;
 use crate::running::push_progress;
@@ -42,6 +42,7 @@ pub struct Sized<'a> {
 pub struct View<'a> {
     pub alloc: Global,
     pub ring: &'a Ring,
+    pub names: NodeNames<'a>,
     pub plan: &'a Plan,
     pub scene: &'a Scene,
     /// How the ring stands after the last entry of the history, or before the first step.
@@ -60,7 +61,7 @@ const INDENT: usize = 12;
 
 // What the plan does to its ring.
 fn tell_change(view: &View, line: &mut Words) {
-    push_change(line, view.ring, view.scene);
+    push_change(line, view.names, view.scene);
     line.text(b" a ring of ");
     push_quorum(line, view.ring, b": any ", b", any ");
     line.byte(b'.');
@@ -258,7 +259,7 @@ fn tell_hints(view: &View, out: &mut Words, line: &mut Words) -> Result<(), Refu
     line.text(b"  hints     ");
     push_many(line, count, b"slot waits", b"slots wait");
     line.text(b" for hints that ");
-    push_names(line, view.ring, keepers.as_slice(), 6);
+    push_names(line, view.names, keepers.as_slice(), 6);
     line.text(if keepers.len() == 1 {
         b" keeps until it is up"
     } else {
@@ -270,7 +271,7 @@ fn tell_hints(view: &View, out: &mut Words, line: &mut Words) -> Result<(), Refu
 
 fn tell_one_fails(view: &View, line: &mut Words) -> Result<(), Refusal> {
     let (ring, present) = (view.ring, view.present);
-    push_failing(line, ring, present, b"  if one fails   ");
+    push_failing(line, view.names, present, b"  if one fails   ");
     let now = kept_by_one(view.alloc, ring, present.rows.as_slice(), present)?;
     line.number(now);
     line.text(b" of ");
@@ -291,7 +292,7 @@ fn tell_two_fail(view: &View, line: &mut Words) -> Result<(), Refusal> {
     let (ring, present) = (view.ring, view.present);
     let now = count_shared(view.alloc, ring, present.rows.as_slice(), present)?;
     let then = count_shared(view.alloc, ring, view.scene.last_rows.as_slice(), present)?;
-    push_failing(line, ring, present, b"  if two fail    ");
+    push_failing(line, view.names, present, b"  if two fail    ");
     line.text(b"at most ");
     push_many(line, now.most, b"partition loses", b"partitions lose");
     line.text(b" two slots now, ");
@@ -325,7 +326,7 @@ fn push_overview(view: &View, out: &mut Words, line: &mut Words) -> Result<(), R
     end_line(out, line, 2);
     out.byte(b'\n');
     if !view.present.silent.is_empty() {
-        tell_silent(view.alloc, view.ring, view.present, line)?;
+        tell_silent(view.alloc, view.names, view.present, line)?;
         end_line(out, line, INDENT);
         tell_hints(view, out, line)?;
     }

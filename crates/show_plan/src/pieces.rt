@@ -1,6 +1,6 @@
 //! Words that flow into lines.
 
-use crate::writing::{WIDTH, push_spaces};
+use crate::writing::{WIDTH, columns, push_spaces};
 use helpers::Words;
 
 /// A line that is being filled with words. What does not fit goes to a line of its own behind the indent.
@@ -21,7 +21,8 @@ impl Flow {
 
     /// Adds a word behind so many spaces.
     pub fn push(&mut self, out: &mut Words, word: &[u8], gap: usize) {
-        let end = self.column.saturating_add(gap).saturating_add(word.len());
+        let wide = columns(word);
+        let end = self.column.saturating_add(gap).saturating_add(wide);
         if self.column > self.indent && end > WIDTH {
             out.byte(b'\n');
             push_spaces(out, self.indent);
@@ -31,6 +32,6 @@ impl Flow {
             self.column = self.column.saturating_add(gap);
         }
         out.text(word);
-        self.column = self.column.saturating_add(word.len());
+        self.column = self.column.saturating_add(wide);
     }
 }

@@ -2,14 +2,14 @@
 
 use crate::domains::sharing;
 use crate::failing::{all_pairs, count_shared, kept_by_one};
-use crate::names::{push_many, push_quorum};
+use crate::names::{NodeNames, push_many, push_quorum};
 use crate::present::Present;
 use crate::silent::{count_answering, push_failing, tell_silent};
 use crate::span::Span;
 use crate::volumes::stored;
 use crate::writing::{
-    end_line, push_left, push_long_right, push_number_right, push_right, push_spaces, push_tenths,
-    width_of,
+    columns, end_line, push_left, push_long_right, push_number_right, push_right, push_spaces,
+    push_tenths, width_of,
 };
 use helpers::{Labels, Words, at, parts_of, small, word};
 use ring_names::{NodeId, Refusal};
@@ -50,6 +50,13 @@ struct Rest<'a> {
     stored: &'a Option<Vec<u64>>,
 }
 
+impl<'a> Rest<'a> {
+    // The names that the ring declares: the table has both.
+    fn names(&self) -> NodeNames<'a> {
+        NodeNames::new(self.ring, None)
+    }
+}
+
 // How wide the columns of names, aliases, racks, states and sizes are.
 #[derive(Clone, Copy)]
 struct Widths {
@@ -88,7 +95,7 @@ fn tell_racks(rest: &Rest, line: &mut Words, racks: &Labels) {
 
 fn tell_one_fails(rest: &Rest, line: &mut Words) -> Result<(), Refusal> {
     let rows = rest.present.rows.as_slice();
-    push_failing(line, rest.ring, rest.present, b"  if one fails   ");
+    push_failing(line, rest.names(), rest.present, b"  if one fails   ");
     line.number(kept_by_one(rest.alloc, rest.ring, rows, rest.present)?);
     line.text(b" of ");
     push_many(
@@ -104,7 +111,7 @@ fn tell_one_fails(rest: &Rest, line: &mut Words) -> Result<(), Refusal> {
 fn tell_two_fail(rest: &Rest, line: &mut Words) -> Result<(), Refusal> {
     let rows = rest.present.rows.as_slice();
     let shared = count_shared(rest.alloc, rest.ring, rows, rest.present)?;
-    push_failing(line, rest.ring, rest.present, b"  if two fail    ");
+    push_failing(line, rest.names(), rest.present, b"  if two fail    ");
     line.text(b"at most ");
     push_many(line, shared.most, b"partition loses", b"partitions lose");
     line.text(b" two slots, ");
@@ -122,7 +129,7 @@ fn push_whole(rest: &Rest, out: &mut Words, line: &mut Words) -> Result<(), Refu
     end_line(out, line, 2);
     out.byte(b'\n');
     if !rest.present.silent.is_empty() {
-        tell_silent(rest.alloc, rest.ring, rest.present, line)?;
+        tell_silent(rest.alloc, rest.names(), rest.present, line)?;
         end_line(out, line, INDENT);
     }
     tell_balance(rest, line);
@@ -180,7 +187,7 @@ impl Widths {
             widths.names = widths.names.max(node.name.as_slice().len());
             widths.states = widths.states.max(state_of(rest, number).len());
             if let Some(aliases) = &rest.facts.aliases {
-                widths.aliases = widths.aliases.max(aliases.name(number).len());
+                widths.aliases = widths.aliases.max(columns(aliases.name(number)));
             }
             if let Some(racks) = &rest.facts.racks {
                 widths.racks = widths.racks.max(racks.name(number).len());

@@ -107,7 +107,7 @@ fn push_read(view: &View, out: &mut Words, shown: &Shown) {
         if !is_first {
             out.byte(b'+');
         }
-        out.text(view.ring.name(*node));
+        out.text(view.names.name(*node));
         is_first = false;
     }
 }
@@ -118,7 +118,7 @@ fn tell_copy(view: &View, word: &mut Words, shown: &Shown, is_first: bool) {
     if is_first {
         push_read(view, word, shown);
         word.text(b" > ");
-        word.text(view.ring.name(shown.to));
+        word.text(view.names.name(shown.to));
         word.text(b": ");
     }
     push_slot(word, shown)

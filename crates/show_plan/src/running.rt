@@ -36,7 +36,7 @@ fn push_words(view: &View, out: &mut Words, word: &[u8], slot: Option<Slot>, nod
     }
     if let Some(node) = node {
         out.byte(b' ');
-        out.text(view.ring.name(node));
+        out.text(view.names.name(node));
     }
 }
 

@@ -1,8 +1,9 @@
 //! The nodes that do not answer, in words.
 
 use crate::failing::kept;
-use crate::names::{push_many, push_names};
+use crate::names::{NodeNames, push_many, push_names};
 use crate::present::Present;
+use crate::writing::columns;
 use helpers::{Words, small};
 use ring_names::Refusal;
 use ring_table::Ring;
@@ -22,7 +23,7 @@ fn silent_by(alloc: Global, present: &Present, is_dead: bool) -> Result<Vec<u32>
 /// Who is dead and who is down, and how many partitions answer all the same. Some node does not answer.
 pub fn tell_silent(
     alloc: Global,
-    ring: &Ring,
+    names: NodeNames,
     present: &Present,
     line: &mut Words,
 ) -> Result<(), Refusal> {
@@ -30,7 +31,7 @@ pub fn tell_silent(
     let down = silent_by(alloc, present, false)?;
     if !dead.is_empty() {
         line.text(b"  dead      ");
-        push_names(line, ring, dead.as_slice(), 6);
+        push_names(line, names, dead.as_slice(), 6);
     }
     if !down.is_empty() {
         line.text(if dead.is_empty() {
@@ -38,39 +39,46 @@ pub fn tell_silent(
         } else {
             b"; down ".as_slice()
         });
-        push_names(line, ring, down.as_slice(), 6);
+        push_names(line, names, down.as_slice(), 6);
     }
     line.text(if present.silent.len() == 1 {
         b"; without it ".as_slice()
     } else {
         b"; without them ".as_slice()
     });
-    line.number(kept(ring, present.rows.as_slice(), present));
+    line.number(kept(names.ring(), present.rows.as_slice(), present));
     line.text(b" of ");
-    push_many(line, ring.q(), b"partition answers", b"partitions answer");
+    push_many(
+        line,
+        names.ring().q(),
+        b"partition answers",
+        b"partitions answer",
+    );
     line.text(b" reads and writes");
     Ok(())
 }
 
 /// `if one fails`, and beside whom.
-pub fn push_failing(line: &mut Words, ring: &Ring, present: &Present, words: &[u8]) {
+pub fn push_failing(line: &mut Words, names: NodeNames, present: &Present, words: &[u8]) {
     line.text(words);
     if !present.silent.is_empty() {
         line.text(b"beside ");
-        push_names(line, ring, present.silent.as_slice(), 3);
+        push_names(line, names, present.silent.as_slice(), 3);
         line.text(b": ");
     }
 }
 
-/// Adds the name of a node, and why it does not answer: `n07 dead`. Answers how many bytes that takes.
-pub fn push_node(out: &mut Words, ring: &Ring, present: &Present, node: u32) -> usize {
-    let begin = out.len();
-    out.text(ring.name(node));
-    if present.is_silent(node) {
-        out.byte(b' ');
-        out.text(present.silence(node));
+/// Adds the name of a node, and why it does not answer: `n07 dead`. Answers how many columns that takes.
+pub fn push_node(out: &mut Words, names: NodeNames, present: &Present, node: u32) -> usize {
+    let name = names.name(node);
+    out.text(name);
+    if !present.is_silent(node) {
+        return columns(name);
     }
-    out.len().saturating_sub(begin)
+    out.byte(b' ');
+    out.text(present.silence(node));
+    let silence = present.silence(node).len();
+    columns(name).saturating_add(silence).saturating_add(1)
 }
 
 /// How many members of the ring answer.

@@ -6,8 +6,8 @@ use crate::scene::Scene;
 use crate::silent::push_node;
 use crate::volumes::Volumes;
 use crate::writing::{
-    WIDTH, push_left, push_long, push_long_right, push_number_left, push_number_right, push_right,
-    push_spaces, push_times, push_trimmed, width_of,
+    WIDTH, columns, push_left, push_long, push_long_right, push_number_left, push_number_right,
+    push_right, push_spaces, push_times, push_trimmed, width_of,
 };
 use helpers::{Words, at, parts_of, small, word};
 use ring_names::Refusal;
@@ -155,7 +155,7 @@ impl Table {
         let loads = &view.scene.loads;
         for node in self.rows.as_slice() {
             let place = *node as usize;
-            let wide = push_node(line, view.ring, view.present, *node);
+            let wide = push_node(line, view.names, view.present, *node);
             self.names = self.names.max(wide);
             line.clear();
             self.at_once = self.at_once.max(push_at_once(view, line, *node));
@@ -171,7 +171,7 @@ impl Table {
         line.text(b"  ");
         line.byte(sign(view, node));
         line.byte(b' ');
-        let wide = push_node(line, view.ring, view.present, node);
+        let wide = push_node(line, view.names, view.present, node);
         push_spaces(line, self.names.saturating_sub(wide).saturating_add(2));
         let wide = push_at_once(view, line, node);
         push_spaces(line, self.at_once.saturating_sub(wide).saturating_add(2));
@@ -202,7 +202,7 @@ impl Table {
 
     // A bar of what the node owns: `=` for what it keeps, `-` for what it gives and `+` for what it takes.
     fn push_bar(&self, line: &mut Words, before: u32, after: u32) {
-        let room = WIDTH.saturating_sub(line.len()).min(BAR);
+        let room = WIDTH.saturating_sub(columns(line.as_slice())).min(BAR);
         let scale = small(room).min(self.top);
         let start = parts_of(before, self.top, scale) as usize;
         let end = parts_of(after, self.top, scale) as usize;
@@ -349,7 +349,7 @@ fn push_idle(view: &View, out: &mut Words) -> Result<(), Refusal> {
     }
     push_spaces(out, 4);
     if idle.len() < 6 {
-        push_names(out, view.ring, idle.as_slice(), 6);
+        push_names(out, view.names, idle.as_slice(), 6);
     } else {
         push_many(out, small(idle.len()), b"other member", b"other members");
     }

@@ -2,11 +2,27 @@
 
 use helpers::Words;
 
-/// The widest line, in bytes.
+/// The widest line, in characters.
 pub const WIDTH: usize = 100;
 
 // How many digits the lower part of a long number has.
 const LOW_DIGITS: usize = 9;
+
+/// How many columns a text takes: as many as it has characters.
+pub fn columns(text: &[u8]) -> usize {
+    let mut count = 0usize;
+    for byte in text {
+        if !is_further(*byte) {
+            count = count.saturating_add(1);
+        }
+    }
+    count
+}
+
+// Whether the byte goes on with a character of UTF-8.
+fn is_further(byte: u8) -> bool {
+    matches!(byte, 0x80..=0xbf)
+}
 
 /// So many spaces.
 pub fn push_spaces(out: &mut Words, count: usize) {
@@ -23,12 +39,12 @@ pub fn push_times(out: &mut Words, byte: u8, count: usize) {
 /// The text, and spaces behind it up to the width.
 pub fn push_left(out: &mut Words, text: &[u8], width: usize) {
     out.text(text);
-    push_spaces(out, width.saturating_sub(text.len()))
+    push_spaces(out, width.saturating_sub(columns(text)))
 }
 
 /// The text, and spaces in front of it up to the width.
 pub fn push_right(out: &mut Words, text: &[u8], width: usize) {
-    push_spaces(out, width.saturating_sub(text.len()));
+    push_spaces(out, width.saturating_sub(columns(text)));
     out.text(text);
 }
 
@@ -159,13 +175,13 @@ pub fn push_tenths(out: &mut Words, tenths: u32) {
     out.number(tenths % 10);
 }
 
-// Where the last space stands that has something in front of it and at most so many bytes, if there is one.
+// Where the last space stands that has something in front of it and at most so many characters, if there is one.
 fn last_space(line: &[u8], room: usize) -> Option<usize> {
     let mut found = None;
     let mut has_word = false;
-    let mut place = 0usize;
-    for byte in line {
-        if place > room {
+    let mut column = 0usize;
+    for (place, byte) in line.iter().enumerate() {
+        if column > room {
             return found;
         }
         if *byte != b' ' {
@@ -173,7 +189,7 @@ fn last_space(line: &[u8], room: usize) -> Option<usize> {
         } else if has_word {
             found = Some(place);
         }
-        place = place.saturating_add(1);
+        column = column.saturating_add(usize::from(!is_further(*byte)));
     }
     found
 }
@@ -183,7 +199,7 @@ fn push_line(out: &mut Words, line: &[u8], indent: usize) {
     let mut rest = line;
     let mut room = WIDTH;
     for turn in 0..line.len() {
-        if rest.len() <= room {
+        if columns(rest) <= room {
             break;
         }
         let Some(space) = last_space(rest, room) else {

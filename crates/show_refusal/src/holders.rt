@@ -74,9 +74,9 @@ pub fn shared_in_plan(case: Case, said: &mut Said, number: u32) -> Result<(), Re
     );
     said.fault_with(
         case.step_line(number),
-        b"step #: @ enters slot #",
+        b"step #: @ enters slot #.#",
         &[name],
-        &[number, slot.index],
+        &[number, slot.partition, slot.index],
     );
     let stays = all_stays(case)?;
     match other_stay(case, &stays, *node, *slot, number) {
@@ -88,25 +88,31 @@ pub fn shared_in_plan(case: Case, said: &mut Said, number: u32) -> Result<(), Re
 
 // When the node entered the other slot.
 fn tell_entry(case: Case, said: &mut Said, name: &[u8], found: Stay) {
-    let index = found.slot.index;
+    let Slot { partition, index } = found.slot;
     match found.begun {
         Some(begin) => {
             let line = case.step_line(begin);
-            said.beside_with(line, b"step #: it enters slot #", &[], &[begin, index])
+            let numbers = [begin, partition, index];
+            said.beside_with(line, b"step #: it enters slot #.#", &[], &numbers)
         }
-        None => said.note_with(b"@ owns slot # of it from the start.", &[name], &[index]),
+        None => {
+            let words = b"@ owns slot #.# from the start.";
+            said.note_with(words, &[name], &[partition, index])
+        }
     }
 }
 
 // When it leaves that slot.
 fn tell_exit(case: Case, said: &mut Said, name: &[u8], found: Stay, number: u32) {
-    let index = found.slot.index;
+    let Slot { partition, index } = found.slot;
     let Some(end) = found.left else {
-        let note = b"No step takes @ out of slot #: move that slot first, or mirror another node.";
-        return said.note_with(note, &[name], &[index]);
+        let note =
+            b"No step takes @ out of slot #.#: move that slot first, or mirror another node.";
+        return said.note_with(note, &[name], &[partition, index]);
     };
     let line = case.step_line(end);
-    said.beside_with(line, b"step #: it leaves slot #", &[], &[end, index]);
+    let numbers = [end, partition, index];
+    said.beside_with(line, b"step #: it leaves slot #.#", &[], &numbers);
     if end > number {
         let note = b"It leaves that slot behind this step: move its steps in front.";
         said.note(note);
@@ -199,9 +205,9 @@ fn find_left(case: Case, node: NodeId, number: u32) -> Result<Left, Refusal> {
 fn tell_slots(said: &mut Said, slots: &[Slot]) {
     for slot in slots {
         said.note_with(
-            b"It holds slot # of partition #, and no step drops that: move the slot to another node and drop it.",
+            b"It holds slot #.#, and no step drops that: move the slot to another node and drop it.",
             &[],
-            &[slot.index, slot.partition],
+            &[slot.partition, slot.index],
         );
         if said.noted() > 500 {
             return said.note(b"..");

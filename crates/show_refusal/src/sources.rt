@@ -65,9 +65,9 @@ pub fn moving_source(case: Case, said: &mut Said, number: u32) {
     };
     said.fault_with(
         case.step_line(number),
-        b"step # reads slot #",
+        b"step # reads slot #.#",
         &[],
-        &[number, index],
+        &[number, slot.partition, index],
     );
     said.beside_with(
         case.step_line(switch),

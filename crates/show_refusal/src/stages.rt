@@ -43,9 +43,9 @@ fn node_of(step: &Step) -> Option<NodeId> {
 // Who has what of the slot in the stage.
 fn tell_stage(case: Case, said: &mut Said, slot: Slot, stage: &Stage) {
     said.add_note_with(
-        b"  In front of it slot # of partition # is owned by @",
+        b"  In front of it slot #.# is owned by @",
         &[case.name(stage.owner.0)],
-        &[slot.index, slot.partition],
+        &[slot.partition, slot.index],
     );
     if let Some(mirror) = stage.mirror {
         let words: &[u8] = if stage.copied {
@@ -113,8 +113,8 @@ pub fn wrong_stage(case: Case, said: &mut Said, number: u32) -> Result<(), Refus
 fn tell_order(case: Case, said: &mut Said, slot: Slot, number: u32, before: u32) {
     let title = b"step # may run before step #, which must come first";
     said.title_with(title, &[], &[number, before]);
-    let words = b"step #, the step of slot # of partition # before it";
-    let numbers = [before, slot.index, slot.partition];
+    let words = b"step #, the step of slot #.# before it";
+    let numbers = [before, slot.partition, slot.index];
     said.beside_with(case.step_line(before), words, &[], &numbers);
     let line = case.step_line(number);
     said.fault_with(line, b"step # does not wait for it", &[], &[number]);

@@ -34,8 +34,8 @@ pub fn tell_fields(alloc: Global, line: Line, said: &mut Said, form: &[u8]) -> R
     Ok(())
 }
 
-// Says what is wrong with a field; mends a number with zeros in front.
-fn tell_fault(line: Line, said: &mut Said, place: usize, fault: &[u8]) {
+/// Says what is wrong with a field; mends a number with zeros in front.
+pub fn tell_fault(line: Line, said: &mut Said, place: usize, fault: &[u8]) {
     line.part(said, place, fault);
     let word = field(line.text, place);
     let first = word.iter().position(|byte| *byte != b'0').unwrap_or(0);
@@ -75,8 +75,8 @@ fn guess(
     Ok(())
 }
 
-// What is wrong with a number where one is wanted.
-fn number_fault(word: &[u8]) -> Option<&'static [u8]> {
+/// What is wrong with a number where one is wanted.
+pub fn number_fault(word: &[u8]) -> Option<&'static [u8]> {
     if word.is_empty() || !word.iter().all(|byte| byte.is_ascii_digit()) {
         return Some(b"no number");
     }
@@ -86,8 +86,8 @@ fn number_fault(word: &[u8]) -> Option<&'static [u8]> {
     None
 }
 
-// What is wrong with a name where one is wanted.
-fn name_fault(word: &[u8]) -> Option<&'static [u8]> {
+/// What is wrong with a name where one is wanted.
+pub fn name_fault(word: &[u8]) -> Option<&'static [u8]> {
     if is_name(word) {
         return None;
     }

@@ -29,17 +29,19 @@ const FRONT: usize = 512;
 
 /// Says that the input is of another kind than a text of this program, or of a later format, and whether that is so.
 pub fn tell_foreign(page: Page, said: &mut Said) -> bool {
-    tell_packed(page, said)
-        || tell_wide(page, said)
-        || tell_binary(page, said)
-        || tell_format(page, said)
+    tell_coded(page, said, b"the input") || tell_binary(page, said) || tell_format(page, said)
+}
+
+/// Says that what is called so is packed, or has two bytes a letter, and whether that is so.
+pub fn tell_coded(page: Page, said: &mut Said, called: &[u8]) -> bool {
+    tell_packed(page, said, called) || tell_wide(page, said, called)
 }
 
 // Says that the input is packed, and whether it is.
-fn tell_packed(page: Page, said: &mut Said) -> bool {
+fn tell_packed(page: Page, said: &mut Said, called: &[u8]) -> bool {
     for (begin, kind, command) in PACKED {
         if page.bytes.starts_with(begin) {
-            said.title_with(b"the input is @", &[kind], &[]);
+            said.title_with(b"@ is @", &[called, kind], &[]);
             said.note_with(b"`@` makes a text of it.", &[command], &[]);
             return true;
         }
@@ -58,13 +60,13 @@ fn wide_name(bytes: &[u8]) -> Option<&'static [u8]> {
 }
 
 // Says that the input has two bytes a letter, and whether it has.
-fn tell_wide(page: Page, said: &mut Said) -> bool {
+fn tell_wide(page: Page, said: &mut Said, called: &[u8]) -> bool {
     let Some(name) = wide_name(page.bytes) else {
         return false;
     };
     said.title_with(
-        b"the input is @, and a text here has one byte a letter",
-        &[name],
+        b"@ is @, and a text here has one byte a letter",
+        &[called, name],
         &[],
     );
     said.note_with(
@@ -80,11 +82,8 @@ fn is_of_text(byte: u8) -> bool {
     matches!(byte, b' '..=b'~' | b'\n' | b'\r' | b'\t')
 }
 
-// Says that the input is not a text, and whether that is so: an eighth of its first bytes stand in none.
-fn tell_binary(page: Page, said: &mut Said) -> bool {
-    if page.bytes.starts_with(b"\xef\xbb\xbf") {
-        return false;
-    }
+/// Whether more than an eighth of the first bytes stand in no text.
+pub fn is_binary(page: Page) -> bool {
     let front = &page.bytes[..page.bytes.len().min(FRONT)];
     let mut others = 0usize;
     for byte in front {
@@ -92,7 +91,12 @@ fn tell_binary(page: Page, said: &mut Said) -> bool {
             others = others.saturating_add(1);
         }
     }
-    if others <= front.len() / 8 {
+    others > front.len() / 8
+}
+
+// Says that the input is not a text, and whether that is so.
+fn tell_binary(page: Page, said: &mut Said) -> bool {
+    if page.bytes.starts_with(b"\xef\xbb\xbf") || !is_binary(page) {
         return false;
     }
     said.title(b"the input is not a text");

@@ -11,6 +11,8 @@ pub enum Part {
     Cert,
     /// What stands behind a certificate, or behind a change.
     Behind,
+    /// All of a layout, which is not in a bundle.
+    Layout,
 }
 
 /// The part in which the line stands, and its first line.
@@ -36,6 +38,7 @@ pub fn called(part: Part) -> &'static [u8] {
         Part::Plan => b"plan",
         Part::Cert => b"certificate",
         Part::Behind => b"bundle",
+        Part::Layout => b"layout",
     }
 }
 
@@ -68,6 +71,14 @@ pub fn forms(part: Part) -> &'static [&'static [u8]] {
             b"end",
         ],
         Part::Behind => &[],
+        Part::Layout => &[
+            b"rack <node> <name>",
+            b"weight <node> <parts>",
+            b"size <partition> <size>",
+            b"alias <node> <text>",
+            b"dead <node>",
+            b"end",
+        ],
     }
 }
 
@@ -95,5 +106,6 @@ pub fn first_line(page: Page, part: Part) -> &'static [u8] {
             }
         }
         Part::Behind => b"",
+        Part::Layout => b"layout 1",
     }
 }

@@ -2,12 +2,14 @@
 //! lines that mend it, or a command. Nothing is promised of the words; whether a mend mends, the checker is asked.
 #![tactic(auto)]
 
+mod amounts;
 mod events;
 mod faults;
 mod fields;
 mod foreign;
 mod forms;
 mod habit;
+mod layouts;
 mod limits;
 mod line;
 mod lines;
@@ -20,6 +22,7 @@ mod said;
 mod spacing;
 mod telling;
 
+pub use layouts::tell_layout;
 pub use near::Nearest;
 pub use page::{Page, Place, Span, cut_line, field, place_of, span_of};
 pub use said::{Said, push_printed};

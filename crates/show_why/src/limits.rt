@@ -29,7 +29,7 @@ pub fn too_large(said: &mut Said, page: Page, number: u32) {
         Part::Ring => in_ring(line),
         Part::Plan => in_plan(line),
         Part::Cert => in_cert(line),
-        Part::Change | Part::Behind => large_number(line, 0),
+        Part::Change | Part::Behind | Part::Layout => large_number(line, 0),
     };
     match found {
         Some(excess) => {
@@ -43,8 +43,8 @@ pub fn too_large(said: &mut Said, page: Page, number: u32) {
     }
 }
 
-// Whether the word is a number above the limit.
-fn is_above(word: &[u8], limit: u32) -> bool {
+/// Whether the word is a number above the limit.
+pub fn is_above(word: &[u8], limit: u32) -> bool {
     match number(word) {
         Some(value) => value > limit,
         None => !word.is_empty() && word.iter().all(|byte| byte.is_ascii_digit()),
@@ -169,7 +169,7 @@ fn crowd(line: Line) -> &'static [u8] {
             b"a certificate has at most 65,536 chains",
         Part::Cert if before >= 262_144 => b"a certificate has at most 262,144 facts",
         Part::Cert => b"a fact has at most 1,024 steps",
-        Part::Change => b"here",
+        Part::Change | Part::Layout => b"here",
         Part::Behind =>
             b"a put names at most 16 gets; a text has at most 1,000,000 events and 1,024 writers",
     }

@@ -121,8 +121,8 @@ fn tell_stop(line: Line, said: &mut Said) {
     said.add_with(b"@\nend\n", &[line.page.text(last)], &[])
 }
 
-// Says that the text is over in the middle of the line, or behind it without a newline.
-fn tell_unfinished(line: Line, said: &mut Said) {
+/// Says that the text is over in the middle of the line, or behind it without a newline.
+pub fn tell_unfinished(line: Line, said: &mut Said) {
     if line.text == b"end".as_slice() {
         said.title(b"the text ends without a newline after `end`");
     } else {
@@ -229,8 +229,8 @@ fn is_change(alloc: Global, line: Line) -> Result<bool, Refusal> {
     Ok(!nearest.word.is_empty() || is_one && !has_steps)
 }
 
-// Says that no line of the part begins so, and which word was meant, where one is near.
-fn tell_unknown(alloc: Global, line: Line, said: &mut Said) -> Result<(), Refusal> {
+/// Says that no line of the part begins so, and which word was meant, where one is near.
+pub fn tell_unknown(alloc: Global, line: Line, said: &mut Said) -> Result<(), Refusal> {
     let word = line.word();
     let at = line.page.at(line.number, 0, 0);
     said.fault_at_with(at, b"no word of a @", &[called(line.part)], &[]);

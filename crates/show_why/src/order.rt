@@ -64,7 +64,7 @@ pub fn is_due(line: Line, word: &[u8]) -> bool {
         Part::Ring => due_in_ring(line).contains(&word),
         Part::Change => word != b"join".as_slice() || !line.is_after(b"leave"),
         Part::Cert => is_due_in_cert(line, word),
-        Part::Plan | Part::Behind => true,
+        Part::Plan | Part::Behind | Part::Layout => true,
     }
 }
 
@@ -213,7 +213,7 @@ pub fn begins_next(line: Line) -> bool {
         Part::Ring => is_due(line, b"end") && is_head(line.text, b"change 1", b"plan 1"),
         Part::Plan => is_head(line.text, b"cert 1", b"cert 2"),
         Part::Cert => is_head(line.text, b"history 1", b"script 1"),
-        Part::Change | Part::Behind => false,
+        Part::Change | Part::Behind | Part::Layout => false,
     }
 }
 

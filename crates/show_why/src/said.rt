@@ -261,11 +261,18 @@ impl Said {
 
     /// The words: `refused:` and the title, the lines, and the notes. Nothing where there is no title.
     pub fn push(&self, out: &mut Words, page: Page) {
+        if self.title.len() > 0 {
+            out.text(b"refused: ");
+        }
+        self.push_on(out, page)
+    }
+
+    /// Goes on with the title, the lines, and the notes. Nothing where there is no title.
+    pub fn push_on(&self, out: &mut Words, page: Page) {
         self.tell_losses(out);
         if self.title.len() == 0 {
             return;
         }
-        out.text(b"refused: ");
         push_printed(out, self.title.as_slice());
         out.byte(b'\n');
         if !self.marks.is_empty() {
@@ -383,8 +390,8 @@ impl Said {
     }
 }
 
-// How many digits the number has.
-fn count_digits(number: u32) -> usize {
+/// How many digits the number has.
+pub fn count_digits(number: u32) -> usize {
     let mut count = 1usize;
     let mut least = 10u64;
     for turn in 0..9 {

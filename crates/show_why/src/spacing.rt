@@ -32,13 +32,53 @@ pub fn tell_spacing(line: Line, said: &mut Said) -> bool {
     false
 }
 
+/// Says what is wrong with the blanks or the end of a layout's line, if something is, and whether that is so.
+pub fn tell_blanks(line: Line, said: &mut Said) -> bool {
+    if line.number == 1 && line.text.starts_with(MARK) {
+        tell_mark(line, said);
+        return true;
+    }
+    said.title(b"its blanks are wrong");
+    for habit in [Habit::CarriageReturn, Habit::Indent, Habit::Tail] {
+        if habit.is_in(line.text) {
+            if habit == Habit::CarriageReturn {
+                said.title(b"its line end is that of Windows");
+            }
+            tell_habit(line, said, habit);
+            return true;
+        }
+    }
+    // An alias may have commas.
+    let fault = if is_unparted(line.text) {
+        parting_fault(line.text)
+    } else {
+        blank_fault(line.text)
+    };
+    let Some(words) = fault else {
+        return false;
+    };
+    line.whole(said, words);
+    respace(line, said, line.text, b"one space between fields");
+    true
+}
+
+// Whether no space parts the line.
+fn is_unparted(text: &[u8]) -> bool {
+    !text.contains(&b' ')
+}
+
 // What is wrong with what stands between the fields of a line, if something is.
 fn parting_fault(text: &[u8]) -> Option<&'static [u8]> {
+    if text.contains(&b',') && !text.contains(&b'\t') {
+        return Some(b"it has a comma");
+    }
+    blank_fault(text)
+}
+
+// What is wrong with the blanks between the fields of a line, if something is.
+fn blank_fault(text: &[u8]) -> Option<&'static [u8]> {
     if text.contains(&b'\t') {
         return Some(b"it has a tab");
-    }
-    if text.contains(&b',') {
-        return Some(b"it has a comma");
     }
     let has_gap = text
         .split(|byte| *byte == b' ')
@@ -138,7 +178,10 @@ fn respace(line: Line, said: &mut Said, text: &[u8], words: &[u8]) {
     said.mend(words);
     said.put(line.number);
     let mut gap: &[u8] = b"";
-    for word in text.split(|byte| is_blank(*byte) || *byte == b'\r' || *byte == b',') {
+    let has_commas = line.part != Part::Layout || is_unparted(text);
+    for word in text.split(|byte| {
+        is_blank(*byte) || *byte == b'\r' || has_commas && *byte == b','
+    }) {
         if !word.is_empty() {
             said.add(gap);
             said.add(word);
