@@ -215,7 +215,9 @@ class Story:
         plan = Answer(self, texts.read_plan(bundle)[1].steps, left, history.splitlines()[1:-1], said)
         plan.see_steps()
         plan.see_ends()
+        plan.see_dead_keepers()
         heed(said, self.ring, plan.steps)
+        self.choose_again(words, text, bundle, out)
         earlier = machine.steps, machine.entries
         taken = machine.go_over(plan.steps, plan.entries)
         compare(earlier, (plan.steps, plan.entries), set(taken))
@@ -225,6 +227,16 @@ class Story:
             raise Wrong("a slot stays mirrored to a dead node: " + said)
         self.bundle = bundle
         return True
+
+    def choose_again(self, words: Sequence[str], text: str, bundle: str, answer: str) -> None:
+        """By the plan that was printed, and is chosen now, the history goes on in the same way. By the old plan too, or there is no such history."""
+        out, said, status = ask(words, text + bundle)
+        if status or out != answer:
+            raise Wrong("not the history by the chosen plan: " + said)
+        out, said, status = ask(words, text + self.bundle)
+        if status == 0 and "".join(sections(out)[:3]) != self.bundle or status not in (0, 1):
+            raise Wrong("not the old plan, which was chosen: " + said)
+        self.ends["old plans that were chosen again and %s" % ("do" if status == 0 else "do not do")] += 1
 
     # The end.
     def finish(self) -> None:
@@ -322,6 +334,14 @@ class Answer(NamedTuple):
         stay = dead | set(last.owner.values()) | set(last.mirror.values()) | {x for x, _ in machine.hints()}
         if not use.rest and "copies have all chunks; plan" not in self.said and (first.members ^ last.members) - stay:
             raise Wrong("members end otherwise: %s" % sorted((first.members ^ last.members) - stay))
+
+
+    def see_dead_keepers(self) -> None:
+        """Each slot that ends with a dead node is spoken of."""
+        owners = last_table(self.story.ring, self.steps).owner
+        for slot in sorted(slot for slot, owner in owners.items() if owner in self.story.traffic.dead):
+            if "slot %d.%d " % slot not in self.said:
+                raise Wrong("a dead node keeps a slot, and nothing is said of slot %d.%d" % slot)
 
 
 def named(step: texts.Step) -> tuple[object, ...]:
@@ -450,7 +470,7 @@ def see_spared(machine: Machine, dead: set[str]) -> None:
 SAID = [
     (r"is mirrored to ([a-z0-9]+) no longer", r"slots? (?:is|are) no longer mirrored to (.*?)(?:: |$)"),
     (r"goes to ([a-z0-9]+)", r"slots? goe?s? to (.*?)(?:: | in place of | all the same|$)"),
-    (r"stays at ([a-z0-9]+)", r"slots? stays? at (.*?)(?:: |, since |, as |$)"),
+    (r"stays at ([a-z0-9]+)", r"slots? stays? at (.*?)(?:: |, since |, as |, which |$)"),
     (r"stays mirrored to ([a-z0-9]+)", r"slots? stays? mirrored to (.*?)(?:: |, since |, which |; |$)"),
     (r"is to be mirrored to ([a-z0-9]+) again", r"slots? (?:is|are) to be mirrored again to (.*?)(?:: |$)"),
 ]
@@ -485,16 +505,16 @@ def heed(words: str, ring: Ring, steps: Sequence[texts.Step]) -> None:
             table.take(step)
         if step.kind == "switch":
             owners[slot_of(step)].append(table.owner[slot_of(step)])
-    spoken = re.findall(r"^slot (\d+) (\d+) (.*)$", words, re.MULTILINE)
+    spoken = re.findall(r"^slot (\d+)\.(\d+) (.*)$", words, re.MULTILINE)
     if len({(p, i) for p, i, _ in spoken}) < len(spoken):
         raise Wrong("two lines of one slot: " + words)
     for p, i, text in spoken:
         end, of_slot = re.search(r"(goes to|stays at) ([a-z0-9]+)", text), owners[int(p), int(i)]
         if end and end[2] not in (of_slot if end[1] == "goes to" else of_slot[-1:]):
-            raise Wrong("false words: slot %s %s has the owners %s: %s" % (p, i, ", ".join(of_slot), text))
+            raise Wrong("false words: slot %s.%s has the owners %s: %s" % (p, i, ", ".join(of_slot), text))
         mirrored = re.search(r"stays mirrored to ([a-z0-9]+)", text)
         if mirrored and table.mirror.get((int(p), int(i))) != mirrored[1]:
-            raise Wrong("false words: slot %s %s: %s" % (p, i, text))
+            raise Wrong("false words: slot %s.%s: %s" % (p, i, text))
     see_sums(words)
 
 

@@ -5,6 +5,7 @@
 
 mod apart;
 mod around;
+mod choosing;
 mod crowding;
 mod entries;
 mod hints;
@@ -24,4 +25,5 @@ mod told;
 mod writing;
 
 pub use around::{Around, Reach, Task, find_around};
+pub use choosing::{Kept, find_kept};
 pub use leaving::find_unmoved;

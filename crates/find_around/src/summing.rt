@@ -9,7 +9,7 @@ use ring_names::{Refusal, Slot};
 const MOST: usize = 16;
 
 // What slots have in common, in the order in which it is said.
-const KINDS: u32 = 15;
+const KINDS: u32 = 16;
 
 // A sum in words: of one slot, of several, what stands before other nodes, and what stands at the end.
 #[derive(Clone, Copy)]
@@ -102,6 +102,10 @@ fn words_of(kind: u32) -> Phrase {
             b", since another slot of the partition is in the rack of ",
             b"",
         ),
+        15 => phrase_at(
+            b"",
+            b", which is dead; move such slots on by the next change",
+        ),
         _ => phrase_of_mirrored(kind),
     }
 }
@@ -161,12 +165,13 @@ impl Search<'_> {
             Outcome::MirroredAhead(node) => lone_part(11, node),
             Outcome::MirroredStill(node) => lone_part(12, node),
             Outcome::Again(node) => lone_part(13, node),
+            Outcome::AtDead(node) => lone_part(15, node),
         }
     }
 
     // What is said of the slot, at most two parts: of its mirror that is taken back, and of what becomes of it.
     fn parts_of(&self, slot: Slot) -> [Option<Part>; 2] {
-        let saying = self.saying_of(slot);
+        let saying = self.last_saying(slot);
         let taken = match saying.taken {
             Some(node) => Some(lone_part(0, node)),
             None => None,

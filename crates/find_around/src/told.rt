@@ -35,6 +35,8 @@ pub(crate) enum Outcome {
     MirroredStill(u32),
     /// Its mirror at the node is set again.
     Again(u32),
+    /// It stays at its owner, which is dead.
+    AtDead(u32),
 }
 
 /// What is to be said of a slot: the mirror that is taken back, and the last word on where the slot goes.
@@ -157,6 +159,7 @@ impl Search<'_> {
             Outcome::MirroredStill(node) => {
                 self.say_of_node(b"stays mirrored to @: --leave takes the mirror back", node)
             }
+            Outcome::AtDead(node) => self.say_of_node(b"stays at @, which is dead", node),
             Outcome::Again(node) => self.say_of_node(
                 b"is to be mirrored to @ again: what was written since the mirror began is only at its owner and at other slots",
                 node,
@@ -168,7 +171,7 @@ impl Search<'_> {
     // Says in one line what was noted of the slot.
     fn say_line(&mut self, slot: Slot, saying: Saying) {
         self.words
-            .fill(b"slot # # ", &[], &[slot.partition, slot.index]);
+            .fill(b"slot #.# ", &[], &[slot.partition, slot.index]);
         if let Some(node) = saying.taken {
             self.say_of_node(
                 b"is mirrored to @ no longer: from now on its writes go only to its owner, and its tickets of puts that are not acknowledged are void",
@@ -196,12 +199,23 @@ impl Search<'_> {
         }
     }
 
-    // A line for each slot of which something was noted.
+    /// What is to be said of the slot in the end: also that it stays with a dead node.
+    pub(crate) fn last_saying(&self, slot: Slot) -> Saying {
+        let Saying { taken, outcome } = self.saying_of(slot);
+        let owner = self.last_owner(slot);
+        if outcome.is_none() && self.is_dead(owner) {
+            let outcome = Some(Outcome::AtDead(owner));
+            return Saying { taken, outcome };
+        }
+        Saying { taken, outcome }
+    }
+
+    // A line for each slot of which there is something to say.
     fn say_lines(&mut self) {
         for partition in 0..self.task.ring.q() {
             for index in 0..self.task.ring.n() {
                 let slot = Slot { partition, index };
-                let saying = self.saying_of(slot);
+                let saying = self.last_saying(slot);
                 if saying.taken.is_some() || saying.outcome.is_some() {
                     self.say_line(slot, saying);
                 }

@@ -4,3 +4,4 @@ pub mod Marks
 pub mod Refusing
 pub mod Again
 pub mod Asking
+pub mod Leading

@@ -55,6 +55,17 @@ second true false true more other h = absurd (other h)
 second true false false more other h = absurd cc
 second false false c more other h = absurd cc
 
+-- the third guard is the one that fails, or none does
+waiting : (a b c : Bool) (more : List Guard) → first_failing ((a, UnknownNumber) ∷ (not b, AlreadyDone) ∷ (c, NotReady) ∷ more) ≡ Some NotReady → b ≡ false
+waiting true false c more h = refl
+waiting true true c more h = absurd cc
+waiting false b c more h = absurd cc
+
+free : (a b c : Bool) (more : List Guard) → None ≡ first_failing ((a, UnknownNumber) ∷ (not b, AlreadyDone) ∷ (c, NotReady) ∷ more) → b ≡ false
+free true false c more h = refl
+free true true c more h = absurd cc
+free false b c more h = absurd cc
+
 shut : (a b : Bool) → first_failing ((a, UnknownNumber) ∷ (b, NotOpen) ∷ []) ≡ Some NotOpen → b ≡ false
 shut true true h = absurd cc
 shut true false h = refl
@@ -78,6 +89,16 @@ pub told-done : (ring : RingValue) (plan : List Planned) (w : World) (n : ℕ) �
 unfolding guards
 told-done ring plan w n h = second (has_other plan n) (w.done n) (is_ready plan w n) (elim (step_at plan n) [ Some s ↦ step_guards ring w s | None ↦ [] ]) (by-some ring w (step_at plan n))
     (first-of (first_failing (guards ring plan w (Do n))) _ AlreadyDone h)
+
+-- a step that waits for another is to come, and so is one that may be done
+pub told-waiting : (ring : RingValue) (plan : List Planned) (w : World) (n : ℕ) → answer ring plan w (Do n) ≡ Err NotReady → w.done n ≡ false
+unfolding guards
+told-waiting ring plan w n h =
+    waiting (has_other plan n) (w.done n) (is_ready plan w n) (elim (step_at plan n) [ Some s ↦ step_guards ring w s | None ↦ [] ]) (first-of (first_failing (guards ring plan w (Do n))) _ NotReady h)
+
+pub told-free : (ring : RingValue) (plan : List Planned) (w : World) (n : ℕ) → None ≡ first_failing (guards ring plan w (Do n)) → w.done n ≡ false
+unfolding guards
+told-free ring plan w n h = free (has_other plan n) (w.done n) (is_ready plan w n) (elim (step_at plan n) [ Some s ↦ step_guards ring w s | None ↦ [] ]) h
 
 -- a copy that neither can be opened nor is open is done
 pub told-copied : (ring : RingValue) (plan : List Planned) (w : World) (n : ℕ) → answer ring plan w (OpenCopy n) ≡ Err AlreadyDone → answer ring plan w (AbortCopy n) ≡ Err NotOpen → w.done n ≡ true

@@ -12,6 +12,9 @@ use Rattle.plan_runs.specs.declared.event.Entry.{Entry}
 use Rattle.plan_runs.specs.declared.back.Back.{Back}
 use Rattle.plan_runs.specs.Runs.{IsRun}
 use Rattle.plan_past.specs.Past.{allows}
+use Rattle.plan_past.specs.Slots.{is_in}
+use Rattle.plan_past.specs.declared.slots.SlotSet.{SlotSet}
+use Rattle.plan_bundles.specs.Sized.{is_flagged}
 use Rattle.ring_core.specs.Mirrors.{is_stored}
 use Rattle.ring_core.specs.World.{Meets, ring_of, plan_of}
 use Rattle.ring_core.specs.declared.world.World.{World}
@@ -71,3 +74,11 @@ LeadAlike back left ring old new earlier later = ∥ ((w u : TheWorld) × IsRun 
 -- this holds of each world that the first may be in, and each that the second may be in
 abbrev pub InBoth : World → World → (RingValue → List Planned → TheWorld → RingValue → List Planned → TheWorld → Type 0) → Type 0
 InBoth a b Holds = (w u : TheWorld) → Meets a w → Meets b u → Holds (ring_of a) (plan_of a) w (ring_of b) (plan_of b) u
+
+-- each put that is marked is alike in both
+abbrev pub AreAlikeIn : World → World → List Bool → Type 0
+AreAlikeIn a b marks = (v : ℕ) → is_flagged marks v ≡ true → InBoth a b (λ r old w s new u. PutAlike r old w s new u v)
+
+-- each slot of the set is one of these
+abbrev pub AreNamed : SlotSet → List Slot → Type 0
+AreNamed set left = (s : Slot) → is_in set s ≡ true → list_any (λ t. is_slot t s) left ≡ true

@@ -1,5 +1,5 @@
 -- A plan around the dead, and the history that goes on by it.
-use Rattle.std.specs.Prelude.{◌≡◌, ℕ, List, [], ◌∷◌, ◌++◌, Ok}
+use Rattle.std.specs.Prelude.{◌≡◌, ℕ, List, [], ◌∷◌, ◌++◌, Option, Ok}
 use Rattle.ring_names.specs.declared.ids.NodeId.{NodeId}
 use Rattle.ring_names.specs.declared.ids.Slot.{Slot}
 use Rattle.texts.specs.Left.{whole_text}
@@ -14,7 +14,7 @@ use Rattle.plan_runs.specs.Runs.{IsRun}
 use Rattle.plan_runs.specs.World.{World}
 use Rattle.plan_check.specs.Certified.{IsCertified}
 use Rattle.plan_check.specs.Headline.{KeepsPromises}
-use Rattle.history_text.specs.Replays.{Parts, replay_at}
+use Rattle.history_text.specs.Replays.{Parts}
 use Rattle.history_text.specs.Spelling.{history_text}
 use Rattle.ring_core.specs.Replays.{IsHistory, Replays}
 use Rattle.ring_core.specs.World.{ring_of, plan_of}
@@ -28,6 +28,8 @@ use Rattle.change_text.specs.declared.options.Options.{Options}
 use Rattle.ringplan_job.specs.declared.making.Detour.{Detour}
 use Rattle.ringplan_job.specs.declared.making.Extent.{Extent}
 use Rattle.plan_around.specs.Apart.{AreApart}
+use Rattle.plan_around.specs.Chosen.{GoesBy, halted_at}
+use Rattle.plan_around.specs.declared.chosen.Chosen.{Chosen}
 use Rattle.plan_around.specs.Ends.{EndsWell}
 
 -- the history is a run of the plan, and in the world to which it leads no step that is to come asks anything of the dead
@@ -72,10 +74,13 @@ pub record GoesAround (extent : Extent) (back : Back) (ring : RingValue) (dead :
   pub ends : LeadsWell extent back ring old plan dead left earlier
   pub goes_on : GoesOn ring dead writers plan cert history text
 
--- the bytes are the texts of a ring, a plan, a certificate and a history, which is a run of the plan; and the text goes on from there as the options ask
+-- the bytes are the texts of a ring, a plan, a certificate and a history, which is a run of the plan, and maybe of a plan that was chosen to go on by; and the text goes on from there
+-- as the options ask, by the chosen plan if there is one
 pub record IsAround (bytes : List ℕ) (options : Options) (detour : Detour) (text : List ℕ) : Type 0 where
   pub parts : Parts
-  pub read : whole_text replay_at bytes ≡ Ok parts
+  pub chosen : Option Chosen
+  pub read : whole_text halted_at bytes ≡ Ok (parts, chosen)
+  pub by : GoesBy parts.0 chosen text
   pub dead : List NodeId
   pub named : AreNamed parts.0 (dead_names options) dead
   pub earlier : IsHistory parts.0 parts.1.0 parts.1.1.1.0

@@ -1,5 +1,6 @@
 -- What is found of the end of a plan, store by store and place by place.
-use Rattle.std.specs.Prelude.{◌≡◌, ◌⊎◌, ℕ, Bool, true, List}
+use Rattle.std.specs.Prelude.{◌≡◌, ◌⊎◌, ◌==◌, ℕ, Bool, true, List}
+use Rattle.std.specs.List.{list_any}
 use Rattle.ring_names.specs.Lists.{has}
 use Rattle.ring_names.specs.declared.ids.NodeId.{NodeId}
 use Rattle.ring_names.specs.declared.ids.Slot.{Slot}
@@ -23,6 +24,10 @@ KeepsIn store dead p = (w : TheWorld) → Meets store w → (i : ℕ) × (x : No
 -- so it is in each partition that is marked
 abbrev pub HintsIn : World → List NodeId → List Bool → Type 0
 HintsIn store dead marks = (p : ℕ) → is_flagged marks p ≡ true → KeepsIn store dead p
+
+-- in each partition that is marked one of these slots is left
+abbrev pub StaysIn : List Slot → List Bool → Type 0
+StaysIn left marks = (p : ℕ) → is_flagged marks p ≡ true → list_any (λ s. s.partition == p) left ≡ true
 
 -- the step mirrors a slot of the partition at one of these nodes
 abbrev pub MirrorsIn : Step → List NodeId → ℕ → Type 0
@@ -56,5 +61,6 @@ pub record AreEnds (it : Endings) (ended : Ended) : Type 0 where
   pub new : IsPast it.ring.now it.new.now ended.new
   pub dead : ended.dead.nodes.now ≡ it.dead.now
   pub hinted : HintsIn it.before.now ended.dead.nodes.now ended.hinted.items
+  pub left : StaysIn it.left.now ended.left.items
   pub ring : ring_of it.before.now ≡ it.ring.now
   pub plan : plan_of it.before.now ≡ it.old.now

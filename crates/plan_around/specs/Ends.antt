@@ -1,14 +1,15 @@
 -- Where a plan ends that goes on in place of another one.
-use Rattle.std.specs.Prelude.{◌≡◌, ◌⊎◌, ◌<◌, ◌==◌, ◌||◌, ℕ, true, List, length, Some, None, slice_get}
+use Rattle.std.specs.Prelude.{◌≡◌, ◌⊎◌, ◌<◌, ◌≤◌, ◌==◌, ◌||◌, ℕ, true, false, List, length, Some, None, slice_get}
 use Rattle.std.specs.List.{list_any}
 use Rattle.ring_names.specs.Lists.{has}
 use Rattle.ring_names.specs.declared.ids.NodeId.{NodeId}
 use Rattle.ring_names.specs.declared.ids.Slot.{Slot}
 use Rattle.ring_table.specs.Value.{RingValue}
 use Rattle.plan_text.specs.Changes.{numbers}
+use Rattle.plan_text.specs.Steps.{steps_of}
 use Rattle.plan_text.specs.declared.step.Planned.{Planned}
 use Rattle.plan_text.specs.declared.step.Source.{Source}
-use Rattle.plan_text.specs.declared.step.Step.TheVariants.{Copy, Mirror}
+use Rattle.plan_text.specs.declared.step.Step.TheVariants.{Copy, Mirror, Switch}
 use Rattle.plan_stage.specs.Each.{step_at}
 use Rattle.plan_runs.specs.World.{World, keeps, slot_at, stage_now}
 use Rattle.plan_runs.specs.declared.back.Back.{Back}
@@ -42,9 +43,21 @@ ShouldOwn Whole back ring old w s x = x ≡ last_owner ring old s
 ShouldOwn Begun back ring old w s x = ((stage_now ring old w s).mirror ≡ Some x)
     ⊎ ((x ≡ (stage_now ring old w s).owner) × (((stage_now ring old w s).mirror ≡ None) ⊎ (back ≡ Allowed)))
 
--- a copy of the slot has given all: it is done, or open with all chunks marked
+-- the step at place i of the slot's steps is no switch that is done
+abbrev pub IsUnswitched : List Planned → World → Slot → ℕ → Type 0
+IsUnswitched plan w s i = (k : ℕ) → slice_get (steps_of plan s) i ≡ Some k → step_at plan k ≡ Some (Switch s) → w.done k ≡ false
+
+-- the slot's switches from place j of its steps on are to come
+abbrev pub AreToCome : List Planned → World → Slot → ℕ → Type 0
+AreToCome plan w s j = (i : ℕ) → j ≤ i → IsUnswitched plan w s i
+
+-- step n is a copy of the slot that has given all: it is done, or open with all chunks marked
+abbrev pub HasGiven : List Planned → World → Slot → ℕ → Type 0
+HasGiven plan w s n = (from : Source) × (step_at plan n ≡ Some (Copy s from)) × ((w.done n || is_whole w n) ≡ true)
+
+-- such a copy fills the mirror that the slot has now, since the slot's switches after it are to come
 abbrev pub IsGiven : List Planned → World → Slot → Type 0
-IsGiven plan w s = (n : ℕ) × (from : Source) × (step_at plan n ≡ Some (Copy s from)) × ((w.done n || is_whole w n) ≡ true)
+IsGiven plan w s = (j n : ℕ) × (slice_get (steps_of plan s) j ≡ Some n) × HasGiven plan w s n × AreToCome plan w s j
 
 -- the node may own in the end a slot that is to stay: it owns it now; or it mirrors it now, and a copy of the slot has given all
 abbrev pub MayKeep : RingValue → List Planned → World → Slot → NodeId → Type 0

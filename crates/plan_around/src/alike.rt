@@ -1,44 +1,20 @@
 //! Whether the stores of two plans are alike.
 
-ghost use Rattle.std.specs.Prelude.{◌≡◌, ℕ, ◌<◌, true, IsTrue, Some};
-ghost use Rattle.std.specs.List.{list_any};
-ghost use Rattle.plan_text.specs.Steps.{is_slot};
+ghost use Rattle.std.specs.Prelude.{◌≡◌, ℕ, ◌<◌, true, IfOk, IsTrue, Some};
 ghost use Rattle.plan_text.specs.Valid.{is_ring_slot};
 ghost use Rattle.plan_runs.specs.World.{World as TheWorld, slot_at};
 ghost use Rattle.ring_core.specs.World.{ring_of, plan_of, put_count, Meets};
-ghost use Rattle.plan_around.specs.Alike.{last_step, may_return, AreAlike, HeldAlike, InBoth, MirrorAlike, MirroredAlike, NodesAlike, PutAlike, StoredAlike};
+ghost use Rattle.plan_around.specs.Alike.{last_step, AreAlike, AreAlikeIn, HeldAlike, InBoth, MirrorAlike, MirroredAlike, NodesAlike, PutAlike, StoredAlike};
 
+use crate::marking::{are_marked, mark, unmarked};
 use crate::over::is_step_done;
-use crate::storing::{is_node, is_slot, mirror_of};
-use plan_runs::Back;
+use crate::returns::Returns;
+use crate::storing::{is_node, mirror_of};
 use plan_text::Plan;
 use ring_core::World;
-use ring_names::{NodeId, Slot};
+use ring_names::{NodeId, Refusal, Slot};
 use ring_table::Ring;
-
-/// Whether mirrors may be taken back, and the slots that stay with their owners, of which they may be in any case.
-#[derive(Clone, Copy)]
-pub(crate) struct Returns<'a> {
-    pub(crate) back: Back,
-    pub(crate) left: &'a [Slot],
-}
-
-// Whether the slot is one of those that stay with their owners.
-fn stays(left: &[Slot], slot: Slot) -> bool
-    ensures { result ≡ list_any (λ s. is_slot s slot) left.now }
-{
-    left.iter().any(|staying| is_slot(*staying, slot))
-}
-
-// Whether a mirror of the slot may be taken back.
-fn may_return(returns: &Returns, slot: Slot) -> bool
-    ensures { result ≡ may_return returns.now.back returns.now.left.now slot }
-{
-    match returns.back {
-        Back::Allowed => true,
-        Back::Never => stays(returns.left, slot),
-    }
-}
+use std::alloc::Global;
 
 // Whether the slot has the same mirror in both stores, or none in the second if it may be taken back.
 fn is_mirror_alike(a: &World, b: &World, returns: &Returns, slot: Slot) -> bool
@@ -49,7 +25,7 @@ fn is_mirror_alike(a: &World, b: &World, returns: &Returns, slot: Slot) -> bool
     let mine = mirror_of(a, slot);
     match mirror_of(b, slot) {
         Some(theirs) => is_node(mine, theirs),
-        None => mine.is_none() || may_return(returns, slot),
+        None => mine.is_none() || returns.allow(slot),
     }
 }
 
@@ -181,36 +157,79 @@ fn is_put_alike(a: &World, b: &World, plan: &Plan, put: u32, slots: u32) -> bool
     true
 }
 
-// Whether so it is for each put.
-fn are_puts_alike(ring: &Ring, plan: &Plan, a: &World, b: &World) -> bool
+// Marks the put if it is alike. Whether it is, if there is a put of that number.
+fn mark_alike(
+    a: &World,
+    b: &World,
+    plan: &Plan,
+    put: u32,
+    slots: u32,
+    marks: &mut Vec<bool>,
+) -> bool
+    requires same { ring_of b.now ≡ ring_of a.now }
+    requires plan { plan_of b.now ≡ plan.now }
+    requires puts { put_count b.now ≡ put_count a.now }
+    requires slots { slots ≡ (ring_of b.now).n }
+    requires marks { AreAlikeIn a.now b.now marks.old.items }
+    ensures { IsTrue result → AreAlikeIn a.now b.now marks.new.items }
+{
+    if put >= b.puts() {
+        return true;
+    }
+    if !is_put_alike(a, b, plan, put, slots) {
+        return false;
+    }
+    mark(marks, put);
+    true
+}
+
+// Whether each put is alike. They are compared in that order; if one is missing there, that is `false`.
+fn are_puts_alike(
+    alloc: Global,
+    ring: &Ring,
+    plan: &Plan,
+    a: &World,
+    b: &World,
+    order: &[u32],
+) -> Result<bool, Refusal>
     requires same { ring_of b.now ≡ ring_of a.now }
     requires ring { ring_of b.now ≡ ring.now }
     requires plan { plan_of b.now ≡ plan.now }
     requires puts { put_count b.now ≡ put_count a.now }
-    ensures { IsTrue result → (v : ℕ) → v < put_count b.now → InBoth a.now b.now (λ r old w s new u. PutAlike r old w s new u v) }
+    ensures { IfOk result (λ t. IsTrue t → (v : ℕ) → v < put_count b.now → InBoth a.now b.now (λ r old w s new u. PutAlike r old w s new u v)) }
 {
     let puts = b.puts();
     let slots = ring.n();
-    for put in 0..puts {
-        if !is_put_alike(a, b, plan, put, slots) {
-            return false;
+    let mut marks = unmarked(alloc, puts)?;
+    for put in order {
+        if !mark_alike(a, b, plan, *put, slots, &mut marks) {
+            return Ok(false);
         }
     }
-    true
+    Ok(are_marked(marks.as_slice(), puts))
 }
 
-/// Whether both stores are alike: the second is one of this ring and this plan. Costs a few look-ups for each slot, and for each put and each slot of its partition.
-pub(crate) fn are_alike(ring: &Ring, plan: &Plan, a: &World, b: &World, returns: &Returns) -> bool
+/// Whether both stores are alike: the second is one of this ring and this plan. Puts are compared in that order, which has each. Costs a few look-ups for each slot, and for
+/// each put and each slot of its partition.
+pub(crate) fn are_alike(
+    alloc: Global,
+    ring: &Ring,
+    plan: &Plan,
+    a: &World,
+    b: &World,
+    returns: &Returns,
+    order: &[u32],
+) -> Result<bool, Refusal>
     requires same { ring_of b.now ≡ ring_of a.now }
     requires ring { ring_of b.now ≡ ring.now }
     requires plan { plan_of b.now ≡ plan.now }
-    ensures { IsTrue result → InBoth a.now b.now (AreAlike returns.now.back returns.now.left.now) }
+    ensures { IfOk result (λ t. IsTrue t → InBoth a.now b.now (AreAlike returns.now.back returns.now.left.now)) }
 {
     if a.puts() != b.puts() {
-        return false;
+        return Ok(false);
     }
     if !are_nodes_alike(ring, a, b, returns) {
-        return false;
+        return Ok(false);
     }
-    are_puts_alike(ring, plan, a, b)
+    are_puts_alike(alloc, ring, plan, a, b, order)
 }

@@ -4,18 +4,21 @@ ghost use Rattle.std.specs.Prelude.{◌≡◌, ◌≤◌, IfOk, OnOk, length};
 ghost use Rattle.history_text.specs.Replays.{IsReplay};
 ghost use Rattle.ring_core.specs.Replays.{IsHistory};
 ghost use Rattle.plan_around.specs.Around.{GoesAround, IsAfter, IsAround};
+ghost use Rattle.plan_around.specs.Chosen.{BeginsWith, GoesBy};
 
 use crate::ahead::find_ahead;
+use crate::chosen::{Chosen, Halted, read_halted};
 use crate::going::{Going, accepted, go_on};
 use change_text::Options;
-use find_around::{Around, Reach, Task, find_around, find_unmoved};
+use find_around::{Around, Kept, Reach, Task, find_around, find_kept, find_unmoved};
 use find_chains::certificate;
 use helpers::{Labels, Words};
-use history_text::{ReplayBundle, read_replay};
-use plan_bundles::{Racking, ask_layout, dead_by, members_by, nodes_of, racks_of};
+use history_text::ReplayBundle;
+use plan_bundles::{Racking, ask_layout, dead_by, is_same_ring, members_by, nodes_of, racks_of};
 use plan_cert::Cert;
 use plan_check::Approved;
 use plan_runs::Entry;
+use plan_text::Plan;
 use ring_core::{World, replay};
 use ring_names::{Names, NodeId, Refusal, Slot};
 use ringplan_job::Detour;
@@ -178,24 +181,91 @@ fn go_around(it: &Begun, before: &World, words: &mut Words) -> Result<Vec<u8>, R
     go_so_far(it, before, Reach::Full, words)
 }
 
+// What the steps are called in the plan that was chosen.
+fn kept_by(it: &Begun, chosen: &Plan) -> Result<Kept, Refusal> {
+    let ahead = find_ahead(it.alloc, it.approved, it.history)?;
+    let task = task_of(it, ahead.as_slice());
+    find_kept(&task, chosen)
+}
+
+// The bundle that goes on by a plan that was chosen.
+fn go_by_chosen(it: &Begun, before: &World, chosen: Chosen) -> Result<Vec<u8>, Refusal>
+    requires { IsAfter it.now.approved.now.ring it.now.approved.now.plan it.now.history.now before.now }
+    ensures around { IfOk result (λ v. GoesAround it.now.asked.detour.extent it.now.asked.detour.back it.now.approved.now.ring it.now.asked.dead.now it.now.asked.left.now
+        it.now.writers.now it.now.approved.now.plan it.now.history.now v.items) }
+    ensures by { IfOk result (λ v. BeginsWith it.now.approved.now.ring chosen.plan chosen.cert v.items) }
+{
+    let Chosen { plan, cert, .. } = chosen;
+    let kept = kept_by(it, &plan)?;
+    let going = Going {
+        old: it.approved,
+        history: it.history,
+        writers: it.writers,
+        dead: it.asked.dead,
+        left: it.asked.left,
+        back: it.asked.detour.back,
+        extent: it.asked.detour.extent,
+        numbers: kept.numbers.as_slice(),
+        olds: kept.olds.as_slice(),
+        cert: &cert,
+    };
+    go_on(it.alloc, plan, &going, before)
+}
+
+// The bundle that goes on by the plan that was chosen, or if none was, by one that is found.
+fn go_by_any(
+    it: &Begun,
+    before: &World,
+    chosen: Option<Chosen>,
+    words: &mut Words,
+) -> Result<Vec<u8>, Refusal>
+    requires { IsAfter it.now.approved.now.ring it.now.approved.now.plan it.now.history.now before.now }
+    ensures around { IfOk result (λ v. GoesAround it.now.asked.detour.extent it.now.asked.detour.back it.now.approved.now.ring it.now.asked.dead.now it.now.asked.left.now
+        it.now.writers.now it.now.approved.now.plan it.now.history.now v.items) }
+    ensures by { IfOk result (λ v. GoesBy it.now.approved.now.ring chosen v.items) }
+{
+    let Some(chosen) = chosen else {
+        return go_around(it, before, words);
+    };
+    if !is_same_ring(it.alloc, &chosen.ring, it.approved.ring())? {
+        return Err(Refusal::NoPlan);
+    }
+    go_by_chosen(it, before, chosen)
+}
+
+// What is said if the history goes on by no plan.
+fn push_none(has_chosen: bool, words: &mut Words) {
+    words.clear();
+    words.text(if has_chosen {
+        b"refused: the history does not go on by the plan that follows it; `check` says whether that plan is accepted\n"
+    } else {
+        b"refused: no plan was found by which the history goes on\n"
+    });
+}
+
 // The bundle that goes on from one that was read.
 fn around_read(
     alloc: Global,
-    read: ReplayBundle,
+    halted: Halted,
     asked: Asked,
     words: &mut Words,
 ) -> Result<Vec<u8>, Refusal>
-    requires { IsReplay read }
-    ensures { IfOk result (λ v. GoesAround asked.entry.detour.extent asked.entry.detour.back read.ring asked.entry.dead.now asked.entry.left.now read.writers read.plan read.history.items v.items
-        × IsHistory read.ring read.plan read.history.items) }
+    requires { IsReplay halted.replay }
+    ensures { IfOk result (λ v. GoesAround asked.entry.detour.extent asked.entry.detour.back halted.replay.ring asked.entry.dead.now asked.entry.left.now halted.replay.writers
+        halted.replay.plan halted.replay.history.items v.items
+        × IsHistory halted.replay.ring halted.replay.plan halted.replay.history.items
+        × GoesBy halted.replay.ring halted.chosen v.items) }
 {
-    let ReplayBundle {
-        ring,
-        plan,
-        cert,
-        writers,
-        history,
-    } = read;
+    let Halted {
+        replay: ReplayBundle {
+            ring,
+            plan,
+            cert,
+            writers,
+            history,
+        },
+        chosen,
+    } = halted;
     let approved = accepted(alloc, ring, plan, &cert)?;
     let entries = history.as_slice();
     let store = replay(alloc, &approved, entries)?;
@@ -210,11 +280,11 @@ fn around_read(
     if push_unmoved(&begun, words)? {
         return Err(Refusal::NoPlan);
     }
-    match go_around(&begun, &store, words) {
+    let has_chosen = chosen.is_some();
+    match go_by_any(&begun, &store, chosen, words) {
         Ok(text) => Ok(text),
         Err(refusal) => {
-            words.clear();
-            words.text(b"refused: no plan was found by which the history goes on\n");
+            push_none(has_chosen, words);
             Err(cause(refusal))
         }
     }
@@ -244,12 +314,12 @@ fn asked_for<'a>(
 
 /// Makes the bundle that goes on where one stopped, around the nodes that are dead by the options: its ring, another plan, a certificate, and the history by that plan. An
 /// executor goes on with it: what it holds of a step it finds by the step's kind, partition, slot and node. Slots that the options name stay with their owners, or go to their
-/// mirrors if a copy has given all; other mirrors are taken back only if the detour allows it. Adds line by line to `words` what becomes of slots and nodes that do not go where
-/// they were to go, or at `NoPlan` why.
+/// mirrors if a copy has given all; other mirrors are taken back only if the detour allows it. If a second bundle follows, without a history, its plan is the one to go on by.
+/// Adds line by line to `words` what becomes of slots and nodes that do not go where they were to go, or at `NoPlan` why.
 ///
 /// Refused is the first fault of the texts; a name that the ring does not declare, and a member without a rack where racks are known, as `UnknownNode(0)`; a partition that
 /// the ring does not have, as `TooLarge` with its line in the layout; a plan that the checker refuses; a history that is not a run of it; and as `NoPlan` a slot that
-/// is to stay though no step to come moves it, or if no plan is found by which the history goes on. Costs about what `check` and `replay` cost of both bundles, and as much
+/// is to stay though no step to come moves it, if no plan is found by which the history goes on, or if it does not go on by the plan that was chosen. Costs about what `check` and `replay` cost of both bundles, and as much
 /// again for each plan that the checker refuses, at most two.
 pub fn around_bundle(
     alloc: Global,
@@ -260,13 +330,14 @@ pub fn around_bundle(
 ) -> Result<Vec<u8>, Refusal>
     ensures around { IfOk result (λ v. IsAround bytes.now options.now detour v.items) }
 {
-    let read = read_replay(alloc, bytes)?;
-    ask_layout(&read.ring, &options.layout)?;
+    let halted = read_halted(alloc, bytes)?;
+    let ring = &halted.replay.ring;
+    ask_layout(ring, &options.layout)?;
     let names = dead_by(alloc, options)?;
-    let nodes = nodes_of(alloc, &read.ring, names.as_slice())?;
-    let members = members_by(alloc, &read.ring, &read.plan)?;
-    let racking = racks_of(alloc, &read.ring, members.as_slice(), options)?;
+    let nodes = nodes_of(alloc, ring, names.as_slice())?;
+    let members = members_by(alloc, ring, &halted.replay.plan)?;
+    let racking = racks_of(alloc, ring, members.as_slice(), options)?;
     let asked = asked_for(nodes.as_slice(), &racking, options, detour);
     racking.push(words);
-    around_read(alloc, read, asked, words)
+    around_read(alloc, halted, asked, words)
 }

@@ -50,4 +50,13 @@ impl PutsByChunk {
             None => &[],
         }
     }
+
+    /// All puts, those of each chunk one after the other.
+    pub(crate) fn in_order(&self) -> Result<Vec<u32>, Refusal> {
+        let mut order = Vec::new(self.alloc);
+        for puts in self.puts.values() {
+            order.extend_from_slice(puts.as_slice())?;
+        }
+        Ok(order)
+    }
 }

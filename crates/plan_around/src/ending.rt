@@ -1,28 +1,32 @@
 //! Whether a plan ends where it should that goes on in place of another one.
 
-ghost use Rattle.std.specs.Prelude.{◌≡◌, ◌⊎◌, ℕ, ◌<◌, ◌==◌, ◌||◌, true, length, Some, slice_get, IsTrue, IfOk};
+ghost use Rattle.std.specs.Prelude.{◌≡◌, ◌⊎◌, ℕ, ◌<◌, ◌||◌, true, false, length, Some, slice_get, IsTrue, IfOk};
 ghost use Rattle.std.specs.List.{list_any};
 ghost use Rattle.ring_names.specs.Lists.{has};
+ghost use Rattle.ring_names.specs.declared.ids.Slot.{Slot as TheSlot};
 ghost use Rattle.ring_table.specs.Value.{RingValue};
 ghost use Rattle.plan_text.specs.Changes.{numbers};
 ghost use Rattle.plan_text.specs.Valid.{is_ring_slot, Suits};
 ghost use Rattle.plan_text.specs.declared.step.Source.{Source};
-ghost use Rattle.plan_text.specs.declared.step.Step.TheVariants.{Copy};
+ghost use Rattle.plan_text.specs.declared.step.Step.TheVariants.{Copy, Switch};
+ghost use Rattle.plan_stage.specs.Each.{step_at};
 ghost use Rattle.plan_runs.specs.World.{World as TheWorld};
 ghost use Rattle.plan_goal.specs.Reached.{member_after};
 ghost use Rattle.plan_moves.specs.Owners.{IsPast};
 ghost use Rattle.plan_bundles.specs.Sized.{is_flagged, row_at};
 ghost use Rattle.ring_core.specs.World.{ring_of, plan_of, Meets};
 ghost use Rattle.plan_around.specs.Apart.{is_whole};
-ghost use Rattle.plan_around.specs.Ends.{EndsWell, IsExcused, IsGiven, IsTouched, MayKeep, ShouldOwn};
-ghost use Rattle.plan_around.specs.Ending.{AreEnds, HintsIn, HoldsIn, MirrorsAt, MirrorsIn, NodeEnds, SlotEnds, SlotStays};
+ghost use Rattle.plan_around.specs.Ends.{AreToCome, EndsWell, HasGiven, IsExcused, IsGiven, IsUnswitched, IsTouched, MayKeep, ShouldOwn};
+ghost use Rattle.plan_around.specs.Ending.{AreEnds, HintsIn, HoldsIn, MirrorsAt, MirrorsIn, NodeEnds, SlotEnds, SlotStays, StaysIn};
 
-use crate::over::is_over;
-use crate::storing::{is_node, is_slot};
+use crate::marking::mark;
+use crate::over::{is_over, is_to_come};
+use crate::storing::is_node;
 use plan_bundles::{is_flagged, row_at};
 use plan_cover::Present;
 use plan_goal::Dead;
 use plan_moves::present_after;
+use plan_past::is_slot;
 use plan_runs::Back;
 use plan_text::{Plan, Step};
 use ring_core::World;
@@ -44,14 +48,15 @@ pub(crate) struct Endings<'a> {
     pub(crate) extent: Extent,
 }
 
-// Marks the place, if there is one.
-fn mark(marks: &mut Vec<bool>, place: u32)
-    ensures { (p : ℕ) → is_flagged marks.new.items p ≡ true → (p ≡ place) ⊎ (is_flagged marks.old.items p ≡ true) }
-{
-    let place = place as usize;
-    if place < marks.len() {
-        marks[place] = true;
-    }
+// What is found of both plans before their ends are compared: who serves each slot once they are done, the partitions for which dead nodes keep hints, and those with
+// slots that are left.
+#[derive(Drop)]
+struct Ended<'a> {
+    dead: Dead<'a>,
+    old: Present,
+    new: Present,
+    hinted: Vec<bool>,
+    left: Vec<bool>,
 }
 
 // Marks the place if the node is dead.
@@ -132,29 +137,45 @@ fn has_dead_targets(it: &Endings, dead: &Dead, partition: u32) -> bool
     false
 }
 
-// Whether a slot of the partition is left with its owner.
-fn is_left(left: &[Slot], partition: u32) -> bool
-    ensures { result ≡ list_any (λ s. s.partition == partition) left.now }
+// Marks the partition of the slot at that place, if there is one.
+fn mark_at(marks: &mut Vec<bool>, left: &[Slot], place: usize)
+    requires { StaysIn left.now marks.old.items }
+    ensures { StaysIn left.now marks.new.items }
 {
-    left.iter().any(|slot| slot.partition == partition)
+    match left.get(place) {
+        Some(slot) => mark(marks, slot.partition),
+        None => {}
+    }
+}
+
+// Marks the partitions of slots that are left with their owners.
+fn left_in(alloc: Global, it: &Endings) -> Result<Vec<bool>, Refusal>
+    ensures { IfOk result (λ marks. StaysIn it.now.left.now marks.items) }
+{
+    let mut marks = vec![in alloc; false; it.ring.q() as usize]?;
+    for place in 0..it.left.len() {
+        mark_at(&mut marks, it.left, place);
+    }
+    Ok(marks)
 }
 
 // Whether the slots of the partition may end elsewhere.
-fn is_excused(it: &Endings, dead: &Dead, hinted: &[bool], partition: u32) -> bool
-    requires { HintsIn it.now.before.now dead.now.nodes.now hinted.now }
+fn is_excused(it: &Endings, ended: &Ended, partition: u32) -> bool
+    requires { AreEnds it.now ended.now }
     ensures { IsTrue result → (w : TheWorld) → Meets it.now.before.now w
-        → IsExcused it.now.ring.now it.now.old.now w dead.now.nodes.now it.now.left.now partition }
+        → IsExcused it.now.ring.now it.now.old.now w ended.now.dead.nodes.now it.now.left.now partition }
 {
+    let dead = &ended.dead;
     if has_dead_owner(it.ring, dead, partition) {
         return true;
     }
-    if is_flagged(hinted, partition as usize) {
+    if is_flagged(ended.hinted.as_slice(), partition as usize) {
         return true;
     }
     if has_dead_targets(it, dead, partition) {
         return true;
     }
-    is_left(it.left, partition)
+    is_flagged(ended.left.as_slice(), partition as usize)
 }
 
 // Whether the node mirrors the slot now, or owns it and may stay its owner.
@@ -200,8 +221,8 @@ fn is_given_by(before: &World, step: &Step, slot: Slot, number: u32) -> bool
 }
 
 // Whether the step of that number is one.
-fn is_given_at(before: &World, plan: &Plan, slot: Slot, number: u32) -> bool
-    ensures { IsTrue result → (w : TheWorld) → Meets before.now w → IsGiven plan.now w slot }
+fn is_given_step(before: &World, plan: &Plan, slot: Slot, number: u32) -> bool
+    ensures { IsTrue result → (w : TheWorld) → Meets before.now w → HasGiven plan.now w slot number }
 {
     if number >= plan.len() {
         return false;
@@ -209,12 +230,71 @@ fn is_given_at(before: &World, plan: &Plan, slot: Slot, number: u32) -> bool
     is_given_by(before, plan.step(number), slot, number)
 }
 
-// Whether a copy of the slot has given all.
+// Whether the step is no switch, or one that is to come.
+fn is_unswitched(before: &World, step: &Step, number: u32) -> bool
+    ensures { IsTrue result → (w : TheWorld) → Meets before.now w → (s : TheSlot) → step.now ≡ Switch s → w.done number ≡ false }
+{
+    match step {
+        Step::Switch(_) => is_to_come(before, number),
+        Step::Join(_)
+        | Step::Mirror(_, _)
+        | Step::Copy(_, _)
+        | Step::Drop(_, _)
+        | Step::Retire(_) => true,
+    }
+}
+
+// Whether the step of that number is one of these.
+fn is_unswitched_step(before: &World, plan: &Plan, number: u32) -> bool
+    ensures { IsTrue result → (w : TheWorld) → Meets before.now w → (s : TheSlot) → step_at plan.now number ≡ Some (Switch s) → w.done number ≡ false }
+{
+    if number >= plan.len() {
+        return false;
+    }
+    is_unswitched(before, plan.step(number), number)
+}
+
+// Whether the step at that place of the slot's steps is one of these.
+fn is_unswitched_at(before: &World, plan: &Plan, slot: Slot, place: usize) -> bool
+    ensures { IsTrue result → (w : TheWorld) → Meets before.now w → IsUnswitched plan.now w slot place }
+{
+    match plan.slot_steps(slot).get(place) {
+        Some(number) => is_unswitched_step(before, plan, *number),
+        None => true,
+    }
+}
+
+// Whether the slot's switches from that place of its steps on are to come.
+fn are_to_come(before: &World, plan: &Plan, slot: Slot, place: usize) -> bool
+    ensures { IsTrue result → (w : TheWorld) → Meets before.now w → AreToCome plan.now w slot place }
+{
+    let count = plan.slot_steps(slot).len();
+    for later in place..count {
+        if !is_unswitched_at(before, plan, slot, later) {
+            return false;
+        }
+    }
+    true
+}
+
+// Whether the step at that place of the slot's steps is a copy that has given all, and fills the mirror that the slot has now.
+fn is_given_at(before: &World, plan: &Plan, slot: Slot, place: usize) -> bool
+    ensures { IsTrue result → (w : TheWorld) → Meets before.now w → IsGiven plan.now w slot }
+{
+    match plan.slot_steps(slot).get(place) {
+        Some(number) => {
+            is_given_step(before, plan, slot, *number) && are_to_come(before, plan, slot, place)
+        }
+        None => false,
+    }
+}
+
+// Whether a copy of the slot has given all that fills the mirror that the slot has now.
 fn is_given(before: &World, plan: &Plan, slot: Slot) -> bool
     ensures { IsTrue result → (w : TheWorld) → Meets before.now w → IsGiven plan.now w slot }
 {
-    for number in plan.slot_steps(slot) {
-        if is_given_at(before, plan, slot, *number) {
+    for place in 0..plan.slot_steps(slot).len() {
+        if is_given_at(before, plan, slot, place) {
             return true;
         }
     }
@@ -235,15 +315,6 @@ fn may_keep(before: &World, plan: &Plan, slot: Slot, node: NodeId) -> bool
     }
 }
 
-// What is found of both plans before their ends are compared: who serves each slot once they are done, and the partitions for which dead nodes keep hints.
-#[derive(Drop)]
-struct Ended<'a> {
-    dead: Dead<'a>,
-    old: Present,
-    new: Present,
-    hinted: Vec<bool>,
-}
-
 // Whether the slot ends where it should.
 fn ends_at(it: &Endings, ended: &Ended, partition: u32, index: u32) -> bool
     requires ended { AreEnds it.now ended.now }
@@ -253,8 +324,7 @@ fn ends_at(it: &Endings, ended: &Ended, partition: u32, index: u32) -> bool
 {
     let slot = Slot { partition, index };
     let node = ended.new.at(it.ring, slot).owner;
-    should_own(it, &ended.old, slot, node)
-        || is_excused(it, &ended.dead, ended.hinted.as_slice(), partition)
+    should_own(it, &ended.old, slot, node) || is_excused(it, ended, partition)
 }
 
 // Whether the slots of the partition end where they should.
@@ -437,11 +507,13 @@ pub(crate) fn ends_well(alloc: Global, it: &Endings) -> Result<bool, Refusal>
 {
     let dead = Dead::of(it.dead);
     let hinted = hinted(alloc, it, &dead)?;
+    let left = left_in(alloc, it)?;
     let ended = Ended {
         dead,
         old: present_after(alloc, it.ring, it.old)?,
         new: present_after(alloc, it.ring, it.new)?,
         hinted,
+        left,
     };
     let holders = holders(alloc, it, &ended)?;
     if !slots_end(it, &ended) || !slots_stay(it, &ended) {

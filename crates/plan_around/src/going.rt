@@ -1,6 +1,6 @@
 //! Whether a plan and a history go on around the dead, as their texts.
 
-ghost use Rattle.std.specs.Prelude.{◌≡◌, ◌≤◌, ◌++◌, IsTrue, IfOk, OnOk, length};
+ghost use Rattle.std.specs.Prelude.{◌≡◌, ◌++◌, IsTrue, IfOk, OnOk};
 ghost use Rattle.plan_text.specs.Valid.{Suits as PlanSuits};
 ghost use Rattle.plan_check.specs.Certified.{IsCertified};
 ghost use Rattle.plan_check.specs.Headline.{KeepsPromises};
@@ -10,12 +10,15 @@ ghost use Rattle.plan_past.specs.Past.{IsSamePast};
 ghost use Rattle.plan_runs.specs.World.{World as TheWorld};
 ghost use Rattle.ring_core.specs.World.{ring_of, plan_of, Meets};
 ghost use Rattle.plan_around.specs.Around.{back_with, GoesAround, IsAfter, LeadsOn, RunsApart};
+ghost use Rattle.plan_around.specs.Chosen.{BeginsWith};
 ghost use Rattle.plan_around.specs.Ends.{EndsWell};
+ghost use Rattle.plan_around.specs.Led.{IsLed};
 
-use crate::alike::{Returns, are_alike};
+use crate::alike::are_alike;
 use crate::apart::are_apart;
 use crate::ending::{Endings, ends_well};
 use crate::retelling::{Retold, retell};
+use crate::returns::Returns;
 use history_text::{are_known, push_history};
 use plan_cert::Cert;
 use plan_check::{Approved, Turned, check};
@@ -23,7 +26,7 @@ use plan_goal::write_front;
 use plan_past::{SamePast, Told, is_same_past};
 use plan_runs::{Back, Entry};
 use plan_text::Plan;
-use ring_core::{World, replay};
+use ring_core::World;
 use ring_names::{Names, NodeId, Refusal, Slot};
 use ring_table::Ring;
 use ringplan_job::Extent;
@@ -50,47 +53,56 @@ pub(crate) fn accepted(
     }
 }
 
-// Whether the history is a run of the plan that leads to where the dead are asked for nothing more, and to a store like the one before. Refused is what the replay refuses.
+// Whether the history leads to where the dead are asked for nothing more, and to a store like the one before.
 fn runs_on(
     alloc: Global,
     approved: &Approved,
     before: &World,
-    history: &[Entry],
+    told: &Retold,
     it: &Going,
 ) -> Result<bool, Refusal>
-    requires few { length history.now ≤ 1000000 }
+    requires led { IsLed approved.now.ring approved.now.plan told.now.led }
     requires ring { ring_of before.now ≡ approved.now.ring }
-    ensures apart { IfOk result (λ b. IsTrue b → RunsApart approved.now.ring approved.now.plan it.now.dead.now history.now) }
-    ensures alike { IfOk result (λ b. IsTrue b → LeadsOn it.now.back it.now.left.now approved.now.ring before.now approved.now.plan history.now) }
+    ensures apart { IfOk result (λ b. IsTrue b → RunsApart approved.now.ring approved.now.plan it.now.dead.now told.now.led.entries.items) }
+    ensures alike { IfOk result (λ b. IsTrue b → LeadsOn it.now.back it.now.left.now approved.now.ring before.now approved.now.plan told.now.led.entries.items) }
 {
-    let store = replay(alloc, approved, history)?;
-    let returns = Returns {
-        back: it.back,
-        left: it.left,
-    };
-    if !are_alike(approved.ring(), approved.plan(), before, &store, &returns) {
+    let ring = approved.ring();
+    let plan = approved.plan();
+    let store = &told.led.store;
+    let returns = Returns::of(alloc, it.back, it.left)?;
+    if !are_alike(
+        alloc,
+        ring,
+        plan,
+        before,
+        store,
+        &returns,
+        told.order.as_slice(),
+    )? {
         return Ok(false);
     }
-    are_apart(alloc, &store, approved.ring(), approved.plan(), it.dead)
+    are_apart(alloc, store, ring, plan, it.dead)
 }
 
-// The text of the history, if it goes on by the plan; else `NoPlan`, or what the replay refuses.
+// The text of the history, if it goes on by the plan, or `NoPlan`.
 fn history_on(
     alloc: Global,
     approved: &Approved,
     before: &World,
+    told: &Retold,
     it: &Going,
-    history: &[Entry],
 ) -> Result<Vec<u8>, Refusal>
-    requires { ring_of before.now ≡ approved.now.ring }
-    ensures run { OnOk result (RunsApart approved.now.ring approved.now.plan it.now.dead.now history.now) }
-    ensures alike { OnOk result (LeadsOn it.now.back it.now.left.now approved.now.ring before.now approved.now.plan history.now) }
-    ensures text { IfOk result (λ v. v.items ≡ history_text approved.now.ring it.now.writers.now history.now) }
+    requires led { IsLed approved.now.ring approved.now.plan told.now.led }
+    requires ring { ring_of before.now ≡ approved.now.ring }
+    ensures run { OnOk result (RunsApart approved.now.ring approved.now.plan it.now.dead.now told.now.led.entries.items) }
+    ensures alike { OnOk result (LeadsOn it.now.back it.now.left.now approved.now.ring before.now approved.now.plan told.now.led.entries.items) }
+    ensures text { IfOk result (λ v. v.items ≡ history_text approved.now.ring it.now.writers.now told.now.led.entries.items) }
 {
+    let history = told.led.entries.as_slice();
     if history.len() > MOST || !are_known(approved.ring(), it.writers, history) {
         return Err(Refusal::NoPlan);
     }
-    if !runs_on(alloc, approved, before, history, it)? {
+    if !runs_on(alloc, approved, before, told, it)? {
         return Err(Refusal::NoPlan);
     }
     let mut out = Vec::new(alloc);
@@ -152,15 +164,17 @@ fn tells_past(
     is_same_past(alloc, &plans, it.history, &Told { entries, counts })
 }
 
-// The history by the new plan. `NoPlan` if it does not tell what the old one tells.
-fn past(alloc: Global, it: &Going, new: &Approved) -> Result<Vec<Entry>, Refusal>
-    ensures { IfOk result (λ v. IsSamePast (back_with it.now.left.now it.now.back) it.now.old.now.plan new.now.plan it.now.history.now v.items) }
+// The history by the new plan, and the store to which it leads. `NoPlan` if it does not tell what the old one tells.
+fn past<'a>(alloc: Global, it: &Going, new: &'a Approved) -> Result<Retold<'a>, Refusal>
+    ensures past { IfOk result (λ v. IsSamePast (back_with it.now.left.now it.now.back) it.now.old.now.plan new.now.plan it.now.history.now v.led.entries.items) }
+    ensures led { IfOk result (λ v. IsLed new.now.ring new.now.plan v.led) }
 {
-    let Retold { entries, counts } = retell(alloc, it.old, new, it.numbers, it.history)?;
-    if !tells_past(alloc, it, new, entries.as_slice(), counts.as_slice())? {
+    let told = retell(alloc, it.old, new, it.numbers, it.history)?;
+    let entries = told.led.entries.as_slice();
+    if !tells_past(alloc, it, new, entries, told.counts.as_slice())? {
         return Err(Refusal::NoPlan);
     }
-    Ok(entries)
+    Ok(told)
 }
 
 // Asks whether the new plan ends where it should. If it does not, that is `NoPlan`.
@@ -189,7 +203,7 @@ fn ask_ends(alloc: Global, it: &Going, before: &World, new: &Approved) -> Result
 
 /// The text of all, if the checker accepts the new plan and the history goes on by it, from a store like the one that the old history leads to. `NoPlan` if the plan or the
 /// certificate is not the ring's, if the history does not tell what the old one tells, if the stores differ, if the plan does not end where it should, or if the dead are
-/// asked for something; otherwise what the checker or the replay refuses.
+/// asked for something; otherwise what the checker refuses, or the store of the new plan.
 pub(crate) fn go_on(
     alloc: Global,
     plan: Plan,
@@ -197,8 +211,9 @@ pub(crate) fn go_on(
     before: &World,
 ) -> Result<Vec<u8>, Refusal>
     requires { IsAfter it.now.old.now.ring it.now.old.now.plan it.now.history.now before.now }
-    ensures { IfOk result (λ v. GoesAround it.now.extent it.now.back it.now.old.now.ring it.now.dead.now it.now.left.now it.now.writers.now it.now.old.now.plan
+    ensures around { IfOk result (λ v. GoesAround it.now.extent it.now.back it.now.old.now.ring it.now.dead.now it.now.left.now it.now.writers.now it.now.old.now.plan
         it.now.history.now v.items) }
+    ensures by { IfOk result (λ v. BeginsWith it.now.old.now.ring plan it.now.cert.now v.items) }
 {
     let ring = it.old.ring().copy(alloc)?;
     if !plan.suits(&ring) || !it.cert.suits(&ring) {
@@ -207,7 +222,7 @@ pub(crate) fn go_on(
     let text = write_front(alloc, &ring, &plan, it.cert)?;
     let approved = accepted(alloc, ring, plan, it.cert)?;
     ask_ends(alloc, it, before, &approved)?;
-    let entries = past(alloc, it, &approved)?;
-    let history = history_on(alloc, &approved, before, it, entries.as_slice())?;
+    let told = past(alloc, it, &approved)?;
+    let history = history_on(alloc, &approved, before, &told, it)?;
     followed(text, history.as_slice())
 }

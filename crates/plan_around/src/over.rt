@@ -1,7 +1,7 @@
 //! Whether a step asks nothing of anybody any more.
 
-ghost use Rattle.std.specs.Prelude.{◌≡◌, ◌||◌, true, IsTrue};
-ghost use Rattle.ring_names.specs.declared.refusal.Refusal.TheVariants.{AlreadyDone, NotOpen};
+ghost use Rattle.std.specs.Prelude.{◌≡◌, ◌||◌, true, false, IsTrue};
+ghost use Rattle.ring_names.specs.declared.refusal.Refusal.TheVariants.{AlreadyDone, NotOpen, NotReady};
 ghost use Rattle.plan_runs.specs.World.{World as TheWorld};
 ghost use Rattle.ring_core.specs.World.{Meets, Refuses};
 ghost use Rattle.plan_around.specs.Apart.{is_whole};
@@ -23,6 +23,13 @@ fn is_not_open(refusal: &Refusal) -> bool
     ensures { IsTrue result → refusal.now ≡ NotOpen }
 {
     matches!(refusal, Refusal::NotOpen)
+}
+
+// Whether it is refused since a step is to come for which it waits.
+fn is_not_ready(refusal: &Refusal) -> bool
+    ensures { IsTrue result → refusal.now ≡ NotReady }
+{
+    matches!(refusal, Refusal::NotReady)
 }
 
 // Whether the store refuses the event since it is so already.
@@ -69,6 +76,16 @@ fn is_done(store: &World, number: u32) -> bool
     ensures { IsTrue result → (w : TheWorld) → Meets store.now w → w.done number ≡ true }
 {
     has_happened(store, &Event::Do(number))
+}
+
+/// Whether the switch of that number is to come.
+pub(crate) fn is_to_come(store: &World, number: u32) -> bool
+    ensures { IsTrue result → (w : TheWorld) → Meets store.now w → w.done number ≡ false }
+{
+    match store.allows(&Event::Do(number)) {
+        Ok(()) => true,
+        Err(refusal) => is_not_ready(&refusal),
+    }
 }
 
 /// Whether the step is done, or a copy that is open with all its chunks marked.

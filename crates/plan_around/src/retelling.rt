@@ -1,122 +1,145 @@
-//! The history by another plan, made by a run of it. Two stores go through the old history, one by each plan: the store of the old plan says what a chunk gave, and
-//! the store of the new plan gives the replies. Nothing is promised of what they tell but that it can be checked.
+//! The history by another plan, made by a run of it: a store goes through the old history by the new plan, and gives the replies. It also says what a chunk gave that
+//! is left out: the slots from which a chunk is copied hold the same by both plans.
+
+ghost use Rattle.std.specs.Prelude.{IfOk, OnOk};
+ghost use Rattle.plan_around.specs.Led.{GoesFarther, IsLed};
 
 use crate::chunks::{Chunk, PutsByChunk};
-use crate::storing::{Mirrored, happen, has_put, mirrored_slot};
+use crate::led::Led;
+use crate::storing::{Mirrored, has_put, mirrored_slot, owner_of};
 use plan_check::Approved;
 use plan_past::renamed;
 use plan_runs::{Entry, Event};
-use plan_text::Step;
+use plan_text::{Plan, Source, Step};
 use ring_core::World;
 use ring_names::{Refusal, Slot};
 use std::alloc::Global;
 
-/// A history by another plan.
+/// A history by another plan, and the store to which it leads.
 #[derive(Drop)]
-pub(crate) struct Retold {
-    pub(crate) entries: Vec<Entry>,
-    /// By entry of the old history, how many of these tell it.
+pub(crate) struct Retold<'a> {
+    pub(crate) led: Led<'a>,
+    /// By entry of the old history, how many of the new one tell it.
     pub(crate) counts: Vec<u32>,
+    /// All puts, those whose keys lie together one after the other.
+    pub(crate) order: Vec<u32>,
 }
 
-// The stores of both plans, and what has been told so far.
+// The old plan, the store of the new one, and what has been told so far.
 #[derive(Drop)]
-struct Retelling<'a> {
+struct Retelling<'a, 'b> {
     alloc: Global,
     approved: &'a Approved,
     numbers: &'a [Option<u32>],
-    old: World<'a>,
-    new: World<'a>,
     puts: PutsByChunk,
-    told: Retold,
+    led: Led<'b>,
+    counts: Vec<u32>,
 }
 
-impl Retelling<'_> {
+// The slot that a copy fills, and what it reads.
+fn copy_at(plan: &Plan, step: u32) -> Option<(Slot, &Source)> {
+    if step >= plan.len() {
+        return None;
+    }
+    match plan.step(step) {
+        Step::Copy(slot, source) => Some((*slot, source)),
+        _ => None,
+    }
+}
+
+// Whether the owner of the slot stores the put.
+fn has_at_owner(store: &World, put: u32, slot: Slot) -> bool {
+    match owner_of(store, slot) {
+        Some(owner) => has_put(store, owner, put, slot.index),
+        None => false,
+    }
+}
+
+// Whether a copy that reads so gives the put.
+fn gives(store: &World, it: &Mirrored, source: &Source, put: u32) -> bool {
+    match source {
+        Source::Owner => has_put(store, it.owner, put, it.slot.index),
+        Source::Slots(indices) => indices
+            .as_slice()
+            .iter()
+            .any(|index| has_at_owner(store, put, it.sibling(*index))),
+    }
+}
+
+impl Retelling<'_, '_> {
     // The next entry.
-    fn tell(&mut self, entry: &Entry) -> Result<(), Refusal> {
+    fn tell(&mut self, entry: &Entry) -> Result<(), Refusal>
+        ensures { OnOk result (GoesFarther self.old.led self.new.led) }
+    {
         self.puts.note(self.approved.ring(), entry)?;
-        let _ = happen(&mut self.old, &entry.event)?;
-        let count = match renamed(self.numbers, &entry.event)? {
-            Some(event) => self.tell_by_itself(event)?,
-            None => self.tell_by_writes(&entry.event)?,
-        };
-        self.told.counts.push(count)?;
+        let count = self.tell_event(&entry.event)?;
+        self.counts.push(count)?;
         Ok(())
     }
 
-    // The event, by the new plan.
-    fn tell_by_itself(&mut self, event: Event) -> Result<u32, Refusal> {
-        let reply = happen(&mut self.new, &event)?;
-        self.told.entries.push(Entry { event, reply })?;
-        Ok(1)
+    // Tells the event by the new plan, or what stands in its place. Returns how many entries.
+    fn tell_event(&mut self, event: &Event) -> Result<u32, Refusal>
+        ensures { OnOk result (GoesFarther self.old.led self.new.led) }
+    {
+        match renamed(self.numbers, event)? {
+            Some(event) => {
+                self.led.happen(event)?;
+                Ok(1)
+            }
+            None => self.tell_by_writes(event),
+        }
     }
 
-    // What stands in the place of an event that is left out.
-    fn tell_by_writes(&mut self, event: &Event) -> Result<u32, Refusal> {
+    // Tells what stands in the place of an event that is left out. Returns how many entries.
+    fn tell_by_writes(&mut self, event: &Event) -> Result<u32, Refusal>
+        ensures { OnOk result (GoesFarther self.old.led self.new.led) }
+    {
         let Event::ChunkCopy(step, chunk) = event else {
             return Ok(0);
         };
-        let Some(slot) = self.slot_of_copy(*step) else {
+        let Some((slot, source)) = copy_at(self.approved.plan(), *step) else {
             return Ok(0);
         };
-        let Some(it) = mirrored_slot(&self.new, slot) else {
+        let Some(it) = mirrored_slot(&self.led.store, slot) else {
             return Ok(0);
         };
-        let given = self.given(&it, (slot.partition, *chunk))?;
-        if !given.iter().all(|put| it.can_write(&self.new, *put)) {
-            return Ok(0);
-        }
+        let given = self.given(&it, source, (slot.partition, *chunk))?;
         self.write_latest(&it, given.as_slice())
     }
 
-    // The slot that a copy of the old plan fills.
-    fn slot_of_copy(&self, step: u32) -> Option<Slot> {
-        let plan = self.approved.plan();
-        if step >= plan.len() {
-            return None;
-        }
-        match plan.step(step) {
-            Step::Copy(slot, _) => Some(*slot),
-            _ => None,
-        }
-    }
-
-    // The puts that the mirror has from the chunk, ascending: the old store's mirror stores them or ones that succeed them, and the new one's does not.
-    fn given(&self, it: &Mirrored, chunk: Chunk) -> Result<Vec<u32>, Refusal> {
+    // The puts that the chunk gives and the mirror does not have, ascending. None if the slot's owner lacks one, or is down.
+    fn given(&self, it: &Mirrored, source: &Source, chunk: Chunk) -> Result<Vec<u32>, Refusal> {
+        let store = &self.led.store;
         let mut given = Vec::new(self.alloc);
         for put in self.puts.of(chunk) {
-            if has_put(&self.old, it.mirror, *put, it.slot.index)
-                && !has_put(&self.new, it.mirror, *put, it.slot.index)
-            {
+            if gives(store, it, source, *put) && !has_put(store, it.mirror, *put, it.slot.index) {
+                if !it.can_write(store, *put) {
+                    return Ok(Vec::new(self.alloc));
+                }
                 given.push(*put)?;
             }
         }
         Ok(given)
     }
 
-    // Writes those of the puts that no other of them succeeds, and tells that in their order. A put has a greater number than those that it succeeds.
-    fn write_latest(&mut self, it: &Mirrored, given: &[u32]) -> Result<u32, Refusal> {
-        let mut written = Vec::new(self.alloc);
-        for put in given.iter().rev() {
-            if !has_put(&self.new, it.mirror, *put, it.slot.index) {
-                let event = Event::Write(*put, it.slot.index);
-                let reply = happen(&mut self.new, &event)?;
-                written.push(Entry { event, reply })?;
-            }
-        }
+    // Writes those of the puts that no other of them succeeds: a put has a greater number than those that it succeeds. Returns how many.
+    fn write_latest(&mut self, it: &Mirrored, given: &[u32]) -> Result<u32, Refusal>
+        ensures { OnOk result (GoesFarther self.old.led self.new.led) }
+    {
         let mut count = 0u32;
-        for turn in 0..written.len() {
-            let Some(entry) = written.pop() else {
-                break;
-            };
-            self.told.entries.push(entry)?;
-            count = count.saturating_add(1);
+        for put in given.iter().rev() {
+            if !has_put(&self.led.store, it.mirror, *put, it.slot.index) {
+                self.led.happen(Event::Write(*put, it.slot.index))?;
+                count = count.saturating_add(1);
+            }
         }
         Ok(count)
     }
 
     // All entries in order.
-    fn tell_all(&mut self, history: &[Entry]) -> Result<(), Refusal> {
+    fn tell_all(&mut self, history: &[Entry]) -> Result<(), Refusal>
+        ensures { OnOk result (GoesFarther self.old.led self.new.led) }
+    {
         for entry in history {
             self.tell(entry)?;
         }
@@ -124,29 +147,28 @@ impl Retelling<'_> {
     }
 }
 
-/// The old history by the new plan, whose steps have these numbers, by step of the old plan. In the place of a chunk that is left out there are writes of what the chunk
-/// gave, if the slot is still mirrored and its owner has all of it. `NoPlan`, or what the store of the new plan refuses, if the history is not a run of it. Costs one
-/// replay by each plan, and for each such chunk a look-up for each put of its keys.
-pub(crate) fn retell(
+/// Tells the old history by the new plan, whose steps have these numbers, by step of the old plan. A chunk that is left out becomes writes of what it gave, if the
+/// slot is still mirrored and its owner has all of it. Refused as the store of the new plan refuses an event. Costs one run of the new plan, and for each such chunk a
+/// look-up for each put of its keys.
+pub(crate) fn retell<'a>(
     alloc: Global,
     old: &Approved,
-    new: &Approved,
+    new: &'a Approved,
     numbers: &[Option<u32>],
     history: &[Entry],
-) -> Result<Retold, Refusal> {
+) -> Result<Retold<'a>, Refusal>
+    ensures { IfOk result (λ v. IsLed new.now.ring new.now.plan v.led) }
+{
     let mut it = Retelling {
         alloc,
         approved: old,
         numbers,
-        old: World::start(alloc, old)?,
-        new: World::start(alloc, new)?,
         puts: PutsByChunk::new(alloc),
-        told: Retold {
-            entries: Vec::new(alloc),
-            counts: Vec::new(alloc),
-        },
+        led: Led::start(alloc, new)?,
+        counts: Vec::new(alloc),
     };
     it.tell_all(history)?;
-    let Retelling { told, .. } = it;
-    Ok(told)
+    let order = it.puts.in_order()?;
+    let Retelling { led, counts, .. } = it;
+    Ok(Retold { led, counts, order })
 }

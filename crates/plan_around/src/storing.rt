@@ -1,10 +1,9 @@
 //! What is asked of a store in the middle of a history.
 
-ghost use Rattle.std.specs.Prelude.{◌≡◌, true, IsTrue, Some};
-ghost use Rattle.plan_text.specs.Steps.{is_slot};
+ghost use Rattle.std.specs.Prelude.{◌≡◌, true, IfOk, IsTrue, Some};
 ghost use Rattle.plan_text.specs.Valid.{is_ring_slot};
 ghost use Rattle.plan_runs.specs.World.{World as TheWorld, stage_now};
-ghost use Rattle.ring_core.specs.World.{ring_of, plan_of, Meets};
+ghost use Rattle.ring_core.specs.World.{ring_of, plan_of, Answers, Meets};
 
 use plan_runs::{Event, Reply};
 use ring_core::World;
@@ -41,13 +40,6 @@ pub(crate) fn mirror_of(store: &World, slot: Slot) -> Option<NodeId>
     }
 }
 
-/// Whether the two are one slot.
-pub(crate) fn is_slot(a: Slot, b: Slot) -> bool
-    ensures { result ≡ is_slot a b }
-{
-    a.partition == b.partition && a.index == b.index
-}
-
 /// Whether the mirror is that node, if there is one.
 pub(crate) fn is_node(mirror: Option<NodeId>, node: NodeId) -> bool
     ensures { IsTrue result → mirror ≡ Some node }
@@ -58,8 +50,20 @@ pub(crate) fn is_node(mirror: Option<NodeId>, node: NodeId) -> bool
     }
 }
 
-/// The event's reply in the store, which has changed by it.
-pub(crate) fn happen(store: &mut World, event: &Event) -> Result<Reply, Refusal> {
+/// The owner of the slot now, if the ring has the slot.
+pub(crate) fn owner_of(store: &World, slot: Slot) -> Option<NodeId> {
+    match store.nodes_of(slot) {
+        Some((owner, _)) => Some(owner),
+        None => None,
+    }
+}
+
+/// The event's reply in the store, which has changed by it. `NoPlan` after 4,294,967,295 puts or gets.
+pub(crate) fn happen(store: &mut World, event: &Event) -> Result<Reply, Refusal>
+    ensures answers { IfOk result (λ r. Answers store.old event.now r store.new) }
+    ensures ring { ring_of store.new ≡ ring_of store.old }
+    ensures plan { plan_of store.new ≡ plan_of store.old }
+{
     if store.puts() < u32::MAX && store.gets() < u32::MAX {
         return store.apply(event);
     }
@@ -72,6 +76,12 @@ pub(crate) fn has_put(store: &World, node: NodeId, put: u32, index: u32) -> bool
 }
 
 impl Mirrored {
+    /// The slot of that index of the same partition.
+    pub(crate) fn sibling(&self, index: u32) -> Slot {
+        let partition = self.slot.partition;
+        Slot { partition, index }
+    }
+
     /// Whether a write of the put changes the mirror at most: the owner has it, or one that succeeds it, and both are up.
     pub(crate) fn can_write(&self, store: &World, put: u32) -> bool {
         let index = self.slot.index;

@@ -392,8 +392,8 @@ Exit status: 0 printed, with `--exit-code` 4 if the plan has steps, 1 no plan, 2
 pub(crate) const AROUND_STREAMS: &str = "\
 Example: ringplan around --dead b begun.bundle -o on.bundle
 
-Input: a ring, a plan, its certificate and a history, which is a run of the plan that stopped or goes on. At least one of --dead, a layout that names a
-dead node, --leave and --rest.
+Input: a ring, a plan, its certificate and a history, which is a run of the plan that stopped or goes on. If a second bundle follows, without a history, its
+plan is the one to go on by. At least one of --dead, a layout that names a dead node, --leave and --rest.
 Standard output: the ring, another plan, its certificate and the history by that plan: `check` accepts the plan, and `replay` the history, which takes
 the place of the old one from here on. Steps that are done are in both plans, with other numbers: a program that does the plan hands out no step while
 it changes bundles, and finds what it holds of a step by the step's kind, partition, slot and node. Standard error: how many slots do not go where

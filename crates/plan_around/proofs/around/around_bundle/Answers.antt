@@ -13,7 +13,7 @@ use Rattle.plan_around.proofs.around.around_bundle.Goals as goal
 
 pub returns : goal.returns
 returns c =
-    let read = c.in_ok-read.read in
+    let read = c.in_ok-halted.halted.replay in
     let asked = c.asked_for-asked.result in
     let options = c.args.options.now in
     let names = ap (λ (xs : List (Vec ℕ)). map (λ name. name.items) xs) c.as_slice.ensures.value ∙ c.in_ok-names.ensures in
@@ -26,6 +26,15 @@ returns c =
     (subst (λ (left : List Slot). GoesAround asked.detour.extent asked.detour.back read.ring asked.dead.now left read.writers read.plan read.history.items text) c.asked_for-asked.ensures.left h)) in
     record {
       around = IfOk-weaker c.around_read.result _ _
-          (λ v is. record { parts = parts_of read; read = c.in_ok-read.ensures.read; dead = asked.dead.now; named = named; earlier = is.1; around = around v.items is.0 })
+          (λ v is. record {
+            parts = parts_of read;
+            chosen = c.in_ok-halted.halted.chosen;
+            read = c.in_ok-halted.ensures.read;
+            by = is.2;
+            dead = asked.dead.now;
+            named = named;
+            earlier = is.1;
+            around = around v.items is.0;
+          })
           c.around_read.ensures;
     }

@@ -1,4 +1,5 @@
-use Rattle.std.proofs.Common.{◌∙◌, sym}
+use Rattle.std.proofs.Common.{◌≡◌, ◌∙◌, Bool, List, subst, sym, true}
+use Rattle.plan_bundles.specs.Sized.{is_flagged}
 use Rattle.plan_around.specs.Ends.{hinted, owned, stays, touched}
 use Rattle.plan_around.proofs.ending.is_excused.Goals as goal
 
@@ -7,11 +8,12 @@ returns-then-has_dead_owner c = λ t w m. touched (owned (sym c.has_dead_owner.e
 
 pub returns-then-is_flagged : goal.returns-then-is_flagged
 returns-then-is_flagged c = λ t w m.
-    let kept = c.requires c.args.partition (sym c.is_flagged.ensures ∙ c.if-is_flagged.true) w m in
+    let flagged = subst (λ (marks : List Bool). is_flagged marks c.args.partition ≡ true) c.as_slice.ensures.value (sym c.is_flagged.ensures ∙ c.if-is_flagged.true) in
+    let kept = c.requires.hinted c.args.partition flagged w m in
     touched (hinted kept.0 kept.1 kept.2 kept.3)
 
 pub returns-then-has_dead_targets : goal.returns-then-has_dead_targets
 returns-then-has_dead_targets c = λ t w m. touched (c.has_dead_targets.ensures c.if-has_dead_targets.true c.args.it.now.ring.now w)
 
 pub returns : goal.returns
-returns c = λ t w m. stays (sym c.is_left.ensures ∙ t)
+returns c = λ t w m. stays (c.requires.left c.args.partition (subst (λ (marks : List Bool). is_flagged marks c.args.partition ≡ true) c.as_slice-2.ensures.value (sym c.is_flagged-2.ensures ∙ t)))

@@ -1,13 +1,17 @@
-use Rattle.std.proofs.Common.{◌∙◌, Some, ap}
-use Rattle.plan_text.specs.declared.step.Step.{Step}
-use Rattle.plan_stage.proofs.Places.{step_at-is}
+use Rattle.std.proofs.Common.{◌≡◌, ℕ, List, Some, refl, subst, sym}
+use Rattle.std.specs.Prelude.{slice_get}
+use Rattle.std.proofs.lemmas.Bool.{ltb-true}
+use Rattle.std.proofs.lemmas.Option.{slice_get_read}
 use Rattle.plan_around.proofs.ending.is_given_at.Goals as goal
 
-pub returns : goal.returns
-returns c = λ t w m.
-    let copy = c.is_given_by.ensures.same t in (
-      c.args.number,
-      copy.0,
-      step_at-is c.args.plan.now c.args.number c.step.result.now c.step.ensures.value ∙ ap (λ (s : Step). Some s) copy.1,
-      c.is_given_by.ensures.over t w m,
+pub returns-then-is_given_step : goal.returns-then-is_given_step
+returns-then-is_given_step c = λ t w m.
+    let n = c.in-Some.number.now in
+    let at = c.in-Some.ensures.lookup in
+    let here = slice_get_read c.slot_steps.result.now _ c.args.place n refl (ltb-true _ _ (sym at.0)) at.1 in (
+      c.args.place,
+      n,
+      subst (λ (xs : List ℕ). slice_get xs c.args.place ≡ Some n) c.slot_steps.ensures.value here,
+      c.is_given_step.ensures c.if-is_given_step.true w m,
+      c.are_to_come.ensures t w m,
     )

@@ -1,0 +1,223 @@
+//! What became of a plan's steps in another plan that was chosen to go on by.
+
+use crate::around::Task;
+use crate::entries::Begun;
+use helpers::{at, is_set, set};
+use plan_runs::Back;
+use plan_text::{Plan, Source, Step};
+use ring_names::{Refusal, Slot};
+use std::alloc::Global;
+use std::collections::{BTreeMap, BTreeSet};
+
+/// What the steps of the task's plan are called in a chosen one.
+#[derive(Drop)]
+pub struct Kept {
+    /// By step of the chosen plan, its number in the task's.
+    pub olds: Vec<u32>,
+    /// By step of the task's plan, the number that its entries get. None for a step whose entries go, and for one that has not begun.
+    pub numbers: Vec<Option<u32>>,
+}
+
+// A step as a key: its kind, its slot, its node and its sources.
+type Key = (u32, u32, u32, u32, u32);
+
+// The sources of a copy, as bits.
+fn source_bits(source: &Source) -> u32 {
+    match source {
+        Source::Owner => 0,
+        Source::Slots(indices) => {
+            let mut bits = 256u32;
+            for index in indices.as_slice() {
+                if *index < 8 {
+                    bits |= 1 << *index;
+                }
+            }
+            bits
+        }
+    }
+}
+
+// The key of a step that is about a slot.
+fn slot_key(kind: u32, slot: Slot, node: u32, bits: u32) -> Key {
+    (kind, slot.partition, slot.index, node, bits)
+}
+
+// The key of a step.
+fn key_of(step: &Step) -> Key {
+    match step {
+        Step::Join(node) => (0, 0, 0, node.0, 0),
+        Step::Mirror(slot, node) => slot_key(1, *slot, node.0, 0),
+        Step::Copy(slot, source) => slot_key(2, *slot, 0, source_bits(source)),
+        Step::Switch(slot) => slot_key(3, *slot, 0, 0),
+        Step::Drop(slot, node) => slot_key(4, *slot, node.0, 0),
+        Step::Retire(node) => (5, 0, 0, node.0, 0),
+    }
+}
+
+// Steps of a plan by their keys, the last one first.
+#[derive(Drop)]
+struct ByKey {
+    alloc: Global,
+    steps: BTreeMap<Key, Vec<u32>>,
+}
+
+impl ByKey {
+    // The steps of the plan.
+    fn of(alloc: Global, plan: &Plan) -> Result<ByKey, Refusal> {
+        let mut found = ByKey {
+            alloc,
+            steps: BTreeMap::new(alloc),
+        };
+        let count = plan.len();
+        for turn in 0..count {
+            let step = count.saturating_sub(1).saturating_sub(turn);
+            if step < count {
+                found.add(key_of(plan.step(step)), step)?;
+            }
+        }
+        Ok(found)
+    }
+
+    // Adds a step.
+    fn add(&mut self, key: Key, step: u32) -> Result<(), Refusal> {
+        if let Some(steps) = self.steps.get_mut(&key) {
+            steps.push(step)?;
+            return Ok(());
+        }
+        let mut steps = Vec::new(self.alloc);
+        steps.push(step)?;
+        self.steps.insert(key, steps)?;
+        Ok(())
+    }
+
+    // Takes the first step that is left of that key.
+    fn take(&mut self, key: Key) -> Option<u32> {
+        match self.steps.get_mut(&key) {
+            Some(steps) => steps.pop(),
+            None => None,
+        }
+    }
+}
+
+// The slots whose mirrors cannot keep what they have.
+fn slots_ahead(task: &Task) -> Result<BTreeSet<Slot>, Refusal> {
+    let mut ahead = BTreeSet::new(task.alloc);
+    for slot in task.ahead {
+        ahead.insert(*slot)?;
+    }
+    Ok(ahead)
+}
+
+// Takes the numbers of mirrors away that have puts that their slots' owners do not have, if their copies have begun and the chosen plan has others in their place.
+fn take_back(task: &Task, chosen: &Plan, kept: &mut Kept, begun: &[bool]) -> Result<(), Refusal> {
+    let ahead = slots_ahead(task)?;
+    let fresh = kept.fresh_copies(task.alloc, chosen)?;
+    let mut mirrors = BTreeMap::new(task.alloc);
+    for step in 0..task.plan.len() {
+        match task.plan.step(step) {
+            Step::Mirror(slot, _) => {
+                mirrors.insert(*slot, step)?;
+            }
+            Step::Copy(slot, _) => {
+                let is_gone = is_set(begun, step) && !kept.has_number(step);
+                if is_gone && ahead.contains(slot) && fresh.contains(slot) {
+                    kept.forget(mirrors.get(slot).copied());
+                }
+            }
+            _ => {}
+        }
+    }
+    Ok(())
+}
+
+impl Kept {
+    // The slots of copies of the chosen plan that have no number in the task's.
+    fn fresh_copies(&self, alloc: Global, chosen: &Plan) -> Result<BTreeSet<Slot>, Refusal> {
+        let mut fresh = BTreeSet::new(alloc);
+        for step in 0..chosen.len() {
+            if let Step::Copy(slot, _) = chosen.step(step) {
+                if at(self.olds.as_slice(), step as usize) == u32::MAX {
+                    fresh.insert(*slot)?;
+                }
+            }
+        }
+        Ok(fresh)
+    }
+
+    // Whether the step of the task's plan has a number.
+    fn has_number(&self, step: u32) -> bool {
+        matches!(self.numbers.get(step as usize), Some(Some(_)))
+    }
+
+    // Takes the number of a step away, if there is one.
+    fn forget(&mut self, step: Option<u32>) {
+        if let Some(step) = step {
+            let place = step as usize;
+            if place < self.numbers.len() {
+                self.numbers[place] = None;
+            }
+        }
+    }
+}
+
+// What becomes of steps, one after the other.
+#[derive(Drop)]
+struct Keeping {
+    left: ByKey,
+    // By slot, whether the mirror that was set last has a number.
+    mirrors: BTreeMap<Slot, bool>,
+    kept: Kept,
+}
+
+impl Keeping {
+    // The number of a step that has begun, if it has one. A copy has none if its mirror has none.
+    fn number_of(&mut self, step: &Step) -> Result<Option<u32>, Refusal> {
+        if let Step::Copy(slot, _) = step {
+            if self.mirrors.get(slot).copied() == Some(false) {
+                return Ok(None);
+            }
+        }
+        let number = self.left.take(key_of(step));
+        if let Step::Mirror(slot, _) = step {
+            self.mirrors.insert(*slot, number.is_some())?;
+        }
+        Ok(number)
+    }
+
+    // Notes the step with its number.
+    fn note(&mut self, step: u32, number: Option<u32>) -> Result<(), Refusal> {
+        if let Some(number) = number {
+            set(self.kept.olds.as_mut_slice(), number as usize, step);
+        }
+        self.kept.numbers.push(number)?;
+        Ok(())
+    }
+}
+
+/// What the steps of the task's plan are called in the chosen plan: a step that has begun has the number of the first equal step that no earlier one has. If mirrors may be
+/// taken back, those are that are ahead of their slots' owners, and whose copies the chosen plan changes. Costs a pass over both plans and over the history, and sorting.
+pub fn find_kept(task: &Task, chosen: &Plan) -> Result<Kept, Refusal> {
+    let Begun { begun, .. } = Begun::of(task)?;
+    let mut it = Keeping {
+        left: ByKey::of(task.alloc, chosen)?,
+        mirrors: BTreeMap::new(task.alloc),
+        kept: Kept {
+            olds: vec![in task.alloc; u32::MAX; chosen.len() as usize]?,
+            numbers: Vec::new(task.alloc),
+        },
+    };
+    for step in 0..task.plan.len() {
+        let number = if is_set(begun.as_slice(), step) {
+            it.number_of(task.plan.step(step))?
+        } else {
+            None
+        };
+        it.note(step, number)?;
+    }
+    let Keeping { kept, .. } = it;
+    let mut kept = kept;
+    if task.back == Back::Allowed {
+        take_back(task, chosen, &mut kept, begun.as_slice())?;
+    }
+    Ok(kept)
+}

@@ -1,0 +1,67 @@
+//! Which mirrors may be taken back.
+
+ghost use Rattle.std.specs.Prelude.{◌≡◌, true, IsTrue, IfOk, OnOk};
+ghost use Rattle.plan_around.specs.Alike.{may_return, AreNamed};
+
+use plan_past::SlotSet;
+use plan_runs::Back;
+use ring_names::{Refusal, Slot};
+use std::alloc::Global;
+
+/// Whether mirrors may be taken back, and the slots that stay with their owners, whose mirrors may be in any case.
+#[derive(Drop)]
+pub(crate) struct Returns<'a> {
+    pub(crate) back: Back,
+    pub(crate) left: &'a [Slot],
+    staying: SlotSet,
+    ghost listed: { AreNamed staying left.now },
+}
+
+// Adds the slot at that place, if there is one.
+fn add_at(set: &mut SlotSet, left: &[Slot], place: usize) -> Result<(), Refusal>
+    requires { AreNamed set.old left.now }
+    ensures { OnOk result (AreNamed set.new left.now) }
+{
+    match left.get(place) {
+        Some(slot) => {
+            set.add(*slot)?;
+            Ok(())
+        }
+        None => Ok(()),
+    }
+}
+
+// The slots as a set.
+fn set_of(alloc: Global, left: &[Slot]) -> Result<SlotSet, Refusal>
+    ensures { IfOk result (λ set. AreNamed set left.now) }
+{
+    let mut set = SlotSet::new(alloc);
+    for place in 0..left.len() {
+        add_at(&mut set, left, place)?;
+    }
+    Ok(set)
+}
+
+impl<'a> Returns<'a> {
+    /// Mirrors may be taken back so, and those of these slots in any case.
+    pub(crate) fn of(alloc: Global, back: Back, left: &'a [Slot]) -> Result<Returns<'a>, Refusal>
+        ensures { IfOk result (λ v. (v.back ≡ back) × (v.left.now ≡ left.now)) }
+    {
+        let staying = set_of(alloc, left)?;
+        Ok(Returns {
+            back,
+            left,
+            staying,
+        })
+    }
+
+    /// Whether a mirror of the slot may be taken back.
+    pub(crate) fn allow(&self, slot: Slot) -> bool
+        ensures { IsTrue result → may_return self.now.back self.now.left.now slot ≡ true }
+    {
+        match self.back {
+            Back::Allowed => true,
+            Back::Never => self.staying.has(slot),
+        }
+    }
+}
