@@ -59,16 +59,21 @@ fn wide_name(bytes: &[u8]) -> Option<&'static [u8]> {
     }
 }
 
-// Says that the input has two bytes a letter, and whether it has.
-fn tell_wide(page: Page, said: &mut Said, called: &[u8]) -> bool {
-    let Some(name) = wide_name(page.bytes) else {
-        return false;
-    };
+// The title of what has two bytes a letter.
+fn title_wide<'a>(said: &mut Said, called: &'a [u8], name: &'a [u8]) {
     said.title_with(
         b"@ is @, and a text here has one byte a letter",
         &[called, name],
         &[],
     );
+}
+
+// Says that what is called so has two bytes a letter, and whether it has.
+fn tell_wide(page: Page, said: &mut Said, called: &[u8]) -> bool {
+    let Some(name) = wide_name(page.bytes) else {
+        return false;
+    };
+    title_wide(said, called, name);
     said.note_with(
         b"`iconv -f @ -t UTF-8 FILE > MENDED` makes such a text of it.",
         &[name],
