@@ -141,7 +141,7 @@ fn speaks_of_texts(rt: HostRuntime) {
         "plan 1\nend\ncert 1\nend\nringplan: no racks are known. Name them in a layout (--layout), or give the byte before them (--racks-behind C)\nringplan: the plan has no steps: the ring is as wanted already\n"
     );
     let around = behind_ring!(
-        "plan 1\nend\ncert 1\nend\nhistory 1\nput w1 k x31 = put 0\nend\nringplan: no racks are known. Name them in a layout (--layout), or give the byte before them (--racks-behind C)\n"
+        "plan 1\nend\ncert 1\nend\nhistory 1\nput w1 k x31 = put 0\nend\nringplan: no racks are known. Name them in a layout (--layout), or give the byte before them (--racks-behind C)\n1 slot stays at a (1), which is dead; move such slots on by the next change\n"
     );
     let (exit, dead, rounds) = ("--exit-code", "--dead\0a\0", "--rounds\0001\0");
     says(&rt, "goal", exit, CHANGE, &mut [0; 251], (0, 175, planned));
@@ -150,8 +150,8 @@ fn speaks_of_texts(rt: HostRuntime) {
         "around",
         dead,
         HISTORY,
-        &mut [0; 223],
-        (0, 112, around),
+        &mut [0; 299],
+        (0, 188, around),
     );
     says(&rt, "windows", rounds, BUNDLE, &mut [0; 76], (0, 0, BUNDLE));
     says(&rt, "after", "", BUNDLE, &mut [0; 54], (0, 0, ring));
