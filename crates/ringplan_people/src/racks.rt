@@ -128,6 +128,11 @@ fn push_unracked(
     Ok(true)
 }
 
+// Adds the words with two names.
+fn fill_two<'a>(out: &mut Words, words: &[u8], first: &'a [u8], second: &'a [u8]) {
+    out.fill(words, &[first, second], &[]);
+}
+
 // Says that no rack follows the separator in the name of a member.
 fn push_unparted(out: &mut Words, name: &[u8], byte: u8) {
     let separator = [if byte.is_ascii_graphic() { byte } else { b'?' }];
@@ -136,7 +141,7 @@ fn push_unparted(out: &mut Words, name: &[u8], byte: u8) {
     } else {
         b"refused: there is no `@` in the name of the node @, and each member needs a rack\n"
     };
-    out.fill(words, &[&separator, name], &[]);
+    fill_two(out, words, &separator, name);
     out.text(b"  `--racks-behind none` plans without racks, and a layout names them.\n");
 }
 
