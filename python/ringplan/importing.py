@@ -1,11 +1,12 @@
 """Makes a ring text of what a store prints of its own ring: `ringplan-import SOURCE [FILE]`.
 
     describering   what `nodetool describering KEYSPACE` of Cassandra prints: ranges between tokens, each with its endpoints
-    tablets        rows of `system.tablets` of ScyllaDB as JSON, one a line or in a list: `last_token` and `replicas`, pairs of a host and a shard
+    tablets        rows of `system.tablets` of ScyllaDB as JSON, one a line or in a list, or as `cqlsh` prints them: `last_token` and `replicas`, pairs of a host and a shard
+    riak           what `riak_core_ring:all_owners` of Riak lists as JSON: `index` and `node` of each virtual node; slots are the owners from an index on (--slots)
     csv            lines `partition,node,rack`, a line for each slot, in the order of its slots
 
 A node's name in the ring is its name in the source, in lower case and without the dashes of a UUID, with `.rack` after it if the source names the rack. If the number of ranges is not a power of
-two, the first rows are repeated, and standard error says how many; the repeats have no keys. `--layout-to FILE` writes a layout for `ringplan`: the rack of each node, and size 0 for each repeat. The
+two, the first rows are repeated, and standard error says how many; the repeats have no keys. `ringplan` reads the ring before it is printed. `--layout-to FILE` writes a layout for `ringplan`: the rack of each node, and size 0 for each repeat. The
 samples of the tests are written by hand from the public documentation.
 """
 
@@ -14,11 +15,14 @@ from __future__ import annotations
 import argparse
 import csv
 import json
+import os
 import pathlib
 import re
 import sys
 from collections.abc import Callable, Iterable, Iterator
+from typing import Any
 
+from ringplan import programs
 from ringplan.texts import NAME, Ring, RingNode
 
 
@@ -33,8 +37,17 @@ RANGE = re.compile(r"TokenRange\(start_token:(-?\d+), end_token:(-?\d+), endpoin
 DETAILS = re.compile(r"EndpointDetails\(host:([^,]+), datacenter:([^,]*), rack:([^)]*)\)")
 
 
-def describering(lines: Iterable[str]) -> Rows:
-    """Ranges in the order of their last tokens."""
+def in_order(found: Iterable[tuple[int, list[tuple[str, str]]]]) -> Rows:
+    """Ranges in the order of their last tokens, of which no two are equal."""
+    rows = dict[int, list[tuple[str, str]]]()
+    for token, row in found:
+        if token in rows:
+            raise BadSource(f"two ranges end with the token {token}: give the ranges of one table")
+        rows[token] = row
+    return [rows[token] for token in sorted(rows)]
+
+
+def describering(lines: Iterable[str], _: int) -> Rows:
     found = list[tuple[int, list[tuple[str, str]]]]()
     for number, line in enumerate(lines, 1):
         if "TokenRange(" not in line:
@@ -45,21 +58,37 @@ def describering(lines: Iterable[str]) -> Rows:
         racks = {host.strip(): rack for host, _, rack in DETAILS.findall(line)}
         hosts = [host.strip() for host in match[3].split(",") if host.strip()]
         found.append((int(match[2]), [(host, racks.get(host, "")) for host in hosts]))
-    return [row for _, row in sorted(found, key=lambda it: it[0])]
+    return in_order(found)
 
 
-def tablets(lines: Iterable[str]) -> Rows:
-    """Tablets in the order of their last tokens."""
+def rows_of(lines: Iterable[str]) -> list[dict[str, Any]]:
+    """Objects of JSON: a list of them, or one a line, among other lines as `cqlsh` prints them."""
     text = "".join(lines)
-    try:
-        rows = json.loads(text) if text.lstrip().startswith("[") else [json.loads(line) for line in text.splitlines() if line.strip()]
-        found = [(int(row["last_token"]), [(str(host), "") for host, _ in row["replicas"]]) for row in rows]
-    except (ValueError, KeyError, TypeError) as error:
-        raise BadSource(f"no tablets: {error!r}") from error
-    return [row for _, row in sorted(found, key=lambda it: it[0])]
+    rows: list[dict[str, Any]] = json.loads(text) if text.lstrip().startswith("[{") else [json.loads(line) for line in text.splitlines() if line.lstrip().startswith("{")]
+    if not all(isinstance(row, dict) for row in rows):
+        raise BadSource("a row is not an object of JSON")
+    return rows
 
 
-def from_csv(lines: Iterable[str]) -> Rows:
+def tablets(lines: Iterable[str], _: int) -> Rows:
+    rows = rows_of(lines)
+    if len(tables := {str(row.get("table_id", "")) for row in rows}) > 1:
+        raise BadSource(f"rows of {len(tables)} tables: give those of one table_id")
+    found = list[tuple[int, list[tuple[str, str]]]]()
+    for row in rows:
+        if not all(isinstance(pair, list) and len(pair) == 2 and isinstance(pair[0], str) for pair in row["replicas"]):
+            raise BadSource("replicas are pairs of a host and a shard")
+        found.append((int(str(row["last_token"])), [(host, "") for host, _ in row["replicas"]]))
+    return in_order(found)
+
+
+def riak(lines: Iterable[str], slots: int) -> Rows:
+    """Partition p belongs to the virtual nodes from p on, as many as a key has replicas."""
+    owners = in_order((int(str(row["index"])), [(str(row["node"]), "")]) for row in rows_of(lines))
+    return [[owners[(start + slot) % len(owners)][0] for slot in range(slots)] for start in range(len(owners))]
+
+
+def from_csv(lines: Iterable[str], _: int) -> Rows:
     """Partitions in ascending order."""
     found = dict[int, list[tuple[str, str]]]()
     for number, fields in enumerate(csv.reader(lines), 1):
@@ -68,10 +97,12 @@ def from_csv(lines: Iterable[str]) -> Rows:
         if len(fields) not in (2, 3) or not fields[0].strip().isdecimal():
             raise BadSource(f"line {number}: a line is `partition,node,rack`")
         found.setdefault(int(fields[0]), []).append((fields[1].strip(), fields[2].strip() if len(fields) == 3 else ""))
+    if missing := sorted(set(range(len(found))) - set(found)):
+        raise BadSource(f"partition {missing[0]} is missing")
     return [found[partition] for partition in sorted(found)]
 
 
-SOURCES: dict[str, Callable[[Iterable[str]], Rows]] = {"describering": describering, "tablets": tablets, "csv": from_csv}
+SOURCES: dict[str, Callable[[Iterable[str], int], Rows]] = {"describering": describering, "tablets": tablets, "riak": riak, "csv": from_csv}
 
 
 def name_of(node: str, rack: str) -> str:
@@ -79,7 +110,8 @@ def name_of(node: str, rack: str) -> str:
     name = node.lower()
     if re.fullmatch(r"[0-9a-f]{8}(-[0-9a-f]{4}){3}-[0-9a-f]{12}", name):
         name = name.replace("-", "")
-    name = name.lstrip("/") + (f".{rack.lower()}" if rack else "")
+    # Riak's nodes are `riak@HOST`.
+    name = name.lstrip("/").replace("@", ":") + (f".{rack.lower()}" if rack else "")
     if not NAME.fullmatch(name):
         raise BadSource(f"{node!r} has no name of at most 32 bytes of a-z0-9_.:- ({name!r})")
     return name
@@ -91,6 +123,13 @@ def ring_of(rows: Rows, quorum: tuple[int, int], allowance: int, joining: list[s
     sizes = {len(row) for row in named}
     if len(sizes) != 1:
         raise BadSource("each range must have as many nodes as the others" if named else "there are no ranges")
+    for number, row in enumerate(named):
+        if len(set(row)) < len(row):
+            raise BadSource(f"range {number} has a node twice: {' '.join(row)}")
+    nodes_of = dict[str, tuple[str, str]]()
+    for slot in (slot for slots in rows for slot in slots):
+        if nodes_of.setdefault(name_of(*slot), slot) != slot:
+            raise BadSource(f"{slot[0]!r} and {nodes_of[name_of(*slot)][0]!r} have the same name {name_of(*slot)}")
     whole = 1 << (len(named) - 1).bit_length()
     nodes = sorted({node for row in named for node in row})
     declared = [RingNode(node, (allowance,), True) for node in nodes] + [RingNode(node, (allowance,), False) for node in joining]
@@ -130,28 +169,45 @@ def lines_of(path: str) -> Iterator[str]:
         yield from it
 
 
+def demand_right(ring: Ring) -> None:
+    """Lets `ringplan` read the ring, which says in words what is wrong with it."""
+    answer = programs.ask("show", "".join(f"{line}\n" for line in ring.lines()))
+    if answer.status:
+        said = [line for line in answer.errors.splitlines() if line.startswith("refused: ")]
+        raise BadSource(f"the ring is refused: {(said or [answer.first()])[0].removeprefix('refused: ')}")
+
+
 def main() -> int:
     parser = argparse.ArgumentParser(prog="ringplan-import", description=(__doc__ or "").split("\n")[0])
     parser.add_argument("source", choices=SOURCES, help="what the file is")
     parser.add_argument("file", nargs="?", default="-", help="the file; standard input without it")
     parser.add_argument("--read", type=int, default=2, metavar="R", help="slots that answer a read")
     parser.add_argument("--write", type=int, default=2, metavar="W", help="slots that take a write")
+    parser.add_argument("--slots", type=int, default=3, metavar="N", help="of riak: the replicas of a key")
     parser.add_argument("--allowance", type=int, default=2, metavar="K", help="transfers that each node may have open at once")
     parser.add_argument("--join", action="append", default=[], metavar="NAME", help="a node that is declared out, so that a change can let it join")
     parser.add_argument("--layout-to", metavar="FILE", help="write a layout too: the racks that the source names, and size 0 for each range that only fills up")
     words = parser.parse_intermixed_args()
     try:
-        rows = SOURCES[words.source](lines_of(words.file))
+        rows = SOURCES[words.source](lines_of(words.file), words.slots)
         ring = ring_of(rows, (words.read, words.write), words.allowance, words.join)
+        demand_right(ring)
         if words.layout_to is not None:
             pathlib.Path(words.layout_to).write_text("".join(f"{line}\n" for line in layout_lines(rows, ring, words.join)))
-    except (BadSource, OSError) as error:
+    except (BadSource, OSError, programs.NoProgram) as error:
         note(str(error))
+        return 2
+    except (ValueError, KeyError, TypeError, OverflowError, RecursionError, csv.Error) as error:
+        note(f"not what {words.source} is: {str(error).splitlines()[0][:200]}" if str(error) else f"not what {words.source} is")
         return 2
     if (filled := len(ring.rows) - len(rows)) > 0:
         advice = "" if words.layout_to is not None else "; --layout-to FILE writes their sizes"
         note(f"{len(rows)} ranges are filled up to {len(ring.rows)} partitions by {filled} without keys{advice}")
-    print(*ring.lines(), sep="\n")
+    try:
+        print(*ring.lines(), sep="\n", flush=True)
+    except BrokenPipeError:
+        os.dup2(os.open(os.devnull, os.O_WRONLY), 1)
+        return 2
     return 0
 
 
