@@ -64,12 +64,12 @@ def free_port() -> int:
 
 
 def certify(folder: pathlib.Path) -> None:
-    """An authority, and a certificate of it for 127.0.0.1, which servers and clients may use."""
+    """An authority, and a certificate of it for 127.0.0.1, which servers and clients may use. It has no common name: etcd takes none by its gateway if it has users."""
     (folder / "extra").write_text("subjectAltName=IP:127.0.0.1\nextendedKeyUsage=serverAuth,clientAuth\n")
     new = ["openssl", "req", "-newkey", "rsa:2048", "-nodes", "-days", "2"]
     for words in (
         [*new, "-x509", "-keyout", "authority.pem", "-out", "ca.pem", "-subj", "/CN=authority"],
-        [*new, "-keyout", "key.pem", "-out", "request.pem", "-subj", "/CN=127.0.0.1"],
+        [*new, "-keyout", "key.pem", "-out", "request.pem", "-subj", "/O=ringplan"],
         "openssl x509 -req -in request.pem -CA ca.pem -CAkey authority.pem -CAcreateserial -out cert.pem -days 2 -extfile extra".split(),
     ):
         subprocess.run(words, cwd=folder, check=True, capture_output=True)

@@ -127,6 +127,8 @@ class Etcd:
     def send(self, path: str, body: Json, timeout: float) -> tuple[int, Json]:
         url = f"http{'s' * self.access.is_tls}://{self.access.members[self.member]}{path}"
         answer = self.session().post(url, data=json.dumps(body), timeout=timeout, headers={"Authorization": self.token} if self.token else {})
+        if answer.status_code == 400 and not answer.text.startswith("{"):
+            raise Refused(0, answer.text.strip()[:200])
         reply: Json = answer.json()
         if not isinstance(reply, dict):
             raise ValueError("the answer is not etcd's")
@@ -186,7 +188,8 @@ class Etcd:
         self.silent = since = self.silent or now
         if now + pause > since + self.patience:
             # Of errors in one another the innermost one says what is wrong.
-            raise Stop(Status.FAULT, f"etcd at {self.access} does not answer: {str(error).rsplit(': ', 1)[-1].rstrip(')')[:200]}") from error
+            inner = str(error).rsplit(": ", 1)[-1].rstrip(")'\"")
+            raise Stop(Status.FAULT, f"etcd at {self.access} does not answer: {inner[:200]}") from error
         if now > since + TOLD and not self.is_told:
             self.is_told = True
             print(f"etcd at {self.access} does not answer since {time.strftime('%H:%M:%S', time.localtime(time.time() - now + since))}", file=sys.stderr, flush=True)
