@@ -1,8 +1,9 @@
 """The command line of the runner.
 
-    ringplan-run apply BUNDLE --do FOLDER [--board FILE|etcd://HOST:PORT/NAME] [--lease SECONDS] [--workers K] [--give-up N] [--serve PORT]
-    ringplan-run around [--dead NODE].. [--leave P.I].. [--rest] [--back] [--layout FILE]  [--board FILE|etcd://HOST:PORT/NAME] [--lease SECONDS]
-    ringplan-run status | history | judge | retry STEP  [--board FILE|etcd://HOST:PORT/NAME]
+    ringplan-run apply BUNDLE --do FOLDER [--board FILE|etcd://HOST:PORT/NAME] [--new] [--workers K] [--give-up N] [--layout FILE] [--serve PORT]
+    ringplan-run around [--dead NODE].. [--leave P.I].. [--rest] [--back] [--layout FILE] | rest | leave P.I  [--board BOARD]
+    ringplan-run status | history | judge | bundle | retry STEP | limit K [--node NODE=K] | forget  [--board BOARD]
+    ringplan-run boards
 """
 
 from __future__ import annotations
@@ -20,10 +21,11 @@ import sys
 import time
 
 from ringplan import __version__, programs, texts
+from ringplan.run import report
 from ringplan.run.bar import shown
 from ringplan.run.board import LOOK, Board, Change, Name, NoBoard, State, Status, Stop
 from ringplan.run.hooks import Hooks
-from ringplan.run.page import Page, begun, told
+from ringplan.run.page import Page
 from ringplan.run.runner import SIGNALS, Options, Runner, judge, read_steps
 from ringplan.run.sqlite import SqliteBoard
 
@@ -109,20 +111,35 @@ def apply(words: argparse.Namespace) -> Status:
     Hooks(words.do, "").demand(sorted({step.do for step in steps}))
     # Before any thread begins: one that does not block a signal could take it.
     signal.pthread_sigmask(signal.SIG_BLOCK, SIGNALS)
+    sizes = sizes_of(words.layout, bundle)
     board = make_board(words, bundle)
     board.begin(bundle, names)
+    if sizes:
+        board.set("sizes", sizes)
     hooks = Hooks(words.do, board.locks, dict(words.timeout))
     runner = Runner(board, hooks, Options(words.workers, words.give_up, words.pause, words.longest_pause, words.only_between, words.on_event))
 
     try:
         if words.serve is not None:
-            print(f"the page is at {Page(board, words.serve).address}", file=sys.stderr, flush=True)
+            page = Page(open_board(words, is_read=True), runner, words.listen, words.serve)
+            print(f"the page is at {page.address}", file=sys.stderr, flush=True)
         with shown(runner):
             status = runner.run()
     finally:
         board.end(not hooks.is_lost)
     print(f"{len(runner.done)} of {len(runner.steps)} steps are done, and the judge says yes")
     return status
+
+
+def sizes_of(layout: str | None, bundle: str) -> dict[str, int]:
+    """How much each partition stores, by a layout that `ringplan` reads."""
+    if layout is None:
+        return {}
+    answer = programs.ask("show", bundle, f"--layout={layout}")
+    if answer.status:
+        raise Stop(Status.FAULT, answer.errors.rstrip())
+    lines = pathlib.Path(layout).read_text(encoding="utf-8")
+    return {partition: int(size) for partition, size in re.findall(r"^ *size +([0-9]+) +([0-9]+) *$", lines, re.M)}
 
 
 def around(words: argparse.Namespace) -> Status:
@@ -170,16 +187,17 @@ def is_busy(board: Board, hooks: Hooks, state: State) -> bool:
 def status(words: argparse.Namespace) -> Status:
     board = open_board(words, is_read=True)
     (_, states), is_held = board.states(), board.is_held()
-    done = sum(state.is_done for state in states)
+    done, now = sum(state.is_done for state in states), time.time()
+    pace = report.pace_of(states, board.settings("sizes"), now)
     if words.format == "json":
-        left = [{"step": state.number, "name": str(state.name), "worker": state.worker, "since": state.since, **vars(state.tries)} for state in begun(states)]
-        print(json.dumps({"steps": len(states), "done": done, "is_held": is_held, "begun": left}))
+        print(json.dumps(report.members(states, pace, is_held)))
     else:
-        print(f"{done} of {len(states)} steps are done; {'a' if is_held else 'no'} runner works with the board")
-        for state in begun(states):
-            print(state.number, f"{state.name}:", told(state, is_held))
-            for line in state.tries.lines.splitlines():
-                print(f"    | {line}")
+        lines = [f"{done} of {len(states)} steps are done; {'a' if is_held else 'no'} runner works with the board"]
+        lines += [pace.words(now)] if done < len(states) and pace.sizes else []
+        for state in report.begun(states):
+            lines += [f"{state.number} {state.name}: {report.told(state, is_held)}", *(f"    | {line}" for line in state.tries.lines.splitlines())]
+            lines += [f"    {report.advice(state)}"] if state.tries.is_given_up else []
+        print(*lines, sep="\n")
     if any(state.tries.is_given_up and not state.is_done for state in states):
         return Status.GIVEN_UP
     return Status.STOPPED if done < len(states) and not is_held else Status.DONE
@@ -198,7 +216,7 @@ def print_bundle(words: argparse.Namespace) -> Status:
 
 def limit(words: argparse.Namespace) -> Status:
     limits = dict(words.node) | ({} if words.count is None else {"": words.count})
-    open_board(words).limit(limits)
+    open_board(words).set("limits", limits)
     return Status.DONE
 
 
@@ -324,7 +342,9 @@ def command_line() -> argparse.ArgumentParser:
             command.add_argument("--only-between", type=times, metavar="HH:MM-HH:MM", help="lets copies begin only at this time of day")
             command.add_argument("--on-event", metavar="COMMAND", help="a program that gets a line of JSON if a step is given up, the judge says no, or all is done")
             command.add_argument("--timeout", type=timeout, action="append", default=[], metavar="KIND=SECONDS", help="ends a hook that takes longer, and counts a failure")
-            command.add_argument("--serve", type=int, metavar="PORT", help="shows a page at this port of 127.0.0.1; 0 takes a free one")
+            command.add_argument("--serve", type=int, metavar="PORT", help="shows a page at this port; 0 takes a free one")
+            command.add_argument("--listen", default="127.0.0.1", metavar="ADDRESS", help="the address of the page; elsewhere than on loopback it has a token (default: %(default)s)")
+            command.add_argument("--layout", metavar="FILE", help="a layout with the sizes of partitions, for the time that is left")
     return parser
 
 

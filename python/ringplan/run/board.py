@@ -196,7 +196,7 @@ class Claim:
 
 @dataclass(frozen=True)
 class State:
-    """A step as the board has it. The worker is empty if no one does it; `since` is when it began, in seconds since 1970."""
+    """A step as the board has it. The worker is empty if no one does it; `since` is when it began, and `ended` when it was done, in seconds since 1970."""
 
     number: int
     name: Name
@@ -205,6 +205,9 @@ class State:
     tries: Tries
     is_begun: bool
     is_done: bool
+    ended: float
+    # How many chunks of a copy are given.
+    chunks: int
 
 
 def plan_of(bundle: str) -> str:
@@ -278,11 +281,16 @@ class Board(Protocol):
     def retry(self, number: int) -> None:
         """Forgets in how many tries the step failed. A step that is not there, or done, is a `Stop`."""
 
-    def limit(self, limits: dict[str, int]) -> None:
-        """Sets how many steps each runner may do at once, under the empty name, and how many copies that read or fill a node, under its name."""
+    def set(self, kind: str, values: dict[str, int]) -> None:
+        """Sets `limits`: how many steps each runner may do at once, under the empty name, and how many copies that read or fill a node, under its name.
 
-    def limits(self) -> dict[str, int]:
-        """What `limit` has set last."""
+        Or `sizes`: how much each partition stores, under its number."""
+
+    def settings(self, kind: str) -> dict[str, int]:
+        """What `set` has set last."""
+
+    def lease_left(self) -> float:
+        """How long the runner's claims last if it dies now, in seconds: infinity if that is not bounded."""
 
     def remove(self) -> None:
         """Deletes the board, and what stands beside it. A runner that works with it is a `Stop`."""
@@ -304,6 +312,9 @@ class Board(Protocol):
 
     def record(self) -> Record:
         """The bundle and the history. Its lines have the numbers that the steps have now."""
+
+    def look(self) -> tuple[Record, list[State]]:
+        """The history and all steps at one moment."""
 
     def pausing(self) -> AbstractContextManager[None]:
         """Lets no runner claim a step while the block runs and this process lives. Two such blocks at once are a `Stop`."""

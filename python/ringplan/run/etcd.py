@@ -256,11 +256,11 @@ class EtcdBoard:
         """Claims all these steps as they were found, or none of them. None if no step is given out."""
         lease, nonce = self.leased(), uuid.uuid4().hex
         compares = [is_created(self.key("pause"), 0), is_changed(self.key("plan"), plan.changed)]
-        changes, value = list[Json](), {"worker": f"{worker} of {self.who}", "since": time.time(), "nonce": nonce}
+        changes, value, since = list[Json](), {"worker": f"{worker} of {self.who}", "nonce": nonce}, {"since": time.time()}
         for one in free:
             here, mine, tries = self.key("claim", one.name), plan.key("step", one.name), plan.key("tries", one.name)
             compares += [is_created(here, 0), is_changed(mine, one.step.changed), is_changed(tries, one.tries.changed)]
-            changes += [put(here, value, lease), put(mine, step_of(one.progress()))]
+            changes += [put(here, value, lease), put(mine, step_of(one.progress()) | since)]
         try:
             revision, found = self.etcd.transact(compares, changes, [*map(get, (*self.bars(), *(self.key("claim", one.name) for one in free)))])
         except Refused as refused:
@@ -275,7 +275,7 @@ class EtcdBoard:
             revision = claims[0].created
         self.seen.keep(self.etcd.cluster, revision)
         for one in free:
-            self.held[one.name, worker] = Held(revision, lease, plan.edition, step_of(one.progress()))
+            self.held[one.name, worker] = Held(revision, lease, plan.edition, step_of(one.progress()) | since)
         return [
             Claim(one.name, worker, revision, bool(one.step.created), one.progress().is_open, one.progress().marks, one.tries.tries()) for one in free
         ]
@@ -332,7 +332,7 @@ class EtcdBoard:
 
     def note(self, claim: Claim, notes: Iterable[Note], is_done: bool = False) -> None:
         held, notes, nonce = self.own(claim), list(notes), uuid.uuid4().hex
-        step = step_of(functools.reduce(Progress.after, notes, progress_of(held.step)))
+        step = held.step | step_of(functools.reduce(Progress.after, notes, progress_of(held.step))) | ({"ended": time.time()} if is_done else {})
         ends = [delete(self.key("claim", claim.name))] if is_done else []
 
         def makes(plan: Plan, place: int) -> tuple[str, list[Json]]:
@@ -391,11 +391,14 @@ class EtcdBoard:
         self.noted = plan.edition, count
         return plan.edition, list(names)
 
-    def limit(self, limits: dict[str, int]) -> None:
-        self.etcd.transact([], [put(self.key("limits"), limits)])
+    def set(self, kind: str, values: dict[str, int]) -> None:
+        self.etcd.transact([], [put(self.key(kind), values)])
 
-    def limits(self) -> dict[str, int]:
-        return self.etcd.read_each(self.key("limits"))[0].members()
+    def settings(self, kind: str) -> dict[str, int]:
+        return self.etcd.read_each(self.key(kind))[0].members()
+
+    def lease_left(self) -> float:
+        return max(0.0, self.ending - now())
 
     def remove(self) -> None:
         if self.is_held():
@@ -404,20 +407,26 @@ class EtcdBoard:
         shutil.rmtree(self.locks, ignore_errors=True)
 
     def states(self) -> tuple[str, list[State]]:
+        plan, revision = self.moment()
+        return plan.edition, self.listed(plan, revision)
+
+    def moment(self) -> tuple[Plan, int]:
+        """The plan, and a revision at which it was the board's."""
         self.load()
         plan = self.known()
-        # All at one moment.
         self.etcd.read_each(plan.key("next"))
-        revision = self.etcd.revision
+        return plan, self.etcd.revision
+
+    def listed(self, plan: Plan, revision: int) -> list[State]:
         kinds = (self.key("claim"), plan.key("step"), plan.key("tries"))
         claims, steps, tries = ({value.key.rsplit("/", 1)[1]: value for value in self.pages(kind, revision=revision)} for kind in kinds)
         states = list[State]()
         for number, name in enumerate(plan.names):
             claim, step, tried = (values.get(name.file(), Value()) for values in (claims, steps, tries))
-            who = claim.members()
-            is_done = step.members().get("is_done", False)
-            states.append(State(number, name, who.get("worker", ""), who.get("since", 0.0), tried.tries(), bool(step.created), is_done))
-        return plan.edition, states
+            what: Json = {"is_done": False, "since": 0.0, "ended": 0.0, "marks": []} | step.members()
+            worker, chunks = claim.members().get("worker", ""), len(what["marks"])
+            states.append(State(number, name, worker, what["since"], tried.tries(), bool(step.created), what["is_done"], what["ended"], chunks))
+        return states
 
     def pages(self, first: str, start: str = "", revision: int = 0) -> Iterator[Value]:
         """The keys below one, or from one of them on."""
@@ -425,17 +434,22 @@ class EtcdBoard:
             yield from values
             start = values[-1].key + "\0"
 
-    def notes(self, plan: Plan, first: int = 0) -> Iterator[tuple[Name, Note]]:
-        for value in self.pages(plan.key("note"), plan.key("note", f"{first:012d}")):
+    def notes(self, plan: Plan, first: int = 0, revision: int = 0) -> Iterator[tuple[Name, Note]]:
+        for value in self.pages(plan.key("note"), plan.key("note", f"{first:012d}"), revision):
             members = value.members()
             for word, chunk in members["notes"]:
                 yield Name(*members["step"]), Note(word, chunk)
 
     def record(self) -> Record:
-        self.load()
-        plan = self.known()
+        return self.recorded(*self.moment())
+
+    def recorded(self, plan: Plan, revision: int) -> Record:
         numbers = {name: number for number, name in enumerate(plan.names)}
-        return Record(plan.edition, plan.bundle, [note.line(numbers[name]) for name, note in self.notes(plan)])
+        return Record(plan.edition, plan.bundle, [note.line(numbers[name]) for name, note in self.notes(plan, revision=revision)])
+
+    def look(self) -> tuple[Record, list[State]]:
+        plan, revision = self.moment()
+        return self.recorded(plan, revision), self.listed(plan, revision)
 
     # Another plan.
     @contextlib.contextmanager
@@ -459,14 +473,14 @@ class EtcdBoard:
         counter = self.etcd.read_each(plan.key("next"))[0]
         if self.record() != known:
             return False
-        begun = {value.key.rsplit("/", 1)[1] for value in self.pages(plan.key("step"))}
+        begun = {value.key.rsplit("/", 1)[1]: value.members() for value in self.pages(plan.key("step"))}
 
         def changes(new: Plan) -> Iterator[Json]:
             """What the new edition begins with."""
             progress, place = change.progress(), 0
             for name in new.names:
                 if name in progress or name.file() in begun:
-                    yield put(new.key("step", name), step_of(progress.get(name, Progress())))
+                    yield put(new.key("step", name), begun.get(name.file(), {}) | step_of(progress.get(name, Progress())))
             for name, some in itertools.groupby(change.notes, key=operator.itemgetter(0)):
                 yield put(new.key("note", f"{place:012d}"), {"nonce": "", "step": name, "notes": [note for _, note in some]})
                 place += 1

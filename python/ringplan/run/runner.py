@@ -19,6 +19,7 @@ from dataclasses import dataclass, replace
 from ringplan import programs, texts
 from ringplan.run.board import CHUNKS, LOOK, Board, Claim, ClaimEnded, Name, Note, Status, Stop, names_of
 from ringplan.run.hooks import Hooks, NoLock, Outcome, Result, Supervisor
+from ringplan.run.report import Pace
 from ringplan.texts import StepLine
 
 # How many entries may come before the history so far is judged; then half as many again may come, and so on.
@@ -80,6 +81,8 @@ class Runner:
         self.fault: Stop | None = None
         self.said: dict[Name, str] = {}
         self.entries, self.judged = 0, JUDGED
+        # The judge's last answer, and how many entries it read; how often hooks of a kind ended in one way; how fast copies are.
+        self.verdict, self.ends, self.pace = ("", 0), Counter[tuple[str, str]](), Pace([], {})
         self.load()
 
     def load(self) -> None:
@@ -87,6 +90,7 @@ class Runner:
         self.edition, bundle, done = self.board.plan()
         self.steps, self.names = read_steps(bundle)
         self.numbers = {name: number for number, name in enumerate(self.names)}
+        self.pace.load(self.names, self.board.settings("sizes"))
         # Of each step how many of its dependencies are not done, and the steps that wait for it.
         self.left = [len(step.after) for step in self.steps]
         self.waiting: list[list[int]] = [[] for _ in self.steps]
@@ -96,13 +100,14 @@ class Runner:
         # The steps that can be done, in order. Those that somebody does are among them.
         self.done, self.ready = set[int](), [number for number, left in enumerate(self.left) if not left]
         for number in done:
-            self.mark(number)
+            self.mark(number, is_seen=False)
 
-    def mark(self, number: int) -> None:
+    def mark(self, number: int, is_seen: bool = True) -> None:
         """Counts a step as done, once."""
         if number in self.done:
             return
         self.done.add(number)
+        self.pace.give(self.names[number], CHUNKS, is_seen)
         place = bisect.bisect_left(self.ready, number)
         if place < len(self.ready) and self.ready[place] == number:
             del self.ready[place]
@@ -139,7 +144,7 @@ class Runner:
     def see_judge(self) -> None:
         """Has the history so far judged. A `no` is a `Stop`."""
         answer, self.entries = judge(self.board)
-        self.judged = self.entries + max(JUDGED, self.entries // 2)
+        self.judged, self.verdict = self.entries + max(JUDGED, self.entries // 2), (answer.first(), self.entries)
         if answer.first() != "yes":
             self.tell("the judge says no", answer=answer.first())
             raise Stop(Status.REFUSED, f"the judge says {answer.first()}")
@@ -165,9 +170,12 @@ class Runner:
         members = self.steps[number].members() | {"token": claim.token} | ({"again": True} if claim.is_again else {}) | ({} if chunk is None else {"chunk": chunk})
         began = time.monotonic()
         try:
-            return self.hooks.run(kind, f"{number} {claim.name}", members, one, lambda: self.board.until(claim), lambda is_resting: self.beat(claim, is_resting))
+            result = self.hooks.run(kind, f"{number} {claim.name}", members, one, lambda: self.board.until(claim), lambda is_resting: self.beat(claim, is_resting))
         finally:
             self.took[claim.name.kind] = time.monotonic() - began
+        with self.lock:
+            self.ends[kind, result.outcome.value] += 1
+        return result
 
     def beat(self, claim: Claim, is_resting: bool) -> None:
         """Called while a hook takes long: leaves to others what was claimed with its step."""
@@ -186,7 +194,20 @@ class Runner:
             if result.outcome is not Outcome.DONE:
                 return result
             self.note(claim, [Note("chunk", chunk)])
+            with self.lock:
+                self.pace.give(claim.name, self.pace.parts.get(claim.name, 0) + 1)
         return Result(Outcome.DONE)
+
+    def measure(self, claim: Claim, one: Supervisor) -> Result:
+        """Copies, and measures how long that takes."""
+        with self.lock:
+            self.pace.give(claim.name, len(claim.marks), is_seen=False)
+            self.pace.begin(time.time())
+        try:
+            return self.copy(claim, one)
+        finally:
+            with self.lock:
+                self.pace.end(time.time())
 
     def copy(self, claim: Claim, one: Supervisor) -> Result:
         """Copies the chunks that are left, by one hook or by one for each chunk. An `open` of a worker that died gets its `abort` first."""
@@ -214,7 +235,7 @@ class Runner:
             return
         try:
             if claim.name.kind == "copy":
-                result = self.copy(claim, one)
+                result = self.measure(claim, one)
             elif (result := self.call(claim.name.kind, claim, one)).outcome is Outcome.DONE:
                 self.note(claim, [Note("do")], is_done=True)
         finally:
@@ -287,7 +308,7 @@ class Runner:
             return self.claims.popleft()
         if time.monotonic() > self.learnt + LEARN:
             self.learn()
-        self.limits, self.is_barred = self.board.limits(), False
+        self.limits, self.is_barred = self.board.settings("limits"), False
         brief = {kind for kind, took in self.took.items() if took < BRIEF}
         brief -= set() if "copy" in brief else {"mirror"}
         # Of steps that are claimed together none is counted before it begins.

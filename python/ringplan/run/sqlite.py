@@ -26,14 +26,15 @@ MAGIC, APPLICATION = b"SQLite format 3\0", 0x52696E67
 SCHEMA = f"""
 begin immediate;
 pragma application_id={APPLICATION};
-create table if not exists board (identity text not null, token integer not null, limits text not null default '{{}}');
+create table if not exists board (identity text not null, token integer not null);
+create table if not exists settings (kind text primary key, value text not null);
 create table if not exists plan (bundle text not null);
 create table if not exists steps (
     id integer primary key, number integer not null unique, kind text not null, partition integer not null, slot integer not null, node text not null,
     turn integer not null, worker text not null default '', is_begun integer not null default 0, is_open integer not null default 0,
     is_done integer not null default 0, failures integer not null default 0, waits integer not null default 0,
     pause real not null default 0, until real not null default 0, is_given_up integer not null default 0, why text not null default '',
-    lines text not null default '', since real not null default 0, unique (kind, partition, slot, node, turn));
+    lines text not null default '', since real not null default 0, ended real not null default 0, unique (kind, partition, slot, node, turn));
 create table if not exists entries (
     place integer primary key autoincrement, step integer not null references steps (id), word text not null, chunk integer);
 create index if not exists entries_of_step on entries (step);
@@ -60,7 +61,7 @@ class SqliteBoard:
             if is_new:
                 self.connection.executescript(SCHEMA)
                 self.connection.execute("pragma journal_mode=wal")
-            self.connection.execute("select bundle, token from plan, board, steps, entries limit 0")
+            self.connection.execute("select bundle, token, ended from plan, board, settings, steps, entries limit 0")
         self.file = self.found()
 
     def found(self) -> tuple[int, int]:
@@ -239,7 +240,7 @@ class SqliteBoard:
                 if word in ("open", "close", "abort"):
                     it.execute("update steps set is_open=? where id=?", (word == "open", step))
             if is_done:
-                it.execute("update steps set is_done=1, worker='' where id=?", (step,))
+                it.execute("update steps set is_done=1, worker='', ended=? where id=?", (time.time(), step))
 
     def give_back(self, claim: Claim, tries: Tries) -> None:
         with self.change() as it:
@@ -252,14 +253,17 @@ class SqliteBoard:
             demand_left(number, bool(row[0]) if row else None)
             it.execute("update steps set failures=0, waits=0, pause=0, until=0, is_given_up=0 where number=?", (number,))
 
-    def limit(self, limits: dict[str, int]) -> None:
+    def set(self, kind: str, values: dict[str, int]) -> None:
         with self.change() as it:
-            it.execute("update board set limits=?", (json.dumps(limits),))
+            it.execute("insert or replace into settings values (?, ?)", (kind, json.dumps(values)))
 
-    def limits(self) -> dict[str, int]:
-        ((limits,),) = self.rows("select limits from board")
-        found: dict[str, int] = json.loads(limits)
+    def settings(self, kind: str) -> dict[str, int]:
+        rows = self.rows("select value from settings where kind=?", kind)
+        found: dict[str, int] = json.loads(rows[0][0]) if rows else {}
         return found
+
+    def lease_left(self) -> float:
+        return math.inf
 
     def remove(self) -> None:
         self.held = self.take("lock", "runner")
@@ -297,15 +301,26 @@ class SqliteBoard:
             return self.edition(it), []
 
     def states(self) -> tuple[str, list[State]]:
-        columns = "number, kind, partition, slot, node, turn, worker, since, is_begun, is_done, failures, waits, pause, until, is_given_up, why, lines"
         with self.moment() as it:
-            rows = it.execute(f"select {columns} from steps order by number")
-            return self.edition(it), [State(row[0], Name(*row[1:6]), row[6], row[7], Tries(*row[10:]), bool(row[8]), bool(row[9])) for row in rows]
+            return self.edition(it), self.listed(it)
+
+    def listed(self, it: sqlite3.Connection) -> list[State]:
+        columns = "number, kind, partition, slot, node, turn, worker, since, is_begun, is_done, ended, id, failures, waits, pause, until, is_given_up, why, lines"
+        marks = "select step, count(distinct chunk) from entries join steps on steps.id = step where not is_done and is_begun and word='chunk' group by step"
+        rows, chunks = it.execute(f"select {columns} from steps order by number"), dict(it.execute(marks))
+        return [State(row[0], Name(*row[1:6]), row[6], row[7], Tries(*row[12:]), bool(row[8]), bool(row[9]), row[10], chunks.get(row[11], 0)) for row in rows]
 
     def record(self) -> Record:
         with self.moment() as it:
-            rows = it.execute("select word, number, chunk from entries join steps on steps.id = entries.step order by place")
-            return Record(*self.bundle(it), [Note(word, chunk).line(number) for word, number, chunk in rows])
+            return self.recorded(it)
+
+    def recorded(self, it: sqlite3.Connection) -> Record:
+        rows = it.execute("select word, number, chunk from entries join steps on steps.id = entries.step order by place")
+        return Record(*self.bundle(it), [Note(word, chunk).line(number) for word, number, chunk in rows])
+
+    def look(self) -> tuple[Record, list[State]]:
+        with self.moment() as it:
+            return self.recorded(it), self.listed(it)
 
     @contextlib.contextmanager
     def pausing(self) -> Iterator[None]:
@@ -319,7 +334,7 @@ class SqliteBoard:
             os.close(handle)
 
     def swap(self, known: Record, change: Change) -> bool:
-        progress, columns = change.progress(), "kind, partition, slot, node, turn, worker, is_begun"
+        progress, columns = change.progress(), "kind, partition, slot, node, turn, worker, is_begun, since, ended"
         with self.change() as it:
             (count,) = it.execute("select count(*) from entries").fetchone()
             if (self.edition(it), count) != (known.edition, len(known.entries)):
@@ -329,9 +344,9 @@ class SqliteBoard:
             it.execute("delete from steps")
             it.execute("insert into plan values (?)", (change.bundle,))
             for number, name in enumerate(change.names):
-                worker, is_begun = old.get(name, ("", 0))
+                worker, *times = old.get(name, ("", 0, 0.0, 0.0))
                 is_done, is_open, _ = progress.get(name, Progress())
-                row = (number, number, is_done, is_open, *name, worker if is_open else "", is_begun)
+                row = (number, number, is_done, is_open, *name, worker if is_open else "", *times)
                 it.execute(f"insert into steps (id, number, is_done, is_open, {columns}) values ({','.join('?' * len(row))})", row)
             numbers = {name: number for number, name in enumerate(change.names)}
             it.executemany("insert into entries (step, word, chunk) values (?, ?, ?)", [(numbers[name], *note) for name, note in change.notes])
