@@ -1,19 +1,22 @@
 """Makes a ring text of what a store prints of its own ring: `ringplan-import SOURCE [FILE]`.
 
     describering   what `nodetool describering KEYSPACE` of Cassandra prints: ranges between tokens, each with its endpoints
+    ring           what `nodetool ring` of Cassandra prints; replicas are as NetworkTopologyStrategy places them in one datacentre (--slots, --datacenter)
     tablets        rows of `system.tablets` of ScyllaDB as JSON, one a line or in a list, or as `cqlsh` prints them: `last_token` and `replicas`, pairs of a host and a shard
     riak           what `riak_core_ring:all_owners` of Riak lists as JSON: `index` and `node` of each virtual node; slots are the owners from an index on (--slots)
     csv            lines `partition,node,rack`, a line for each slot, in the order of its slots
 
-A node's name in the ring is its name in the source, in lower case and without the dashes of a UUID, with `.rack` after it if the source names the rack. If the number of ranges is not a power of
-two, the first rows are repeated, and standard error says how many; the repeats have no keys. `ringplan` reads the ring before it is printed. `--layout-to FILE` writes a layout for `ringplan`: the rack of each node, and size 0 for each repeat. The
-samples of the tests are written by hand from the public documentation.
+A node's name in the ring is its name in the source, in lower case and without the dashes of a UUID, with `.rack` after it if the source names the rack. A name that does not fit is cut, with
+a part of its digest after it. If the number of ranges is not a power of two, the first rows are repeated; the repeats have no keys. Standard error says what was made up. `ringplan` reads the
+ring before it is printed. `--layout FILE` writes a layout for `ringplan`: racks, the names of the source as aliases, and size 0 for each repeat. The samples of the tests are written by hand from
+the public documentation.
 """
 
 from __future__ import annotations
 
 import argparse
 import csv
+import hashlib
 import json
 import os
 import pathlib
@@ -47,7 +50,7 @@ def in_order(found: Iterable[tuple[int, list[tuple[str, str]]]]) -> Rows:
     return [rows[token] for token in sorted(rows)]
 
 
-def describering(lines: Iterable[str], _: int) -> Rows:
+def describering(lines: Iterable[str], _: int = 0, datacenter: str = "") -> Rows:
     found = list[tuple[int, list[tuple[str, str]]]]()
     for number, line in enumerate(lines, 1):
         if "TokenRange(" not in line:
@@ -55,10 +58,43 @@ def describering(lines: Iterable[str], _: int) -> Rows:
         match = RANGE.search(line)
         if match is None:
             raise BadSource(f"line {number}: a range without tokens and endpoints")
-        racks = {host.strip(): rack for host, _, rack in DETAILS.findall(line)}
-        hosts = [host.strip() for host in match[3].split(",") if host.strip()]
+        places = {host.strip(): (where.strip(), rack.strip()) for host, where, rack in DETAILS.findall(line)}
+        racks = {host: rack for host, (where, rack) in places.items()}
+        hosts = [host for host in map(str.strip, match[3].split(",")) if host and datacenter in ("", places.get(host, ("", ""))[0])]
         found.append((int(match[2]), [(host, racks.get(host, "")) for host in hosts]))
     return in_order(found)
+
+
+def token_ring(lines: Iterable[str], slots: int = 3, datacenter: str = "") -> Rows:
+    owners, where = dict[str, list[tuple[int, str, str]]](), ""
+    for number, line in enumerate(lines, 1):
+        fields = line.split()
+        if fields[:1] == ["Datacenter:"]:
+            where = " ".join(fields[1:])
+        # Address, rack, status, state, load, owns, token; a load is one word or two.
+        if len(fields) not in (7, 8) or fields[2] not in ("Up", "Down", "?"):
+            continue
+        if fields[3] != "Normal":
+            raise BadSource(f"line {number}: {fields[0]} is {fields[3]}: wait until the ring is at rest")
+        owners.setdefault(where, []).append((int(fields[-1]), fields[0], fields[1]))
+    if not datacenter and len(owners) > 1:
+        raise BadSource(f"there are {len(owners)} datacentres: give --datacenter {' or '.join(sorted(owners))}")
+    walk = sorted(owners.get(datacenter, []) if datacenter else [owner for each in owners.values() for owner in each])
+    return in_order((token, replicas(walk, start, slots)) for start, (token, _, _) in enumerate(walk))
+
+
+def replicas(walk: list[tuple[int, str, str]], start: int, slots: int) -> list[tuple[str, str]]:
+    """The owners of the range that ends with a token: the next nodes, of as many racks as there are. As many nodes of a rack that came already as racks are lacking."""
+    found, seen = dict[str, str](), set[str]()
+    repeats = slots - len({rack for _, _, rack in walk})
+    for _, node, rack in walk[start:] + walk[:start]:
+        if len(found) == slots:
+            break
+        if node not in found and (rack not in seen or repeats > 0):
+            repeats -= rack in seen
+            seen.add(rack)
+            found[node] = rack
+    return [*found.items()]
 
 
 def rows_of(lines: Iterable[str]) -> list[dict[str, Any]]:
@@ -70,7 +106,7 @@ def rows_of(lines: Iterable[str]) -> list[dict[str, Any]]:
     return rows
 
 
-def tablets(lines: Iterable[str], _: int) -> Rows:
+def tablets(lines: Iterable[str], _: int = 0, __: str = "") -> Rows:
     rows = rows_of(lines)
     if len(tables := {str(row.get("table_id", "")) for row in rows}) > 1:
         raise BadSource(f"rows of {len(tables)} tables: give those of one table_id")
@@ -82,13 +118,13 @@ def tablets(lines: Iterable[str], _: int) -> Rows:
     return in_order(found)
 
 
-def riak(lines: Iterable[str], slots: int) -> Rows:
+def riak(lines: Iterable[str], slots: int = 3, _: str = "") -> Rows:
     """Partition p belongs to the virtual nodes from p on, as many as a key has replicas."""
     owners = in_order((int(str(row["index"])), [(str(row["node"]), "")]) for row in rows_of(lines))
     return [[owners[(start + slot) % len(owners)][0] for slot in range(slots)] for start in range(len(owners))]
 
 
-def from_csv(lines: Iterable[str], _: int) -> Rows:
+def from_csv(lines: Iterable[str], _: int = 0, __: str = "") -> Rows:
     """Partitions in ascending order."""
     found = dict[int, list[tuple[str, str]]]()
     for number, fields in enumerate(csv.reader(lines), 1):
@@ -102,19 +138,26 @@ def from_csv(lines: Iterable[str], _: int) -> Rows:
     return [found[partition] for partition in sorted(found)]
 
 
-SOURCES: dict[str, Callable[[Iterable[str], int], Rows]] = {"describering": describering, "tablets": tablets, "riak": riak, "csv": from_csv}
+SOURCES: dict[str, Callable[[Iterable[str], int, str], Rows]] = {"describering": describering, "ring": token_ring, "tablets": tablets, "riak": riak, "csv": from_csv}
 
 
-def name_of(node: str, rack: str) -> str:
-    """The node's name in the ring."""
+def whole_name(node: str, rack: str) -> str:
+    """The node's name in the ring, if that fits."""
     name = node.lower()
     if re.fullmatch(r"[0-9a-f]{8}(-[0-9a-f]{4}){3}-[0-9a-f]{12}", name):
         name = name.replace("-", "")
     # Riak's nodes are `riak@HOST`.
-    name = name.lstrip("/").replace("@", ":") + (f".{rack.lower()}" if rack else "")
-    if not NAME.fullmatch(name):
-        raise BadSource(f"{node!r} has no name of at most 32 bytes of a-z0-9_.:- ({name!r})")
-    return name
+    return name.lstrip("/").replace("@", ":") + (f".{rack.lower()}" if rack else "")
+
+
+def name_of(node: str, rack: str) -> str:
+    """The node's name in the ring. One that does not fit is cut, with a part of its digest after it: so it is always the same one."""
+    name = whole_name(node, rack)
+    if not node or len(node.encode()) > 255 or re.search(r"[\s\x00-\x1f\x7f-\x9f]", node + rack):
+        raise BadSource(f"{node[:300]!r} has no name: a name has no spaces, and at most 255 bytes")
+    if NAME.fullmatch(name):
+        return name
+    return f"{re.sub('[^a-z0-9_.:-]', '-', name)[:23]}-{hashlib.sha256(name.encode()).hexdigest()[:8]}"
 
 
 def ring_of(rows: Rows, quorum: tuple[int, int], allowance: int, joining: list[str]) -> Ring:
@@ -150,9 +193,10 @@ def racks_of(rows: Rows, joining: list[str]) -> dict[str, str]:
 
 def layout_lines(rows: Rows, ring: Ring, joining: list[str]) -> Iterator[str]:
     """The layout: the nodes' racks in the order of the ring, and size 0 for each partition that repeats a row."""
-    racks = racks_of(rows, joining)
+    racks, slots = racks_of(rows, joining), {name_of(*slot): slot for row in rows for slot in row}
     yield "layout 1"
     yield from (f"rack {node.name} {racks[node.name]}" for node in ring.nodes if racks)
+    yield from (f"alias {name} {node}" for name, (node, rack) in sorted(slots.items()) if name != node + (f".{rack.lower()}" if rack else ""))
     yield from (f"size {partition} 0" for partition in range(len(rows), len(ring.rows)))
     yield "end"
 
@@ -177,32 +221,42 @@ def demand_right(ring: Ring) -> None:
         raise BadSource(f"the ring is refused: {(said or [answer.first()])[0].removeprefix('refused: ')}")
 
 
+def say_what_was_made(rows: Rows, ring: Ring, words: argparse.Namespace) -> None:
+    """Names on standard error what the source does not say."""
+    (slots, read, write), advice = ring.quorum, "" if words.layout is not None else "; --layout FILE writes their"
+    if words.read is None or words.write is None:
+        note(f"any {read} of {slots} slots answer a read, any {write} take a write: --read and --write say otherwise")
+    if cut := sum(not NAME.fullmatch(whole_name(*slot)) for slot in {slot for row in rows for slot in row}):
+        note(f"{cut} names are cut{advice and f'{advice} aliases'}")
+    if (filled := len(ring.rows) - len(rows)) > 0:
+        note(f"{len(rows)} ranges are filled up to {len(ring.rows)} partitions by {filled} without keys{advice and f'{advice} sizes'}")
+
+
 def main() -> int:
     parser = argparse.ArgumentParser(prog="ringplan-import", description=(__doc__ or "").split("\n")[0])
     parser.add_argument("source", choices=SOURCES, help="what the file is")
     parser.add_argument("file", nargs="?", default="-", help="the file; standard input without it")
-    parser.add_argument("--read", type=int, default=2, metavar="R", help="slots that answer a read")
-    parser.add_argument("--write", type=int, default=2, metavar="W", help="slots that take a write")
-    parser.add_argument("--slots", type=int, default=3, metavar="N", help="of riak: the replicas of a key")
+    parser.add_argument("--read", type=int, metavar="R", help="slots that answer a read (default: 2)")
+    parser.add_argument("--write", type=int, metavar="W", help="slots that take a write (default: 2)")
+    parser.add_argument("--slots", type=int, default=3, metavar="N", help="of riak and ring: the replicas of a key (default: %(default)s)")
     parser.add_argument("--allowance", type=int, default=2, metavar="K", help="transfers that each node may have open at once")
     parser.add_argument("--join", action="append", default=[], metavar="NAME", help="a node that is declared out, so that a change can let it join")
-    parser.add_argument("--layout-to", metavar="FILE", help="write a layout too: the racks that the source names, and size 0 for each range that only fills up")
+    parser.add_argument("--layout", metavar="FILE", help="write a layout too: racks, the source's names as aliases, and size 0 for each range that only fills up")
+    parser.add_argument("--datacenter", default="", metavar="NAME", help="of describering and ring: only the nodes of this datacentre")
     words = parser.parse_intermixed_args()
     try:
-        rows = SOURCES[words.source](lines_of(words.file), words.slots)
-        ring = ring_of(rows, (words.read, words.write), words.allowance, words.join)
+        rows = SOURCES[words.source](lines_of(words.file), words.slots, words.datacenter)
+        ring = ring_of(rows, (2 if words.read is None else words.read, 2 if words.write is None else words.write), words.allowance, words.join)
         demand_right(ring)
-        if words.layout_to is not None:
-            pathlib.Path(words.layout_to).write_text("".join(f"{line}\n" for line in layout_lines(rows, ring, words.join)))
+        if words.layout is not None:
+            pathlib.Path(words.layout).write_text("".join(f"{line}\n" for line in layout_lines(rows, ring, words.join)))
     except (BadSource, OSError, programs.NoProgram) as error:
         note(str(error))
         return 2
     except (ValueError, KeyError, TypeError, OverflowError, RecursionError, csv.Error) as error:
         note(f"not what {words.source} is: {str(error).splitlines()[0][:200]}" if str(error) else f"not what {words.source} is")
         return 2
-    if (filled := len(ring.rows) - len(rows)) > 0:
-        advice = "" if words.layout_to is not None else "; --layout-to FILE writes their sizes"
-        note(f"{len(rows)} ranges are filled up to {len(ring.rows)} partitions by {filled} without keys{advice}")
+    say_what_was_made(rows, ring, words)
     try:
         print(*ring.lines(), sep="\n", flush=True)
     except BrokenPipeError:

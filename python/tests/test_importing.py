@@ -10,7 +10,7 @@ import sys
 import pytest
 
 from ringplan import programs
-from ringplan.importing import BadSource, Rows, describering, from_csv, layout_lines, main, riak, ring_of, tablets
+from ringplan.importing import BadSource, Rows, describering, from_csv, layout_lines, main, name_of, riak, ring_of, tablets, token_ring
 
 HOSTS = ["3b1f9e0a-2c4d-4e5f-8a6b-7c8d9e0f1a2b", "4b1f9e0a-2c4d-4e5f-8a6b-7c8d9e0f1a2b", "5b1f9e0a-2c4d-4e5f-8a6b-7c8d9e0f1a2b"]
 
@@ -61,13 +61,66 @@ def test_a_table_of_partitions() -> None:
         (from_csv, ["0,a\n", "x,b\n"], "line 2"),
         (from_csv, ["0,a\n", "0,b\n", "1,a\n"], "as many nodes"),
         (from_csv, ["0,a b\n"], "no name"),
-        (from_csv, ["0,ip-10-0-0-1.eu-central-1.compute.internal\n"], "32 bytes"),
+        (from_csv, ["0," + 256 * "a" + "\n"], "255 bytes"),
+        (token_ring, ["a r1 Up Joining 1 KiB ? 5\n"], "line 1: a is Joining"),
+        (token_ring, ["Datacenter: a\n", "n1 r1 Up Normal 1 KiB ? 5\n", "Datacenter: b\n", "n2 r1 Up Normal 1 KiB ? 6\n"], "--datacenter a or b"),
     ],
 )
 def test_a_source_that_does_not_read(call: object, lines: list[str], words: str) -> None:
     assert callable(call)
     with pytest.raises(BadSource, match=words):
         ring_of(call(lines, 0), (1, 1), 2, [])
+
+
+RING = """
+Datacenter: dc1
+==========
+Address     Rack   Status State   Load        Owns    Token
+                                                      30
+10.0.0.1    r1     Up     Normal  1.5 KiB     50.0%   -20
+10.0.0.2    r1     Up     Normal  1.5 KiB     50.0%   -10
+10.0.0.3    r2     Down   Normal  ?           ?       10
+10.0.0.4    r3     Up     Normal  1.5 KiB     50.0%   20
+10.0.0.1    r1     Up     Normal  1.5 KiB     50.0%   30
+
+Datacenter: dc2
+10.1.0.1    r1     Up     Normal  1.5 KiB     50.0%   -15
+"""
+
+
+def test_tokens_of_one_datacentre() -> None:
+    rows = token_ring(RING.splitlines(), 3, "dc1")
+    # The range that ends with -20 has 10.0.0.1, passes over 10.0.0.2 of the same rack, and goes on.
+    assert ["".join(node[-1] for node, _ in row) for row in rows] == ["134", "234", "341", "413", "134"]
+    # Of two racks for three replicas one may come twice, and at once.
+    two = token_ring(RING.replace("r3", "r2").splitlines(), 3, "dc1")
+    assert ["".join(node[-1] for node, _ in row) for row in two] == ["123", "234", "341", "412", "123"]
+    assert [row for row in token_ring(RING.splitlines(), 3, "dc2")] == [[("10.1.0.1", "r1")]]
+
+
+def test_only_one_datacentre_of_ranges() -> None:
+    places = "EndpointDetails(host:a, datacenter:dc1, rack:r1), EndpointDetails(host:b, datacenter:dc2, rack:r1)"
+    line = f"TokenRange(start_token:1, end_token:2, endpoints:[a, b], endpoint_details:[{places}])"
+    assert describering([line]) == [[("a", "r1"), ("b", "r1")]]
+    assert describering([line], 0, "dc2") == [[("b", "r1")]]
+
+
+def test_names_that_do_not_fit_are_cut(tmp_path: pathlib.Path, monkeypatch: pytest.MonkeyPatch, capsys: pytest.CaptureFixture[str]) -> None:
+    hosts = [f"ip-10-0-0-{number}.eu-central-1.compute.internal" for number in (1, 2)] + ["Kv03"]
+    names = [name_of(host, "") for host in hosts]
+    assert len({*names}) == 3 and all(len(name) <= 32 for name in names) and names[0].startswith("ip-10-0-0-1.eu-central-")
+    table, layout = tmp_path / "table.csv", tmp_path / "layout"
+    table.write_text("".join(f"{partition},{host}\n" for partition in range(2) for host in hosts))
+    monkeypatch.setattr(sys, "argv", ["ringplan-import", "csv", str(table), "--layout", str(layout)])
+    assert main() == 0
+    out, err = capsys.readouterr()
+    assert err.splitlines() == [
+        "ringplan-import: any 2 of 3 slots answer a read, any 2 take a write: --read and --write say otherwise",
+        "ringplan-import: 2 names are cut",
+    ]
+    # `ringplan` shows the nodes by the names that people know.
+    shown = programs.ask("show", out, f"--layout={layout}")
+    assert shown.status == 0 and all(host in shown.text for host in hosts)
 
 
 def layout_of(rows: Rows, *joining: str) -> list[str]:
@@ -89,7 +142,7 @@ def test_a_layout_of_tablets_has_no_racks() -> None:
 
 
 def test_a_layout_of_a_table_has_its_racks() -> None:
-    assert layout_of(from_csv(["0,B,R2\n", "0,a,r1\n"], 0)) == ["layout 1", "rack a.r1 r1", "rack b.r2 r2", "end"]
+    assert layout_of(from_csv(["0,B,R2\n", "0,a,r1\n"], 0)) == ["layout 1", "rack a.r1 r1", "rack b.r2 r2", "alias b.r2 B", "end"]
     assert layout_of(from_csv(["0,b\n", "0,a\n"], 0)) == ["layout 1", "end"]
 
 
@@ -103,13 +156,13 @@ def test_ranges_that_only_fill_up_are_counted(tmp_path: pathlib.Path, monkeypatc
     table, layout = tmp_path / "table.csv", tmp_path / "layout"
     table.write_text("".join(f"{partition},{node}\n" for partition in range(5) for node in "ab"))
     counted = "ringplan-import: 5 ranges are filled up to 8 partitions by 3 without keys"
-    options: dict[str, list[str]] = {"; --layout-to FILE writes their sizes": [], "": ["--layout-to", str(layout)]}
+    options: dict[str, list[str]] = {"; --layout FILE writes their sizes": [], "": ["--layout", str(layout)]}
     for advice, words in options.items():
-        monkeypatch.setattr(sys, "argv", ["ringplan-import", "csv", str(table), *words])
+        monkeypatch.setattr(sys, "argv", ["ringplan-import", "csv", str(table), "--read", "2", "--write", "2", *words])
         assert main() == 0
         assert capsys.readouterr().err == f"{counted}{advice}\n"
     assert layout.read_text() == "layout 1\nsize 5 0\nsize 6 0\nsize 7 0\nend\n"
-    monkeypatch.setattr(sys, "argv", ["ringplan-import", "csv", str(table), "--layout-to", str(tmp_path)])
+    monkeypatch.setattr(sys, "argv", ["ringplan-import", "csv", str(table), "--layout", str(tmp_path)])
     assert main() == 2
     printed = capsys.readouterr()
     assert printed.out == "" and printed.err.startswith("ringplan-import: [Errno 21]")

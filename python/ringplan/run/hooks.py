@@ -117,10 +117,11 @@ class Hooks:
     def hold(self, name: Name) -> Supervisor | None:
         """A supervisor that holds the step's lock. None while a process of an earlier hook of the step is left."""
         try:
-            os.makedirs(self.locks, exist_ok=True)
             with self.lock:
                 one = self.idle.pop() if self.idle else None
-            one = one or Supervisor()
+            if one is None:
+                os.makedirs(self.locks, exist_ok=True)
+                one = Supervisor()
             answer = one.ask(lock=os.path.abspath(self.file(name)))
         except OSError as error:
             raise NoLock(error.strerror) from error

@@ -77,7 +77,7 @@ class Runner:
         # Claims that no worker does yet, and how long the last hook of each kind took.
         self.claims, self.took = deque[Claim](), dict[str, float]()
         # The steps that workers do; what `limit` has set; whether that, or the time of day, lets a step wait.
-        self.doing, self.limits, self.is_barred = list[Name](), dict[str, int](), False
+        self.doing, self.limits, self.is_barred, self.limited = list[Name](), dict[str, int](), False, -math.inf
         self.fault: Stop | None = None
         self.said: dict[Name, str] = {}
         self.entries, self.judged = 0, JUDGED
@@ -308,7 +308,9 @@ class Runner:
             return self.claims.popleft()
         if time.monotonic() > self.learnt + LEARN:
             self.learn()
-        self.limits, self.is_barred = self.board.settings("limits"), False
+        if time.monotonic() > self.limited + LOOK:
+            self.limits, self.limited = self.board.settings("limits"), time.monotonic()
+        self.is_barred = False
         brief = {kind for kind, took in self.took.items() if took < BRIEF}
         brief -= set() if "copy" in brief else {"mirror"}
         # Of steps that are claimed together none is counted before it begins.

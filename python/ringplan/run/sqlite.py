@@ -40,6 +40,8 @@ create table if not exists entries (
 create index if not exists entries_of_step on entries (step);
 commit;
 """
+# How many candidates are looked at for more steps than one.
+LOOKED = 200
 NAMED = "kind=? and partition=? and slot=? and node=? and turn=?"
 
 
@@ -202,7 +204,9 @@ class SqliteBoard:
             identity, token = it.execute("select identity, token from board").fetchone()
             if token != self.token:
                 raise Stop(Status.OTHER_PLAN, f"the board {self.path} is not as this runner left it: a copy of it came back")
-            for name in candidates:
+            for place, name in enumerate(candidates):
+                if claims and place >= LOOKED:
+                    break
                 if claims and name.kind not in brief:
                     continue
                 step, is_done, other, is_begun, is_open, *tried = it.execute(query, name).fetchone()
