@@ -3,6 +3,7 @@
 from __future__ import annotations
 
 import contextlib
+import errno
 import fcntl
 import json
 import math
@@ -20,8 +21,8 @@ from typing import Any
 from ringplan.run.board import LOOK, TOGETHER, Change, Claim, ClaimEnded, Name, NoBoard, Note, Progress, Record, Seen, State, Status, Stop, Tries, demand_left
 from ringplan.run.board import demand_same
 
-# By these bytes of its file a database says whose it is.
-MAGIC, APPLICATION = b"SQLite format 3\0", 0x52696E67
+# By this number a database says whose it is.
+APPLICATION = 0x52696E67
 # Of the rows of `plan` the last one counts; the others are plans that it took the place of. `token` is that of the last claim.
 SCHEMA = f"""
 begin immediate;
@@ -78,19 +79,25 @@ class SqliteBoard:
         """Whether the file is there. One that is not a board is a `Stop`, and is not changed."""
         try:
             known = os.stat(self.path)
-            head = MAGIC + bytes(84)
-            if stat.S_ISREG(known.st_mode):
-                with open(self.path, "rb") as file:
-                    head = file.read(100)
         except FileNotFoundError:
             return False
         except OSError as error:
             raise Stop(Status.FAULT, f"the board {self.path} cannot be read: {error.strerror}") from error
-        if head and (head[:16] != MAGIC or head[68:72] != APPLICATION.to_bytes(4, "big")):
+        if not os.access(self.path, os.R_OK):
+            raise Stop(Status.FAULT, f"the board {self.path} cannot be read: {os.strerror(errno.EACCES)}")
+        is_there = known.st_size > 0 or not stat.S_ISREG(known.st_mode)
+        if is_there and not (stat.S_ISREG(known.st_mode) and self.application() == APPLICATION):
             raise Stop(Status.FAULT, f"{self.path} is not a board of ringplan-run")
         if known.st_nlink > 1:
             raise Stop(Status.FAULT, f"the board {self.path} has {known.st_nlink} hard links: by another name it would have other locks")
-        return bool(head)
+        return is_there
+
+    def application(self) -> int:
+        """Whose database the file is, by SQLite itself: a process that closes a file of its own loses the locks that its other connections have on it."""
+        place = f"file:{urllib.parse.quote(self.path)}?mode=ro&immutable=1"
+        with contextlib.suppress(sqlite3.Error), contextlib.closing(sqlite3.connect(place, uri=True)) as it:
+            return int(it.execute("pragma application_id").fetchone()[0])
+        return 0
 
     def connect(self, is_read: bool) -> sqlite3.Connection:
         """A connection for all threads. One that only reads works without the right to write."""
