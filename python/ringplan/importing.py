@@ -185,6 +185,8 @@ def racks_of(rows: Rows, joining: list[str]) -> dict[str, str]:
     if not any(racks.values()):
         return {}
     racks |= {name: name.rpartition(".")[2] if "." in name else "" for name in joining}
+    if bad := [rack for rack in racks.values() if rack and not NAME.fullmatch(rack)]:
+        raise BadSource(f"the rack {bad[0][:300]!r} has no name of at most 32 bytes of a-z0-9_.:-")
     lacking = [name for name, rack in sorted(racks.items()) if not rack]
     if lacking:
         raise BadSource(f"the rack of {lacking[0]} is not known, and a layout needs that of each node (`--join NAME.RACK`)")

@@ -146,6 +146,11 @@ def test_a_layout_of_a_table_has_its_racks() -> None:
     assert layout_of(from_csv(["0,b\n", "0,a\n"], 0)) == ["layout 1", "end"]
 
 
+def test_a_layout_has_no_rack_that_ringplan_does_not_read() -> None:
+    with pytest.raises(BadSource, match="the rack 'r/1' has no name"):
+        layout_of(from_csv(["0,a,r1\n", "0,b,r/1\n"], 0))
+
+
 @pytest.mark.parametrize(("lines", "joining", "name"), [(["0,a,r1\n", "0,b\n"], [], "b"), (["0,a,r1\n", "0,b,r2\n"], ["c"], "c")])
 def test_a_layout_names_all_racks_or_none(lines: list[str], joining: list[str], name: str) -> None:
     with pytest.raises(BadSource, match=f"the rack of {name} is not known"):
