@@ -119,8 +119,8 @@ def main() -> int:
         with open(os.devnull, "w") as null:
             os.dup2(null.fileno(), 2)  # What hooks print.
         for number in range(count):
-            kind = draw.random()
-            fault = imported(draw, folder, counts) if kind < 0.7 else boarded(draw, folder, counts, board) if kind < 0.97 else hooked(draw, folder, counts)
+            part = draw.random()
+            fault = imported(draw, folder, counts) if part < 0.7 else boarded(draw, folder, counts, board) if part < 0.97 else hooked(draw, folder, counts)
             if fault:
                 faults += 1
                 print(f"input {number}: {fault}", flush=True)

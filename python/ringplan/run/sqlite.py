@@ -27,17 +27,17 @@ APPLICATION = 0x52696E67
 SCHEMA = f"""
 begin immediate;
 pragma application_id={APPLICATION};
-create table if not exists board (identity text not null, token integer not null);
-create table if not exists settings (kind text primary key, value text not null);
-create table if not exists plan (bundle text not null);
+create table if not exists board (identity text not null, token integer not null) strict;
+create table if not exists settings (kind text primary key, value text not null) strict;
+create table if not exists plan (bundle text not null) strict;
 create table if not exists steps (
     id integer primary key, number integer not null unique, kind text not null, partition integer not null, slot integer not null, node text not null,
     turn integer not null, worker text not null default '', is_begun integer not null default 0, is_open integer not null default 0,
     is_done integer not null default 0, failures integer not null default 0, waits integer not null default 0,
     pause real not null default 0, until real not null default 0, is_given_up integer not null default 0, why text not null default '',
-    lines text not null default '', since real not null default 0, ended real not null default 0, unique (kind, partition, slot, node, turn));
+    lines text not null default '', since real not null default 0, ended real not null default 0, unique (kind, partition, slot, node, turn)) strict;
 create table if not exists entries (
-    place integer primary key autoincrement, step integer not null references steps (id), word text not null, chunk integer);
+    place integer primary key autoincrement, step integer not null references steps (id), word text not null, chunk integer) strict;
 create index if not exists entries_of_step on entries (step);
 commit;
 """
@@ -65,6 +65,10 @@ class SqliteBoard:
                 self.connection.executescript(SCHEMA)
                 self.connection.execute("pragma journal_mode=wal")
             self.connection.execute("select bundle, token, ended from plan, board, settings, steps, entries limit 0")
+            # Damage that SQLite would read over, such as a number in the place of a text.
+            ((found,),) = self.connection.execute("pragma quick_check(1)")
+            if found != "ok":
+                raise sqlite3.DatabaseError(found)
         self.file = self.found()
 
     def found(self) -> tuple[int, int]:
