@@ -59,7 +59,7 @@ def etcd_of(folder: pathlib.Path) -> Iterator[str]:
     words = ["etcd", "--data-dir", str(folder / "data"), "--listen-client-urls", client, "--advertise-client-urls", client, "--listen-peer-urls", peer]
     with subprocess.Popen([*words, "--initial-advertise-peer-urls", peer, "--initial-cluster", f"default={peer}"], stdout=subprocess.DEVNULL, stderr=subprocess.DEVNULL) as process:
         try:
-            ready = gateway.Etcd("127.0.0.1", port)
+            ready = gateway.Etcd(gateway.Access((f"127.0.0.1:{port}",)))
             ready.patience = 30.0
             ready.read_each("ready")
             yield f"etcd://127.0.0.1:{port}/plan"
@@ -121,6 +121,8 @@ def main() -> None:
         for kind in ("mirror", "copy", "switch", "drop", "retire"):
             (hook.parent / kind).symlink_to("join")
         see_runner(folder, "a file", SqliteBoard(str(folder / "board"), is_new=True), bundle, hook)
+        # Beside a board in etcd the runner's folder has the locks of hooks.
+        os.chdir(folder)
         with etcd_of(folder) as address:
             see_runner(folder, "etcd", EtcdBoard(address, is_new=True), bundle, hook)
         print(f"a write that waits for the disk: {1000 * sync_time(folder):.2f} ms; a step waits for one with a board in a file")

@@ -19,6 +19,7 @@ import os
 import pathlib
 import random
 import shutil
+import signal
 import socketserver
 import subprocess
 import sys
@@ -40,7 +41,7 @@ from ringplan.store.traffic import Load, Run
 from ringplan.store.versions import Contents, is_at_most
 
 ENVIRONMENT = {**os.environ, "PYTHONPATH": str(TOP / "python")}
-NOT_NOW = 75
+NOT_NOW, LATE = 75, 76
 # How long a right run may take, and how long its plan, in seconds: far more than they take on two slow processors.
 ENDS, LIMIT = 900, 600.0
 # Asks the store for a step, and ends with the status that it answers.
@@ -120,6 +121,13 @@ class Desk(socketserver.ThreadingMixIn, socketserver.UnixStreamServer):
         super().__init__(path, Request)
 
 
+def children(process: int) -> list[int]:
+    """The processes that a process has started, by any of its threads."""
+    with contextlib.suppress(OSError):
+        return [int(word) for path in pathlib.Path(f"/proc/{process}/task").glob("*/children") for word in path.read_text().split()]
+    return []
+
+
 class ByRunner(Executor):
     """A plan that `ringplan-run` goes through by hooks, which ask the store. The runner is killed by signal 9, and every other time its hooks too, and is started again."""
 
@@ -145,6 +153,8 @@ class ByRunner(Executor):
 
     def serve(self, line: dict[str, Any]) -> int:
         step = self.steps[line["step"]]
+        if not self.tokens.admit(step, line["token"]):
+            return LATE
         with self.lock:
             if step.step in self.done:
                 return 0
@@ -165,15 +175,16 @@ class ByRunner(Executor):
         return [sys.executable, "-m", "ringplan.run", *words, "--board", str(self.folder / "board")]
 
     def kill(self, process: "subprocess.Popen[bytes]", with_hooks: bool) -> None:
-        hooks = pathlib.Path(f"/proc/{process.pid}/task/{process.pid}/children").read_text().split() if with_hooks else []
+        hooks = [hook for one in children(process.pid) for hook in children(one)] if with_hooks else []
         process.kill()
         for hook in hooks:
-            subprocess.run(["kill", "-9", hook], stderr=subprocess.DEVNULL)
+            with contextlib.suppress(ProcessLookupError):
+                os.kill(hook, signal.SIGKILL)
         process.wait()
         self.killed += 1
 
     def work(self, draw: random.Random, until: float, pace: float = 0.0) -> None:
-        words = self.command("apply", str(self.folder / "plan.bundle"), "--do", str(self.folder / "hooks"))
+        words = self.command("apply", str(self.folder / "plan.bundle"), "--do", str(self.folder / "hooks"), "--new")
         words += ["--workers", str(self.workers), "--pause", "0.05", "--longest-pause", "0.4"]
         with Desk(str(self.folder / "desk"), self.serve) as desk, open(self.folder / "said", "ab") as said:
             threading.Thread(target=desk.serve_forever, daemon=True).start()

@@ -9,8 +9,8 @@ from __future__ import annotations
 import json
 import re
 from collections.abc import Callable, Iterator
-from dataclasses import dataclass
-from typing import Protocol
+from dataclasses import dataclass, fields
+from typing import Any, Protocol
 
 NUMBER = re.compile("0|[1-9][0-9]*")
 NAME = re.compile("[a-z0-9_.:-]{1,32}")
@@ -338,7 +338,7 @@ def read_plan(bundle: str) -> tuple[Ring, Plan]:
     raise BadText(1, "the bundle does not begin with a ring and a plan")
 
 
-@dataclass(frozen=True)
+@dataclass(frozen=True, slots=True)
 class StepLine:
     """A line of `ringplan steps`. A member that the line does not have is None."""
 
@@ -356,15 +356,15 @@ class StepLine:
     slots: tuple[int, ...] | None = None
 
     @staticmethod
-    def read(line: str) -> StepLine:
-        members = json.loads(line)
-        sources = members.pop("from", None)
-        lists = {name: tuple(members[name]) for name in ("after", "slots") if name in members}
-        return StepLine(**{**members, **lists}, sources=None if sources is None else tuple(sources))
+    def of(members: dict[str, Any]) -> StepLine:
+        found = members.get
+        sources, slots = found("from"), found("slots")
+        lists = (None if sources is None else tuple(sources), None if slots is None else tuple(slots))
+        return StepLine(members["step"], members["do"], tuple(members["after"]), found("partition"), found("slot"), found("node"), found("to"), *lists)
 
     def members(self) -> dict[str, object]:
         """The line's members by their names."""
-        found = {name: value for name, value in vars(self).items() if value is not None}
+        found = {field.name: value for field in fields(self) if (value := getattr(self, field.name)) is not None}
         if "sources" in found:
             found["from"] = found.pop("sources")
         return found
@@ -385,7 +385,8 @@ class StepLine:
 
 def read_steps(lines: str) -> list[StepLine]:
     """The lines of steps, in order. The number of each is its place."""
-    steps = [StepLine.read(line) for line in lines.splitlines()]
+    # All in one piece: a plan may have a hundred thousand.
+    steps = [StepLine.of(members) for members in json.loads(f"[{','.join(lines.splitlines())}]")]
     for place, step in enumerate(steps):
         if step.step != place:
             raise BadText(place + 1, f"step {step.step} at the place of step {place}")

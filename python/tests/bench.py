@@ -3,6 +3,7 @@
 from __future__ import annotations
 
 import contextlib
+import dataclasses
 import json
 import os
 import pathlib
@@ -62,39 +63,67 @@ def free_port() -> int:
             return int(one.getsockname()[1])
 
 
-class Server:
-    """An etcd process on loopback, over a folder of its own, with options of its own."""
+def certify(folder: pathlib.Path) -> None:
+    """An authority, and a certificate of it for 127.0.0.1, which servers and clients may use. It has no common name: etcd takes none by its gateway if it has users."""
+    (folder / "extra").write_text("subjectAltName=IP:127.0.0.1\nextendedKeyUsage=serverAuth,clientAuth\n")
+    new = ["openssl", "req", "-newkey", "rsa:2048", "-nodes", "-days", "2"]
+    for words in (
+        [*new, "-x509", "-keyout", "authority.pem", "-out", "ca.pem", "-subj", "/CN=authority"],
+        [*new, "-keyout", "key.pem", "-out", "request.pem", "-subj", "/O=ringplan"],
+        "openssl x509 -req -in request.pem -CA ca.pem -CAkey authority.pem -CAcreateserial -out cert.pem -days 2 -extfile extra".split(),
+    ):
+        subprocess.run(words, cwd=folder, check=True, capture_output=True)
 
-    def __init__(self, folder: pathlib.Path, *options: str) -> None:
+
+class Server:
+    """An etcd on loopback, of one member or more, over a folder of its own, with options of its own."""
+
+    def __init__(self, folder: pathlib.Path, *options: str, members: int = 1, is_tls: bool = False) -> None:
         if shutil.which("etcd") is None:
             pytest.skip("etcd is not installed")
-        self.folder = folder
-        self.port, peer = free_port(), f"http://127.0.0.1:{free_port()}"
-        client = f"http://127.0.0.1:{self.port}"
-        peers = ["--listen-peer-urls", peer, "--initial-advertise-peer-urls", peer, "--initial-cluster", f"default={peer}"]
-        self.words = ["etcd", "--data-dir", str(folder / "data"), "--listen-client-urls", client, "--advertise-client-urls", client, *peers, *options]
+        self.folder, self.ports = folder, [free_port() for _ in range(members)]
+        self.access = gateway.Access(tuple(f"127.0.0.1:{port}" for port in self.ports))
+        if is_tls:
+            certify(folder)
+            files = {name: str(folder / f"{name}.pem") for name in ("ca", "cert", "key")}
+            self.access = dataclasses.replace(self.access, is_tls=True, **files)
+            options += ("--cert-file", files["cert"], "--key-file", files["key"], "--trusted-ca-file", files["ca"], "--client-cert-auth")
+        peers = [f"http://127.0.0.1:{free_port()}" for _ in range(members)]
+        cluster = ",".join(f"m{number}={peer}" for number, peer in enumerate(peers))
+        self.words, self.processes = list[list[str]](), dict[int, subprocess.Popen[bytes]]()
+        for number, (port, peer) in enumerate(zip(self.ports, peers)):
+            client, data = f"http{'s' * is_tls}://127.0.0.1:{port}", str(folder / (f"data{number}" if number else "data"))
+            words = ["etcd", "--name", f"m{number}", "--data-dir", data, "--listen-client-urls", client, "--advertise-client-urls", client]
+            self.words.append([*words, "--listen-peer-urls", peer, "--initial-advertise-peer-urls", peer, "--initial-cluster", cluster, *options])
         self.start()
 
-    def start(self) -> None:
-        with open(self.folder / "etcd.log", "ab") as log:
-            self.process = subprocess.Popen(self.words, stdout=log, stderr=log)
-        client = gateway.Etcd("127.0.0.1", self.port)
-        client.patience = LONG
-        client.read_each("ready")
+    def start(self, is_awaited: bool = True) -> None:
+        """Starts the members that do not run, and waits for an answer."""
+        for number, words in enumerate(self.words):
+            if number not in self.processes:
+                with open(self.folder / "etcd.log", "ab") as log:
+                    self.processes[number] = subprocess.Popen(words, stdout=log, stderr=log)
+        if is_awaited:
+            client = gateway.Etcd(self.access)
+            client.patience = LONG
+            client.read_each("ready")
 
-    def kill(self) -> None:
-        self.process.kill()
-        self.process.wait()
+    def kill(self, *members: int) -> None:
+        """Kills these members by signal 9; all of them if none is named."""
+        for number in members or [*self.processes]:
+            process = self.processes.pop(number)
+            process.kill()
+            process.wait()
 
     def address(self, name: str) -> str:
-        return f"etcd://127.0.0.1:{self.port}/{name}"
+        return f"etcd{'s' * self.access.is_tls}://{self.access}/{name}"
 
 
 class Bench:
     """A folder with a bundle, hooks and their log; a board; the lease of runners, where the board has leases; and the words before each command."""
 
     def __init__(self, folder: pathlib.Path, board: str, prefix: Sequence[str] = ()) -> None:
-        self.folder, self.board, self.lease, self.prefix = folder, board, "10", prefix
+        self.folder, self.board, self.lease, self.prefix, self.options = folder, board, "10", prefix, list[str]()
         self.bundle = folder / "bundle"
         self.bundle.write_text(REPLACE)
         self.hooks(0.0)
@@ -119,20 +148,34 @@ class Bench:
 
     def command(self, *words: str) -> list[str]:
         if words[0] == "apply":
-            words = ("apply", str(self.bundle), "--do", str(self.folder / "hooks"), "--pause", "0.05", "--lease", self.lease, *words[1:])
-        words = (*words, "--lease", self.lease) if words[0] == "around" else words
-        return [*self.prefix, sys.executable, "-m", "ringplan.run", *words, "--board", self.board]
+            words = ("apply", str(self.bundle), "--do", str(self.folder / "hooks"), "--new", "--pause", "0.05", "--lease", self.lease, *words[1:])
+        words = (*words, "--lease", self.lease) if words[0] in ("around", "rest", "leave") else words
+        return [*self.prefix, sys.executable, "-m", "ringplan.run", *words, "--board", self.board, *self.options]
 
     def start(self, *words: str, machine: str = "machine") -> subprocess.Popen[str]:
         """Starts a command. Runners of two machines do not see the locks of each other's hooks."""
         place, folder = {**os.environ, "PYTHONPATH": str(TOP / "python")}, self.folder / machine
         folder.mkdir(exist_ok=True)
-        return subprocess.Popen(self.command(*words), stdout=subprocess.PIPE, stderr=subprocess.PIPE, text=True, env=place, cwd=folder)
+        return subprocess.Popen(self.command(*words), stdout=subprocess.PIPE, stderr=subprocess.PIPE, text=True, errors="replace", env=place, cwd=folder)
 
     def run(self, *words: str) -> tuple[int, str, str]:
         process = self.start(*words)
         out, err = process.communicate(timeout=LONG)
         return process.returncode, out, err
+
+    def children(self, process: int) -> list[int]:
+        """The processes that a process has started, by any of its threads."""
+        with contextlib.suppress(OSError):
+            return [int(word) for path in pathlib.Path(f"/proc/{process}/task").glob("*/children") for word in path.read_text().split()]
+        return []
+
+    def supervisors(self, process: subprocess.Popen[str]) -> list[int]:
+        """The supervisors of a runner."""
+        return [child for child in self.children(process.pid) if b"supervisor.py" in pathlib.Path(f"/proc/{child}/cmdline").read_bytes()]
+
+    def hooks_of(self, process: subprocess.Popen[str]) -> list[int]:
+        """The hooks of a runner that run."""
+        return [hook for one in self.supervisors(process) for hook in self.children(one)]
 
     def log(self) -> list[tuple[str, dict[str, object]]]:
         path = self.folder / "log"

@@ -16,8 +16,9 @@ from test_runner import at_random, claim_of, lose_answers, open_board, over_both
 
 from ringplan import programs, texts
 from ringplan.run import etcd
-from ringplan.run.board import Board, Change, Claim, ClaimEnded, Note, Record, Status, Stop, Tries, names_of
+from ringplan.run.board import Board, Change, Claim, ClaimEnded, Note, Record, Status, Stop, Tries
 from ringplan.run.runner import read_steps
+from ringplan.run.supervisor import now
 
 # The copies of these steps read amber and birch, and neither waits for the other.
 OTHER, DEAD = 2, 6
@@ -32,7 +33,8 @@ def server(tmp_path_factory: pytest.TempPathFactory) -> Iterator[Server]:
 
 
 @pytest.fixture
-def address(request: pytest.FixtureRequest, tmp_path: pathlib.Path) -> str:
+def address(request: pytest.FixtureRequest, tmp_path: pathlib.Path, monkeypatch: pytest.MonkeyPatch) -> str:
+    monkeypatch.chdir(tmp_path)
     if request.param == "file":
         return str(tmp_path / "board")
     server: Server = request.getfixturevalue("server")
@@ -82,7 +84,7 @@ def see_the_end(bench: Bench) -> None:
     assert bench.steps("twice") == []
     record = record_of(bench)
     assert programs.ask("replay", record.text()).first() == "yes"
-    assert sum(line.split()[0] in ("do", "close") for line in record.entries) == len(read_steps(record.bundle))
+    assert sum(line.split()[0] in ("do", "close") for line in record.entries) == len(read_steps(record.bundle)[0])
     assert bench.run("history")[1].splitlines()[1:-1] == record.entries
 
 
@@ -140,8 +142,8 @@ def test_a_change_comes_to_rest(bench: Bench) -> None:
     for step in (OTHER, DEAD):
         bench.let_go(step)
     see_the_end(bench)
-    steps = read_steps(record_of(bench).bundle)
-    assert [step.do for step in steps].count("copy") == 2 and len(steps) < len(read_steps(before.bundle))
+    steps, _ = read_steps(record_of(bench).bundle)
+    assert [step.do for step in steps].count("copy") == 2 and len(steps) < len(read_steps(before.bundle)[0])
     assert programs.ask("after", record_of(bench).text()).status == 0
 
 
@@ -243,11 +245,11 @@ def swap(board: Board, *dead: str) -> bool:
     *bundle, history = texts.read_texts(programs.ask("around", known.text(), *dead).text)
     assert isinstance(history, texts.History)
     text = texts.write_texts(bundle)
-    return board.swap(known, Change.of(text, names_of(read_steps(text)), history.entries))
+    return board.swap(known, Change.of(text, read_steps(text)[1], history.entries))
 
 
 def see_swap(address: str) -> None:
-    names, board = names_of(read_steps(GROW)), open_board(address)
+    names, board = read_steps(GROW)[1], open_board(address)
     board.begin(GROW, names)
     for number in (0, 1, 5):
         claim = claim_of(board, "w", [names[number]])
@@ -259,7 +261,7 @@ def see_swap(address: str) -> None:
         board.note(claim, [Note("open"), Note("chunk", 3)])
     failed = claim_of(board, "w", [names[3]])
     assert isinstance(failed, Claim)
-    board.give_back(failed, Tries(2, 1, time.time() + 1000))
+    board.give_back(failed, Tries(2, 1).later(1000))
     edition, other = board.record().edition, open_board(address)
     with other.pausing():
         assert board.claim("w", edition, names) is None
@@ -275,12 +277,12 @@ def see_swap(address: str) -> None:
     assert programs.ask("replay", record.text()).first() == "yes" and "copy 1 0 slots 1 2" in record.bundle
     # A claim of the copy that is open goes on, and the one of the copy that begins anew ends.
     until = time.monotonic() + LONG
-    while board.renew(two):
+    while board.until(two) > now():
         assert time.monotonic() < until
         time.sleep(0.05)
     with pytest.raises(ClaimEnded):
         board.note(two, [Note("abort")])
-    assert board.renew(one)
+    assert board.until(one) > now()
     board.note(one, [*(Note("chunk", chunk) for chunk in range(16) if chunk not in (3, 4)), Note("close")], is_done=True)
     again = claim_of(board, "w3", [names[DEAD]])
     assert isinstance(again, Claim) and (again.is_again, again.is_open, again.marks) == (True, False, frozenset())

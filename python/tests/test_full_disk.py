@@ -84,9 +84,9 @@ def test_an_etcd_without_room(tmp_path: pathlib.Path) -> None:
         assert 0 < len(bench.steps("end")) < 18
         assert bench.run("judge")[1].startswith("yes\n")
         server.kill()
-        server.words[-1] = "100000000"
+        server.words[0][-1] = "100000000"
         server.start()
-        client = gateway.Etcd("127.0.0.1", server.port)
+        client = gateway.Etcd(gateway.Access((f"127.0.0.1:{server.ports[0]}",)))
         (alarm,) = client.ask("/v3/maintenance/alarm", {"action": "GET"})["alarms"]
         client.ask("/v3/maintenance/alarm", {"action": "DEACTIVATE", **alarm})
         assert bench.run("apply")[0] == Status.DONE

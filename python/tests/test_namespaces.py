@@ -19,7 +19,7 @@ from ringplan.run.board import Status
 
 MACHINES = ("one", "two")
 PORT = 2379
-READY = f"from ringplan.run import gateway; it = gateway.Etcd('127.0.0.1', {PORT}); it.patience = {LONG}; it.read_each('ready')"
+READY = f"from ringplan.run import gateway; it = gateway.Etcd(gateway.Access(('127.0.0.1:{PORT}',))); it.patience = {LONG}; it.read_each('ready')"
 
 
 class Network:

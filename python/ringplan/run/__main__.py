@@ -1,79 +1,145 @@
 """The command line of the runner.
 
-    ringplan-run apply BUNDLE --do FOLDER [--board FILE|etcd://HOST:PORT/NAME] [--lease SECONDS] [--workers K] [--give-up N] [--serve PORT]
-    ringplan-run around [--dead NODE].. [--leave P.I].. [--rest] [--back] [--layout FILE]  [--board FILE|etcd://HOST:PORT/NAME] [--lease SECONDS]
-    ringplan-run status | history | judge | retry STEP  [--board FILE|etcd://HOST:PORT/NAME]
+    ringplan-run apply BUNDLE --do FOLDER [--board FILE|etcd://HOST:PORT/NAME] [--new] [--workers K] [--give-up N] [--layout FILE] [--serve PORT]
+    ringplan-run around [--dead NODE].. [--leave P.I].. [--rest] [--back] [--layout FILE] | rest | leave P.I  [--board BOARD]
+    ringplan-run status | history | judge | bundle | retry STEP | limit K [--node NODE=K] | forget  [--board BOARD]
+    ringplan-run boards
 """
 
 from __future__ import annotations
 
 import argparse
-import itertools
+import contextlib
+import hashlib
+import json
+import math
 import os
+import pathlib
+import re
 import signal
 import sys
 import time
-from types import FrameType
 
-from ringplan import programs, texts
+from ringplan import __version__, programs, texts
+from ringplan.run import report
 from ringplan.run.bar import shown
-from ringplan.run.board import Board, Change, Name, State, Status, Stop, names_of
-from ringplan.run.etcd import EtcdBoard
+from ringplan.run.board import LOOK, Board, Change, Name, NoBoard, State, Status, Stop
 from ringplan.run.hooks import Hooks
-from ringplan.run.page import Page, begun, told
-from ringplan.run.runner import LOOK, Options, Runner, judge, read_steps
+from ringplan.run.page import Page
+from ringplan.run.runner import SIGNALS, Options, Runner, judge, read_steps
 from ringplan.run.sqlite import SqliteBoard
 
 
 def read_bundle(path: str) -> str:
-    """A bundle that is a ring, a plan and its certificate."""
+    """A bundle that is a ring, a plan and its certificate. `ringplan steps` reads more of it than its first words."""
     try:
         with open(path, encoding="ascii", newline="") as file:
             bundle = file.read()
-        read = texts.read_texts(bundle)
-    except (OSError, UnicodeError, texts.BadText) as error:
+    except (OSError, UnicodeError) as error:
         raise Stop(Status.FAULT, f"{path}: {error}") from error
-    if [type(text) for text in read] != [texts.Ring, texts.Plan, texts.Certificate]:
+    if re.findall(rf"^({'|'.join(texts.READERS)}) [0-9]+$", bundle, re.M) != ["ring", "plan", "cert"]:
         raise Stop(Status.FAULT, f"{path}: a bundle to apply is a ring, a plan and its certificate")
     return bundle
 
 
-def open_board(words: argparse.Namespace, is_new: bool = False) -> Board:
+def sum_of(bundle: str) -> str:
+    return hashlib.sha256(bundle.encode()).hexdigest()
+
+
+def boards_here() -> list[str]:
+    """The boards of this folder that have names of their own plans."""
+    return [str(path) for path in sorted(pathlib.Path().glob("ringplan-*.board"))]
+
+
+def place(words: argparse.Namespace) -> str:
+    """The board of a command that names none: the only one of this folder."""
+    if words.board is None:
+        found = boards_here()
+        if len(found) != 1:
+            raise Stop(Status.FAULT, f"--board must name one of these: {' '.join(found)}" if found else "there is no board in this folder")
+        words.board = found[0]
+    return str(words.board)
+
+
+def open_board(words: argparse.Namespace, is_new: bool = False, is_read: bool = False) -> Board:
     """The board of the command line."""
-    if words.board.startswith("etcd:"):
-        return EtcdBoard(words.board, is_new, getattr(words, "lease", 0))
-    return SqliteBoard(words.board, is_new)
+    name = place(words)
+    if not name.startswith(("etcd:", "etcds:")):
+        return SqliteBoard(name, is_new, is_read)
+    try:
+        from ringplan.run.etcd import EtcdBoard
+        from ringplan.run.gateway import Access
+    except ModuleNotFoundError as error:
+        raise Stop(Status.FAULT, f"a board in etcd needs the Python package {error.name}: python3-{error.name} of Debian") from error
+    try:
+        password = pathlib.Path(words.password_file).read_text().rstrip("\n") if words.password_file else ""
+        for path in (words.ca, words.cert, words.key):
+            open(path or os.devnull).close()
+    except (OSError, UnicodeError) as error:
+        raise Stop(Status.FAULT, str(error)) from error
+    access = Access((), False, words.ca, words.cert, words.key, words.user, password)
+    return EtcdBoard(name, is_new, getattr(words, "lease", 0), access)
+
+
+def make_board(words: argparse.Namespace, bundle: str) -> Board:
+    """The board of a plan. One that is not there is made only if the operator wants that."""
+    if words.board is None:
+        known = [path for path in boards_here() if SqliteBoard(path, is_read=True).has(bundle)]
+        words.board = known[0] if known else f"ringplan-{sum_of(bundle)[:12]}.board"
+    try:
+        return open_board(words)
+    except NoBoard as missing:
+        if not words.new and not is_wanted(words.board, bundle):
+            raise Stop(Status.OTHER_PLAN, f"{missing}: `apply --new` makes it, and the plan begins from its start") from missing
+    return open_board(words, is_new=True)
+
+
+def is_wanted(board: str, bundle: str) -> bool:
+    """Shows the plan at a terminal, and asks."""
+    if not (sys.stdin.isatty() and sys.stderr.isatty()):
+        return False
+    print(*programs.ask("show", bundle).text.splitlines()[:5], f"There is no board {board}. Make it, and begin? [y/N] ", sep="\n", end="", file=sys.stderr, flush=True)
+    return sys.stdin.readline().strip().lower() in ("y", "yes")
 
 
 def apply(words: argparse.Namespace) -> Status:
     bundle = read_bundle(words.bundle)
+    if words.plan_sum not in (None, sum_of(bundle)):
+        raise Stop(Status.OTHER_PLAN, f"{words.bundle} has the sum {sum_of(bundle)}, and {words.plan_sum} was approved")
     programs.find()
-    steps = read_steps(bundle)
-    kinds = sorted({step.do for step in steps})
-    Hooks(words.do, "").demand(kinds)
-    board = open_board(words, is_new=True)
-    board.begin(bundle, names_of(steps))
-    hooks = Hooks(words.do, board.locks)
-    runner = Runner(board, hooks, Options(words.workers, words.give_up, words.pause, words.longest_pause))
+    steps, names = read_steps(bundle)
+    Hooks(words.do, "").demand(sorted({step.do for step in steps}))
+    # Before any thread begins: one that does not block a signal could take it.
+    signal.pthread_sigmask(signal.SIG_BLOCK, SIGNALS)
+    sizes = sizes_of(words.layout, bundle)
+    board = make_board(words, bundle)
+    board.begin(bundle, names)
+    if sizes:
+        board.set("sizes", sizes)
+    hooks = Hooks(words.do, board.locks, dict(words.timeout))
+    runner = Runner(board, hooks, Options(words.workers, words.give_up, words.pause, words.longest_pause, words.only_between, words.on_event))
 
-    signals = itertools.count()
-
-    def on_signal(number: int, frame: FrameType | None) -> None:
-        runner.stop()
-        if next(signals):
-            hooks.end()
-
-    signal.signal(signal.SIGINT, on_signal)
-    signal.signal(signal.SIGTERM, on_signal)
     try:
         if words.serve is not None:
-            print(f"the page is at {Page(board, words.serve).address}", file=sys.stderr, flush=True)
+            page = Page(open_board(words, is_read=True), runner, words.listen, words.serve)
+            print(f"the page is at {page.address}", file=sys.stderr, flush=True)
         with shown(runner):
             status = runner.run()
     finally:
-        board.end()
+        board.end(not hooks.is_lost)
     print(f"{len(runner.done)} of {len(runner.steps)} steps are done, and the judge says yes")
     return status
+
+
+def sizes_of(layout: str | None, bundle: str) -> dict[str, int]:
+    """How much each partition stores, by a layout that `ringplan` reads."""
+    if layout is None:
+        return {}
+    answer = programs.ask("show", bundle, f"--layout={layout}")
+    if answer.status:
+        raise Stop(Status.FAULT, answer.errors.rstrip())
+    lines = pathlib.Path(layout).read_text(encoding="utf-8")
+    return {partition: int(size) for partition, size in re.findall(r"^ *size +([0-9]+) +([0-9]+) *$", lines, re.M)}
 
 
 def around(words: argparse.Namespace) -> Status:
@@ -92,7 +158,7 @@ def around(words: argparse.Namespace) -> Status:
             *bundle, history = texts.read_texts(answer.text)
             if not isinstance(history, texts.History):
                 raise Stop(Status.FAULT, "`ringplan around` printed no history")
-            names = names_of(read_steps(text := texts.write_texts(bundle)))
+            _, names = read_steps(text := texts.write_texts(bundle))
             left = [state for state in board.states()[1] if state.is_begun and not state.is_done and state.name not in names]
             is_swapped = board.swap(known, Change.of(text, names, history.entries))
     print(answer.errors, end="", file=sys.stderr)
@@ -119,19 +185,51 @@ def is_busy(board: Board, hooks: Hooks, state: State) -> bool:
 
 
 def status(words: argparse.Namespace) -> Status:
-    board = open_board(words)
+    board = open_board(words, is_read=True)
     (_, states), is_held = board.states(), board.is_held()
-    print(f"{sum(state.is_done for state in states)} of {len(states)} steps are done; {'a' if is_held else 'no'} runner works with the board")
-    for state in begun(states):
-        print(state.number, f"{state.name}:", told(state, is_held))
-    return Status.DONE
+    done, now = sum(state.is_done for state in states), time.time()
+    pace = report.pace_of(states, board.settings("sizes"), now)
+    if words.format == "json":
+        print(json.dumps(report.members(states, pace, is_held)))
+    else:
+        lines = [f"{done} of {len(states)} steps are done; {'a' if is_held else 'no'} runner works with the board"]
+        lines += [pace.words(now)] if done < len(states) and pace.sizes else []
+        for state in report.begun(states):
+            lines += [f"{state.number} {state.name}: {report.told(state, is_held)}", *(f"    | {line}" for line in state.tries.lines.splitlines())]
+            lines += [f"    {report.advice(state)}"] if state.tries.is_given_up else []
+        print(*lines, sep="\n")
+    if any(state.tries.is_given_up and not state.is_done for state in states):
+        return Status.GIVEN_UP
+    return Status.STOPPED if done < len(states) and not is_held else Status.DONE
 
 
 def history(words: argparse.Namespace) -> Status:
-    print("history 1")
-    for line in open_board(words).record().entries:
-        print(line)
-    print("end")
+    record = open_board(words, is_read=True).record()
+    print(record.text() if words.bundle else record.text().removeprefix(record.bundle), end="")
+    return Status.DONE
+
+
+def print_bundle(words: argparse.Namespace) -> Status:
+    print(open_board(words, is_read=True).record().bundle, end="")
+    return Status.DONE
+
+
+def limit(words: argparse.Namespace) -> Status:
+    limits = dict(words.node) | ({} if words.count is None else {"": words.count})
+    open_board(words).set("limits", limits)
+    return Status.DONE
+
+
+def boards(words: argparse.Namespace) -> Status:
+    for path in boards_here():
+        board = SqliteBoard(path, is_read=True)
+        _, states = board.states()
+        print(f"{path}: {sum(state.is_done for state in states)} of {len(states)} steps are done; {'a' if board.is_held() else 'no'} runner works with it")
+    return Status.DONE
+
+
+def forget(words: argparse.Namespace) -> Status:
+    open_board(words).remove()
     return Status.DONE
 
 
@@ -141,19 +239,49 @@ def retry(words: argparse.Namespace) -> Status:
 
 
 def see_judge(words: argparse.Namespace) -> Status:
-    answer = judge(open_board(words))
+    answer, _ = judge(open_board(words, is_read=True))
     print(answer.text, end="")
     return Status.DONE if answer.first() == "yes" else Status.REFUSED
 
 
 def count(word: str) -> int:
-    if not word.isdecimal() or int(word) < 1:
-        raise argparse.ArgumentTypeError(f"{word} is no number from 1")
+    if not word.isdecimal() or not 1 <= int(word) < 1 << 31:
+        raise argparse.ArgumentTypeError(f"{word} is not a number from 1")
     return int(word)
+
+
+def seconds(word: str) -> float:
+    found = float(word)
+    if not 0 <= found < math.inf:
+        raise argparse.ArgumentTypeError(f"{word} is not a number of seconds")
+    return found
+
+
+def most(word: str) -> tuple[str, int]:
+    node, _, number = word.rpartition("=")
+    if not texts.NAME.fullmatch(node):
+        raise argparse.ArgumentTypeError(f"{word} is not a node, = and a number")
+    return node, count(number)
+
+
+def times(word: str) -> tuple[int, int]:
+    found = re.fullmatch(r"([01]\d|2[0-3]):([0-5]\d)-([01]\d|2[0-3]):([0-5]\d)", word)
+    if found is None:
+        raise argparse.ArgumentTypeError(f"{word} is not two times of day, such as 22:00-06:00")
+    first, first_minute, last, last_minute = map(int, found.groups())
+    return 60 * first + first_minute, 60 * last + last_minute
+
+
+def timeout(word: str) -> tuple[str, float]:
+    kind, is_one, time = word.partition("=")
+    if kind not in ("join", "mirror", "copy", "chunk", "switch", "drop", "retire") or not is_one:
+        raise argparse.ArgumentTypeError(f"{word} is not a hook's name, = and seconds")
+    return kind, seconds(time)
 
 
 def command_line() -> argparse.ArgumentParser:
     parser = argparse.ArgumentParser(prog="ringplan-run", description="Goes through an approved plan by hooks.")
+    parser.add_argument("--version", action="version", version=f"ringplan-run {__version__}")
     commands = parser.add_subparsers(dest="command", required=True, metavar="COMMAND")
     calls = {
         "apply": (apply, "goes through the plan of a bundle, or goes on where it was left"),
@@ -161,15 +289,40 @@ def command_line() -> argparse.ArgumentParser:
         "history": (history, "prints the history so far"),
         "retry": (retry, "has a step tried again that was given up, or that pauses"),
         "judge": (see_judge, "has the history so far judged"),
+        "bundle": (print_bundle, "prints the bundle that the board has now"),
+        "limit": (limit, "sets how many steps each runner may do at once, or without a number ends the limits"),
+        "boards": (boards, "lists the boards of this folder"),
+        "forget": (forget, "deletes a board, with what it knows"),
+        "rest": (around, "ends the moves that have begun, and begins no others"),
+        "leave": (around, "leaves a slot with its owner, and ends its move"),
         "around": (around, "puts another plan in the place of the board's: around nodes that died, at rest, or with slots left out"),
     }
     for name, (call, what) in calls.items():
         command = commands.add_parser(name, help=what, description=what)
         command.set_defaults(call=call)
-        command.add_argument("--board", default="ringplan.board", metavar="BOARD", help="a file, or etcd://HOST:PORT/NAME (default: %(default)s)")
+        if name == "boards":
+            continue
+        command.add_argument("--board", metavar="BOARD", help="a file, or etcd://HOST:PORT/NAME, or etcds:// for TLS (default: ringplan-SUM.board, by the plan's sum)")
+        for option, what in (("--ca", "the certificate of the authority of etcd's"), ("--cert", "the runner's certificate"), ("--key", "its key")):
+            command.add_argument(option, metavar="FILE", help=what)
+        command.add_argument("--user", metavar="NAME", help="the runner's user in etcd")
+        command.add_argument("--password-file", metavar="FILE", help="the file of the user's password")
+        if name == "status":
+            command.add_argument("--format", choices=["text", "json"], default="text", help="how it is printed (default: %(default)s)")
         if name == "retry":
             command.add_argument("step", type=int, help="the step's number")
-        if name in ("apply", "around"):
+        if name == "history":
+            command.add_argument("--bundle", action="store_true", help="the bundle too")
+        if name == "limit":
+            command.add_argument("count", type=count, nargs="?", metavar="K", help="how many steps at once")
+            command.add_argument("--node", type=most, action="append", default=[], metavar="NODE=K", help="how many copies at once read or fill a node")
+        if name == "rest":
+            command.add_argument("--now", dest="back", action="store_true", help="takes mirrors back whose copies have no chunk")
+            command.set_defaults(rest=True, leave=[], dead=[], layout=None)
+        if name == "leave":
+            command.add_argument("leave", nargs="+", metavar="P.I", help="a slot, by its partition and its index")
+            command.set_defaults(rest=False, back=False, dead=[], layout=None)
+        if name in ("apply", "around", "rest", "leave"):
             command.add_argument("--lease", type=count, default=60, metavar="SECONDS", help="how long etcd waits for a dead runner (default: %(default)s)")
         if name == "around":
             command.add_argument("--dead", action="append", default=[], metavar="NODE", help="a node that is dead for good; give each of them")
@@ -182,22 +335,37 @@ def command_line() -> argparse.ArgumentParser:
             command.add_argument("--do", required=True, metavar="FOLDER", help="the folder of the hooks")
             command.add_argument("--workers", type=count, default=1, metavar="K", help="how many steps may be done at once (default: %(default)s)")
             command.add_argument("--give-up", type=count, metavar="N", help="gives a step up that failed so often (default: never)")
-            command.add_argument("--pause", type=float, default=1.0, metavar="SECONDS", help="the pause before a second try; it doubles (default: %(default)s)")
-            command.add_argument("--longest-pause", type=float, default=300.0, metavar="SECONDS", help="the longest pause (default: %(default)s)")
-            command.add_argument("--serve", type=int, metavar="PORT", help="shows a page at this port of 127.0.0.1; 0 takes a free one")
+            command.add_argument("--pause", type=seconds, default=1.0, metavar="SECONDS", help="the pause before a second try; it doubles (default: %(default)s)")
+            command.add_argument("--longest-pause", type=seconds, default=300.0, metavar="SECONDS", help="the longest pause (default: %(default)s)")
+            command.add_argument("--new", action="store_true", help="makes the board if it is not there, without asking")
+            command.add_argument("--plan-sum", metavar="SHA256", help="refuses a bundle with another SHA-256 sum")
+            command.add_argument("--only-between", type=times, metavar="HH:MM-HH:MM", help="lets copies begin only at this time of day")
+            command.add_argument("--on-event", metavar="COMMAND", help="a program that gets a line of JSON if a step is given up, the judge says no, or all is done")
+            command.add_argument("--timeout", type=timeout, action="append", default=[], metavar="KIND=SECONDS", help="ends a hook that takes longer, and counts a failure")
+            command.add_argument("--serve", type=int, metavar="PORT", help="shows a page at this port; 0 takes a free one")
+            command.add_argument("--listen", default="127.0.0.1", metavar="ADDRESS", help="the address of the page; elsewhere than on loopback it has a token (default: %(default)s)")
+            command.add_argument("--layout", metavar="FILE", help="a layout with the sizes of partitions, for the time that is left")
     return parser
 
 
 def main() -> None:
     words = command_line().parse_args()
     try:
-        code = words.call(words)
-    except (Stop, programs.NoProgram) as fault:
-        print(f"ringplan-run: {fault}", file=sys.stderr)
-        code = fault.status if isinstance(fault, Stop) else Status.FAULT
+        try:
+            code = words.call(words)
+        except (Stop, programs.NoProgram) as fault:
+            print(f"ringplan-run: {fault}", file=sys.stderr)
+            code = fault.status if isinstance(fault, Stop) else Status.FAULT
+        except KeyboardInterrupt:
+            code = Status.STOPPED
     except BrokenPipeError:
-        # Whoever read the output is gone.
-        os.dup2(os.open(os.devnull, os.O_WRONLY), 1)
+        code = Status.FAULT
+    # Whoever read the output may be gone.
+    for stream in (sys.stdout, sys.stderr):
+        with contextlib.suppress(BrokenPipeError):
+            stream.flush()
+            continue
+        os.dup2(os.open(os.devnull, os.O_WRONLY), stream.fileno())
         code = Status.FAULT
     sys.exit(int(code))
 

@@ -5,6 +5,7 @@ from __future__ import annotations
 import contextlib
 import sys
 import threading
+import time
 from collections.abc import Iterator
 
 from ringplan.run.runner import Runner
@@ -21,13 +22,18 @@ def shown(runner: Runner) -> Iterator[None]:
     if not sys.stderr.isatty():
         yield
         return
-    columns = (progress.BarColumn(), progress.MofNCompleteColumn(), progress.TextColumn("steps"), progress.TimeElapsedColumn())
+    said = progress.TextColumn("steps{task.fields[pace]}")
+    columns = (progress.BarColumn(), progress.MofNCompleteColumn(), said, progress.TimeElapsedColumn())
     with progress.Progress(*columns, console=console.Console(stderr=True), redirect_stdout=sys.stdout.isatty()) as bar:
-        task, over = bar.add_task("", total=len(runner.steps), completed=len(runner.done)), threading.Event()
+        task, over = bar.add_task("", total=len(runner.steps), completed=len(runner.done), pace=""), threading.Event()
+
+        def show() -> None:
+            words = runner.pace.words(time.time())
+            bar.update(task, total=len(runner.steps), completed=len(runner.done), pace=words and f"; {words}")
 
         def follow() -> None:
             while not over.wait(0.2):
-                bar.update(task, total=len(runner.steps), completed=len(runner.done))
+                show()
 
         watcher = threading.Thread(target=follow)
         watcher.start()
@@ -36,4 +42,4 @@ def shown(runner: Runner) -> Iterator[None]:
         finally:
             over.set()
             watcher.join()
-            bar.update(task, total=len(runner.steps), completed=len(runner.done))
+            show()

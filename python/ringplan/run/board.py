@@ -2,16 +2,23 @@
 
 from __future__ import annotations
 
+import contextlib
 import enum
-from collections import Counter
-from collections.abc import Iterable, Sequence
+import math
+import os
+import time
+from collections.abc import Container, Iterable, Sequence
 from contextlib import AbstractContextManager
-from dataclasses import dataclass
+from dataclasses import dataclass, replace
 from typing import NamedTuple, Protocol
 
 from ringplan.texts import Entry, StepLine
 
 CHUNKS = 16
+# How long a step that another worker does is not looked at again, in seconds.
+LOOK = 0.5
+# Claims of brief steps that are made together.
+TOGETHER = 32
 
 
 class Status(enum.IntEnum):
@@ -22,7 +29,7 @@ class Status(enum.IntEnum):
     REFUSED = 1
     # The command line, a file or a program is at fault.
     FAULT = 2
-    # The board is of another plan.
+    # The board is of another plan, or has come back older than it was.
     OTHER_PLAN = 3
     # The board is of this plan with another ring or certificate.
     CHANGED_BUNDLE = 4
@@ -30,7 +37,7 @@ class Status(enum.IntEnum):
     OTHER_RUNNER = 5
     # Steps were given up, and all others that did not wait for them are done.
     GIVEN_UP = 6
-    # A signal stopped the runner before all steps were done.
+    # Not all steps are done: a signal stopped the runner, or no runner works with the board.
     STOPPED = 7
 
 
@@ -40,6 +47,13 @@ class Stop(Exception):
     def __init__(self, status: Status, what: str) -> None:
         super().__init__(what)
         self.status = status
+
+
+class NoBoard(Stop):
+    """There is no board of this name."""
+
+    def __init__(self, board: str) -> None:
+        super().__init__(Status.FAULT, f"there is no board {board}")
 
 
 class ClaimEnded(Stop):
@@ -72,12 +86,12 @@ class Name(NamedTuple):
 
 def names_of(steps: Sequence[StepLine]) -> list[Name]:
     """The name of each step, in order."""
-    seen, names = Counter[tuple[str, int, int, str]](), list[Name]()
+    seen, names = dict[tuple[str, int, int, str], int](), list[Name]()
     for step in steps:
         partition, slot = (-1, -1) if step.partition is None else step.place()
         short = (step.do, partition, slot, step.who())
-        names.append(Name(*short, seen[short]))
-        seen[short] += 1
+        turn = seen[short] = seen.get(short, -1) + 1
+        names.append(Name(*short, turn))
     return names
 
 
@@ -141,12 +155,26 @@ class Change:
 
 @dataclass(frozen=True)
 class Tries:
-    """How a step was tried in vain: how often its hook failed, how often it said `not now`, and when it may be tried again, in seconds since 1970."""
+    """How a step was tried in vain: how often its hook failed, how often it said `not now`, and how long it pauses, up to when in seconds since 1970.
+
+    Then how its last hook ended, and what that printed last."""
 
     failures: int = 0
     waits: int = 0
+    pause: float = 0.0
     until: float = 0.0
     is_given_up: bool = False
+    why: str = ""
+    lines: str = ""
+
+    def left(self) -> float:
+        """How long it still pauses. An end that is further away than the pause is long means that the clock went back: the pause is over."""
+        left = self.until - time.time()
+        return left if 0 < left <= self.pause else 0.0
+
+    def later(self, pause: float) -> Tries:
+        """The same tries with another pause from now on."""
+        return replace(self, pause=pause, until=time.time() + pause)
 
 
 @dataclass(frozen=True)
@@ -155,6 +183,8 @@ class Claim:
 
     name: Name
     worker: str
+    # Greater than that of each claim before it, on this board and its former plans.
+    token: int
     # Whether its hook may have run before.
     is_again: bool
     # Whether the history has an `open` of it without an end: the worker that opened it died.
@@ -166,14 +196,18 @@ class Claim:
 
 @dataclass(frozen=True)
 class State:
-    """A step as the board has it. The worker is empty where nobody does it."""
+    """A step as the board has it. The worker is empty if no one does it; `since` is when it began, and `ended` when it was done, in seconds since 1970."""
 
     number: int
     name: Name
     worker: str
+    since: float
     tries: Tries
     is_begun: bool
     is_done: bool
+    ended: float
+    # How many chunks of a copy are given.
+    chunks: int
 
 
 def plan_of(bundle: str) -> str:
@@ -196,6 +230,28 @@ def demand_left(number: int, is_done: bool | None) -> None:
         raise Stop(Status.FAULT, f"there is no step {number}" if is_done is None else f"step {number} is done")
 
 
+class Seen:
+    """What a folder of locks knows of its board, in a file beside them: the board's identity, and a number that only grows there. So a board that comes back older is noticed."""
+
+    def __init__(self, locks: str) -> None:
+        self.path, self.known = os.path.join(locks, "board"), ("", 0)
+
+    def demand(self, board: str, identity: str, number: int) -> None:
+        """A `Stop` if the board is not the one that was seen here, or is older."""
+        with contextlib.suppress(FileNotFoundError, ValueError), open(self.path, encoding="utf-8") as file:
+            known, least = file.read().split()
+            self.known = known, int(least)
+            if known != identity or number < int(least):
+                raise Stop(Status.OTHER_PLAN, f"the board {board} is older than {self.path} knows it, or was made again: its plan must not begin again")
+
+    def keep(self, identity: str, number: int) -> None:
+        if number > self.known[1]:
+            self.known = identity, number
+            os.makedirs(os.path.dirname(self.path) or ".", exist_ok=True)
+            with open(os.open(self.path, os.O_WRONLY | os.O_CREAT, 0o666), "wb", buffering=0) as file:
+                file.write(f"{identity} {number:020d}\n".encode())
+
+
 class Board(Protocol):
     """The memory of a runner. Each call is one transaction: after a crash it has happened or not."""
 
@@ -207,14 +263,14 @@ class Board(Protocol):
 
         On a board for one runner at a time, another runner is a `Stop` too."""
 
-    def claim(self, worker: str, edition: str, candidates: Iterable[Name]) -> Claim | float | None:
-        """Claims the first of the candidates that nobody has, that is not given up and whose pause is over.
+    def claim(self, worker: str, edition: str, candidates: Iterable[Name], brief: Container[str] = ()) -> list[Claim] | float | None:
+        """Claims the first of the candidates that no one has, that is not given up and whose pause is over; and if its kind is brief, more of such kinds.
 
-        Where there is none, returns when the first of their pauses ends, in seconds since 1970; infinity where none pauses. None where no step is handed out:
-        the board pauses, or has another edition of the plan."""
+        If there is none, returns in how many seconds to look again: infinity if none of them can ever be claimed. None if no step is given out: the board
+        pauses, or has another edition of the plan."""
 
-    def renew(self, claim: Claim) -> bool:
-        """Whether the claim is the worker's for some time more. If not, another worker may soon claim the step, so its hook must end now."""
+    def until(self, claim: Claim) -> float:
+        """The moment up to which the claim is surely the worker's, as a supervisor counts moments. Its hook must end before."""
 
     def note(self, claim: Claim, notes: Iterable[Note], is_done: bool = False) -> None:
         """Adds entries to the history, in order. A step that is done is nobody's any more. A claim that has ended is a `ClaimEnded`."""
@@ -225,17 +281,40 @@ class Board(Protocol):
     def retry(self, number: int) -> None:
         """Forgets in how many tries the step failed. A step that is not there, or done, is a `Stop`."""
 
+    def set(self, kind: str, values: dict[str, int]) -> None:
+        """Sets `limits`: how many steps each runner may do at once, under the empty name, and how many copies that read or fill a node, under its name.
+
+        Or `sizes`: how much each partition stores, under its number."""
+
+    def settings(self, kind: str) -> dict[str, int]:
+        """What `set` has set last."""
+
+    def lease_left(self) -> float:
+        """How long the runner's claims last if it dies now, in seconds: infinity if that is not bounded."""
+
+    def remove(self) -> None:
+        """Deletes the board, and what stands beside it. A runner that works with it is a `Stop`."""
+
     def is_held(self) -> bool:
         """Whether a runner works with the board."""
 
-    def end(self) -> None:
-        """Ends the runner's work with the board. None of its hooks runs any more."""
+    def end(self, is_quiet: bool = True) -> None:
+        """Ends the runner's work with the board. If a hook may still run, claims in etcd last until the lease ends."""
+
+    def plan(self) -> tuple[str, str, list[int]]:
+        """The edition of the plan, its bundle, and the numbers of the steps that are done."""
+
+    def news(self) -> tuple[str, list[Name]]:
+        """The edition of the plan, and steps that other runners have done since the last call, or since `plan`."""
 
     def states(self) -> tuple[str, list[State]]:
         """The edition of the plan, and all its steps in the order of their numbers."""
 
     def record(self) -> Record:
         """The bundle and the history. Its lines have the numbers that the steps have now."""
+
+    def look(self) -> tuple[Record, list[State]]:
+        """The history and all steps at one moment."""
 
     def pausing(self) -> AbstractContextManager[None]:
         """Lets no runner claim a step while the block runs and this process lives. Two such blocks at once are a `Stop`."""

@@ -1,23 +1,26 @@
-"""A client of etcd: transactions and leases by the JSON gateway of etcd 3.4, over plain HTTP."""
+"""A client of etcd: transactions and leases by its JSON gateway, with `requests`."""
 
 from __future__ import annotations
 
 import base64
-import contextlib
-import http.client
 import json
+import sys
+import threading
 import time
 from collections.abc import Sequence
+from dataclasses import dataclass
 from typing import Any, NamedTuple
+
+import requests
 
 from ringplan.run.board import Status, Stop, Tries
 
-# How long one request may take, and the first pause after one without an answer, in seconds.
-REQUEST, PAUSE = 5.0, 0.1
-# The codes of gRPC by which a server says that it may answer later, and that a lease is not there.
-LATER, NOT_FOUND = (1, 2, 4, 14), 5
+# How long one request may take, the first pause after one without an answer, and after how long the operator is told, in seconds.
+REQUEST, PAUSE, TOLD = 5.0, 0.1, 5.0
+# The codes of gRPC by which a server says that it may answer later, that a lease is not there, and that a user's token is over.
+LATER, NOT_FOUND, NO_USER = (1, 2, 4, 14), 5, 16
 # How a request ends that has no answer.
-NO_ANSWER = (OSError, http.client.HTTPException, ValueError)
+NO_ANSWER = (OSError, requests.RequestException, ValueError)
 
 Json = dict[str, Any]
 
@@ -48,7 +51,7 @@ class Value(NamedTuple):
         return members
 
     def tries(self) -> Tries:
-        return Tries(**{member: value for member, value in self.members().items() if member != "token"})
+        return Tries(**{member: value for member, value in self.members().items() if member != "nonce"})
 
 
 def value_of(pair: Json) -> Value:
@@ -56,9 +59,9 @@ def value_of(pair: Json) -> Value:
     return Value(key.decode(), data, int(pair["create_revision"]), int(pair["mod_revision"]))
 
 
-def get(key: str, end: str = "", limit: int = 0) -> Json:
-    """Reads a key, or the keys from it to before another one, in their order."""
-    return {"request_range": {"key": coded(key), "range_end": coded(end), "limit": limit}}
+def get(key: str, end: str = "", limit: int = 0, revision: int = 0) -> Json:
+    """Reads a key, or the keys from it to before another one, in their order; as they were at a revision."""
+    return {"request_range": {"key": coded(key), "range_end": coded(end), "limit": limit, "revision": revision}}
 
 
 def put(key: str, value: Json | bytes, lease: int = 0) -> Json:
@@ -67,8 +70,9 @@ def put(key: str, value: Json | bytes, lease: int = 0) -> Json:
     return {"request_put": {"key": coded(key), "value": coded(data), "lease": lease}}
 
 
-def delete(key: str) -> Json:
-    return {"request_delete_range": {"key": coded(key)}}
+def delete(key: str, end: str = "") -> Json:
+    """Deletes a key, or the keys from it to before another one."""
+    return {"request_delete_range": {"key": coded(key), "range_end": coded(end)}}
 
 
 def is_created(key: str, revision: int) -> Json:
@@ -81,51 +85,129 @@ def is_changed(key: str, revision: int) -> Json:
     return {"key": coded(key), "target": "MOD", "mod_revision": revision}
 
 
-class Etcd:
-    """The JSON gateway of etcd 3.4. A request without an answer is sent again, with growing pauses, as long as patience lasts: it may happen twice."""
+@dataclass(frozen=True)
+class Access:
+    """The addresses of an etcd's members, `HOST:PORT` each, and what they ask for: files of certificates, and a user."""
 
-    def __init__(self, host: str, port: int) -> None:
-        self.host, self.port, self.patience = host, port, 0.0
+    members: tuple[str, ...]
+    is_tls: bool = False
+    ca: str | None = None
+    cert: str | None = None
+    key: str | None = None
+    user: str | None = None
+    password: str = ""
+
+    def __str__(self) -> str:
+        return ",".join(self.members)
+
+
+class Etcd:
+    """The JSON gateway of etcd. A request without an answer is sent again, to the next member, with growing pauses, as long as patience lasts: it may happen twice.
+
+    Patience is one for all requests: it begins when one has no answer, and is as before once one has."""
+
+    def __init__(self, access: Access) -> None:
+        self.access, self.patience, self.member, self.token = access, 0.0, 0, ""
+        # When answers stopped; whether the operator knows; the cluster, and its greatest revision.
+        self.silent, self.is_told, self.cluster, self.revision = None, False, "", 0
+        self.local = threading.local()
+
+    silent: float | None
+
+    def session(self) -> Any:
+        """The connections of this thread."""
+        if not hasattr(self.local, "session"):
+            it = self.local.session = requests.Session()
+            # No proxy of the environment stands between.
+            it.trust_env = False
+            it.verify = self.access.ca or True
+            it.cert = (self.access.cert, self.access.key) if self.access.cert and self.access.key else self.access.cert
+        return self.local.session
+
+    def send(self, path: str, body: Json, timeout: float) -> tuple[int, Json]:
+        url = f"http{'s' * self.access.is_tls}://{self.access.members[self.member]}{path}"
+        answer = self.session().post(url, data=json.dumps(body), timeout=timeout, headers={"Authorization": self.token} if self.token else {})
+        if answer.status_code == 400 and not answer.text.startswith("{"):
+            raise Refused(0, answer.text.strip()[:200])
+        reply: Json = answer.json()
+        if not isinstance(reply, dict):
+            raise ValueError("the answer is not etcd's")
+        return answer.status_code, reply
 
     def ask(self, path: str, body: Json, timeout: float = REQUEST) -> Json:
         """Sends a request once."""
-        connection = http.client.HTTPConnection(self.host, self.port, timeout=timeout)
-        with contextlib.closing(connection):
-            connection.request("POST", path, json.dumps(body), {"Content-Type": "application/json"})
-            answer = connection.getresponse()
-            reply: Json = json.loads(answer.read())
-        if not isinstance(reply, dict):
-            raise ValueError("the answer is not etcd's")
-        if answer.status == 200:
+        least = self.revision
+        try:
+            if self.access.user and not self.token:
+                status, reply = self.send("/v3/auth/authenticate", {"name": self.access.user, "password": self.access.password}, timeout)
+                if status != 200 and reply.get("code") not in LATER:
+                    raise Refused(int(reply.get("code", 0)), str(reply.get("error")))
+                self.token = reply.get("token", "")
+            status, reply = self.send(path, body, timeout)
+        except NO_ANSWER:
+            self.member = (self.member + 1) % len(self.access.members)
+            raise
+        if status == 200:
+            self.demand_newer(reply, least)
             return reply
+        if reply.get("code") == NO_USER and self.token:
+            self.token = ""
+            raise ConnectionError(reply.get("error"))
         if reply.get("code") in LATER:
             raise ConnectionError(reply.get("error"))
         raise Refused(int(reply.get("code", 0)), str(reply.get("error")))
 
+    def demand_newer(self, reply: Json, least: int) -> None:
+        """A `Stop` if the answer is of another cluster than the one before, or of an older state than was known when it was asked."""
+        header = reply.get("header", {})
+        if "cluster_id" not in header or "revision" not in header or "succeeded" not in reply and "responses" not in reply:
+            return
+        cluster, revision = header["cluster_id"], int(header["revision"])
+        if self.cluster not in ("", cluster) or revision < least:
+            raise Stop(Status.OTHER_PLAN, f"etcd at {self.access} has come back older, or as another cluster: its board is not to be trusted")
+        self.cluster, self.revision = cluster, max(self.revision, revision)
+
     def call(self, path: str, body: Json) -> Json:
         """Sends a request until it is answered. It is a `Stop` once patience ends."""
-        pause, until = PAUSE, time.monotonic() + self.patience
+        pause = PAUSE
         while True:
             try:
-                return self.ask(path, body)
+                reply = self.ask(path, body)
             except NO_ANSWER as error:
-                if time.monotonic() + pause > until:
-                    raise Stop(Status.FAULT, f"etcd at {self.host}:{self.port} does not answer: {error}") from error
-            time.sleep(pause)
-            pause = min(2 * pause, 5.0)
+                self.wait(pause, error)
+                pause = min(2 * pause, 5.0)
+            else:
+                if self.is_told:
+                    print(f"etcd at {self.access} answers again", file=sys.stderr, flush=True)
+                self.silent, self.is_told = None, False
+                return reply
+
+    def wait(self, pause: float, error: Exception) -> None:
+        """Waits before the next try. Tells the operator once."""
+        now = time.monotonic()
+        self.silent = since = self.silent or now
+        if now + pause > since + self.patience:
+            # Of errors in one another the innermost one says what is wrong.
+            inner = str(error).rsplit(": ", 1)[-1].rstrip(")'\"")
+            raise Stop(Status.FAULT, f"etcd at {self.access} does not answer: {inner[:200]}") from error
+        if now > since + TOLD and not self.is_told:
+            self.is_told = True
+            print(f"etcd at {self.access} does not answer since {time.strftime('%H:%M:%S', time.localtime(time.time() - now + since))}", file=sys.stderr, flush=True)
+        threading.Event().wait(pause)
 
     def transact(self, compares: Sequence[Json], changes: Sequence[Json], reads: Sequence[Json] = ()) -> tuple[int, list[list[Value]]]:
         """Does all changes where all compares hold, else all reads. Returns the revision of the changes, or 0 and what each read found."""
         reply = self.call("/v3/kv/txn", {"compare": compares, "success": changes, "failure": reads})
         if "header" not in reply:
-            raise Stop(Status.FAULT, f"the server at {self.host}:{self.port} is no etcd")
+            raise Stop(Status.FAULT, f"the server at {self.access} is not an etcd")
         if reply.get("succeeded"):
             return int(reply["header"]["revision"]), []
         return 0, [[value_of(pair) for pair in answer["response_range"].get("kvs", ())] for answer in reply.get("responses", ())]
 
     def read(self, *reads: Json) -> list[list[Value]]:
-        """What each read finds, at one moment. No key has the empty name, so the compare never holds."""
-        return self.transact([is_created("no such key", -1)], [], reads)[1]
+        """What each read finds, at one moment: no key was created before the first revision. The compare asks for no right that the reads do not ask for."""
+        never = {"key": reads[0]["request_range"]["key"], "target": "CREATE", "create_revision": -1}
+        return self.transact([never], [], reads)[1]
 
     def read_each(self, *keys: str) -> list[Value]:
         return [found[0] if found else Value() for found in self.read(*map(get, keys))]

@@ -1,7 +1,7 @@
 """Hooks: executables that do steps. Each gets one JSON object on its standard input.
 
-A hook is told by its file's name which kind of step it does. It ends with 0 where the step is done, with 75 where it cannot be done now, and else it has
-failed.
+A hook is told by its file's name which kind of step it does. It ends with 0 if the step is done, and with 75 if it cannot be done now. Any other end is a failure.
+Between the runner and its hooks stand supervisors, one for each step that is being done.
 """
 
 from __future__ import annotations
@@ -10,15 +10,18 @@ import contextlib
 import enum
 import fcntl
 import json
+import math
 import os
 import select
-import signal
 import subprocess
 import sys
 import threading
-from collections.abc import Callable, Iterable, Iterator
+from collections.abc import Callable, Iterable, Mapping
+from typing import Any, NamedTuple
 
+from ringplan.run import supervisor
 from ringplan.run.board import Name, Status, Stop
+from ringplan.run.supervisor import now
 
 NOT_NOW = 75
 GRACE = 5.0
@@ -34,12 +37,66 @@ class Outcome(enum.Enum):
     ENDED = "ended by a signal"
 
 
-class Hooks:
-    """The hooks of a folder, and those that run."""
+class Result(NamedTuple):
+    """How a hook ended, and the last lines that it printed if it did not do its step."""
 
-    def __init__(self, folder: str, locks: str) -> None:
-        self.folder, self.locks = folder, locks
-        self.running, self.lock, self.is_ending = set[subprocess.Popen[bytes]](), threading.Lock(), False
+    outcome: Outcome
+    why: str = ""
+    lines: tuple[str, ...] = ()
+
+
+class NoLock(Exception):
+    """A lock that cannot be taken, such as for want of descriptors."""
+
+
+class Supervisor:
+    """A supervisor as its runner sees it."""
+
+    def __init__(self) -> None:
+        words = [sys.executable, "-I", "-S", supervisor.__file__]
+        self.process = subprocess.Popen(words, stdin=subprocess.PIPE, stdout=subprocess.PIPE, bufsize=0, start_new_session=True)
+        assert self.process.stdin is not None and self.process.stdout is not None
+        self.to, self.come, self.rest, self.lock = self.process.stdin, self.process.stdout, b"", threading.Lock()
+        self.is_left, self.answered = False, select.poll()
+        self.answered.register(self.come, select.POLLIN)
+
+    def send(self, **command: Any) -> None:
+        # Without its reader there is no answer either.
+        with self.lock, contextlib.suppress(BrokenPipeError):
+            self.to.write(json.dumps(command).encode() + b"\n")
+
+    def answer(self, seconds: float | None = None) -> dict[str, Any] | None:
+        """Its next answer. None if there is none in time. A supervisor that is gone is a `Stop`."""
+        while b"\n" not in self.rest:
+            if not self.answered.poll(None if seconds is None else 1000 * seconds):
+                return None
+            data = self.come.read(1 << 16)
+            if not data:
+                raise Stop(Status.FAULT, "the supervisor of a hook was killed, so it is not known whether the hook runs")
+            self.rest += data
+        line, self.rest = self.rest.split(b"\n", 1)
+        found: dict[str, Any] = json.loads(line)
+        return found
+
+    def ask(self, **command: Any) -> dict[str, Any]:
+        self.send(**command)
+        return self.answer() or {}
+
+    def close(self) -> None:
+        """Lets it end once it has nothing to wait for."""
+        self.to.close()
+        self.come.close()
+
+
+class Hooks:
+    """The hooks of a folder, and the supervisors of those that run."""
+
+    def __init__(self, folder: str, locks: str, limits: Mapping[str, float] = {}) -> None:
+        # How many seconds a hook of a kind may take.
+        self.folder, self.locks, self.limits, self.lock = folder, locks, limits, threading.Lock()
+        self.idle, self.running, self.left = list[Supervisor](), set[Supervisor](), list[Supervisor]()
+        # Whether the hooks are to end, and whether a supervisor died and left a hook.
+        self.is_ending = self.is_lost = False
 
     def path(self, kind: str) -> str:
         return os.path.abspath(os.path.join(self.folder, kind))
@@ -48,96 +105,112 @@ class Hooks:
         return os.path.isfile(self.path(kind)) and os.access(self.path(kind), os.X_OK)
 
     def demand(self, kinds: Iterable[str]) -> None:
-        """Stops where a kind of step has no hook. The hook `chunk` does for `copy`."""
+        """Stops if a kind of step has no hook. The hook `chunk` does for `copy`."""
         missing = [kind for kind in kinds if not self.has(kind) and not (kind == "copy" and self.has("chunk"))]
         if missing:
             raise Stop(Status.FAULT, f"no executable in {self.folder} for: {' '.join(missing)}")
 
-    @contextlib.contextmanager
-    def holding(self, name: Name) -> Iterator[int | None]:
-        """The step's lock, which its hooks inherit. None where a hook of the step still runs that outlived its runner."""
-        os.makedirs(self.locks, exist_ok=True)
-        handle = os.open(os.path.join(self.locks, name.file()), os.O_RDWR | os.O_CREAT, 0o666)
-        try:
-            yield handle if self.take(handle) else None
-        finally:
-            os.close(handle)
+    # The locks of steps.
+    def file(self, name: Name) -> str:
+        return os.path.join(self.locks, name.file())
 
-    def take(self, handle: int) -> bool:
+    def hold(self, name: Name) -> Supervisor | None:
+        """A supervisor that holds the step's lock. None while a process of an earlier hook of the step is left."""
         try:
-            fcntl.flock(handle, fcntl.LOCK_EX | fcntl.LOCK_NB)
-        except BlockingIOError:
-            return False
-        return True
+            with self.lock:
+                one = self.idle.pop() if self.idle else None
+            if one is None:
+                os.makedirs(self.locks, exist_ok=True)
+                one = Supervisor()
+            answer = one.ask(lock=os.path.abspath(self.file(name)))
+        except OSError as error:
+            raise NoLock(error.strerror) from error
+        if answer.get("held"):
+            return one
+        with self.lock:
+            self.idle.append(one)
+        if "error" in answer:
+            raise NoLock(answer["error"])
+        return None
+
+    def free(self, one: Supervisor) -> None:
+        """Frees its lock. A supervisor that has processes left does not serve another step."""
+        one.send(free=True)
+        with self.lock:
+            (self.left if one.is_left else self.idle).append(one)
 
     def is_running(self, name: Name) -> bool:
         """Whether a hook of the step runs on this machine, also one that outlived its runner."""
         try:
-            handle = os.open(os.path.join(self.locks, name.file()), os.O_RDWR)
+            handle = os.open(self.file(name), os.O_RDONLY)
         except FileNotFoundError:
             return False
         try:
-            return not self.take(handle)
+            fcntl.flock(handle, fcntl.LOCK_SH | fcntl.LOCK_NB)
+            return False
+        except BlockingIOError:
+            return True
         finally:
             os.close(handle)
 
     def forget(self, name: Name) -> None:
         """Removes the lock of a step that is done."""
         with contextlib.suppress(FileNotFoundError):
-            os.unlink(os.path.join(self.locks, name.file()))
+            os.unlink(self.file(name))
 
-    def follow(self, process: subprocess.Popen[bytes], renew: Callable[[], bool]) -> tuple[int, bool]:
-        """Waits for a hook. Kills it, with its group, once the claim of its step ends. Returns its status, and whether it was killed."""
-        is_killed = False
-        # `wait` with a timeout would sleep up to 50 ms too long.
-        ended, handle = select.poll(), os.pidfd_open(process.pid)
+    # Hooks that run.
+    def run(self, kind: str, title: str, members: dict[str, object], one: Supervisor, until: Callable[[], float], beat: Callable[[bool], None]) -> Result:
+        """Runs a hook to its end. `until` is the moment up to which the step is the worker's: its processes are killed then, also if this runner is stopped or dead.
+
+        `beat` is called while the hook runs on, with whether it has failed and waits for processes that it left."""
+        line = json.dumps(members, separators=(",", ":"), sort_keys=True) + "\n"
+        with self.lock:
+            moment = until()
+            if self.is_ending or moment <= now():
+                return Result(Outcome.ENDED)
+            self.running.add(one)
+            one.send(run=self.path(kind), name=title, input=line, until=moment, limit=self.limits.get(kind, math.inf), grace=GRACE)
         try:
-            ended.register(handle, select.POLLIN)
-            while not ended.poll(1000 * BEAT):
-                if not is_killed and not renew():
-                    is_killed = True
-                    with contextlib.suppress(ProcessLookupError):
-                        os.killpg(process.pid, signal.SIGKILL)
+            while (answer := one.answer(BEAT)) is None or "rest" in answer:
+                beat(answer is not None)
+                if (later := until()) != moment:
+                    moment = later
+                    one.send(until=moment)
+        except Stop:
+            self.is_lost = True
+            raise
         finally:
-            os.close(handle)
-        return process.wait(), is_killed
-
-    def run(self, kind: str, members: dict[str, object], handle: int, renew: Callable[[], bool]) -> Outcome:
-        """Runs a hook to its end, while `renew` says that its step is still the worker's.
-
-        Its input is whole before it starts, so that it reads all or nothing of it, whatever becomes of the runner."""
-        with os.fdopen(os.memfd_create(kind), "w+b") as file:
-            file.write(json.dumps(members, separators=(",", ":"), sort_keys=True).encode() + b"\n")
-            file.seek(0)
             with self.lock:
-                if self.is_ending or not renew():
-                    return Outcome.ENDED
-                try:
-                    process = subprocess.Popen([self.path(kind)], stdin=file, stdout=2, pass_fds=(handle,), start_new_session=True)
-                except OSError as error:
-                    print(f"{self.path(kind)} cannot be run: {error.strerror}", file=sys.stderr, flush=True)
-                    return Outcome.FAILED
-                self.running.add(process)
-        status, is_killed = self.follow(process, renew)
-        with self.lock:
-            self.running.discard(process)
-        if status == 0:
-            return Outcome.DONE
-        if self.is_ending or is_killed:
-            return Outcome.ENDED
-        return Outcome.NOT_NOW if status == NOT_NOW else Outcome.FAILED
+                self.running.discard(one)
+        one.is_left = answer.get("is_left", False)
+        return self.result(kind, answer)
 
-    def send(self, number: signal.Signals) -> None:
-        with self.lock:
-            for process in self.running:
-                with contextlib.suppress(ProcessLookupError):
-                    os.killpg(process.pid, number)
+    def result(self, kind: str, answer: dict[str, Any]) -> Result:
+        if "error" in answer:
+            return Result(Outcome.FAILED, f"{self.path(kind)} cannot be run: {answer['error']}")
+        status: int = answer["status"]
+        if status == 0:
+            return Result(Outcome.DONE)
+        if answer["is_late"]:
+            return Result(Outcome.FAILED, f"not after {self.limits[kind]:g} s", tuple(answer["lines"]))
+        if answer["is_killed"]:
+            return Result(Outcome.ENDED)
+        why = f"ended with {status}" if status > 0 else f"killed by signal {-status}"
+        return Result(Outcome.NOT_NOW if status == NOT_NOW else Outcome.FAILED, why, tuple(answer["lines"]))
 
     def end(self) -> None:
-        """Ends the hooks that run, with all processes of their groups: at once by SIGTERM, and after a while by SIGKILL."""
+        """Ends the hooks that run, with all their processes: at once by SIGTERM, and after a while by SIGKILL."""
         with self.lock:
             self.is_ending = True
-        self.send(signal.SIGTERM)
-        timer = threading.Timer(GRACE, self.send, [signal.SIGKILL])
-        timer.daemon = True
-        timer.start()
+            for one in self.running:
+                one.send(end=GRACE)
+
+    def close(self) -> None:
+        """Lets the supervisors end."""
+        with self.lock:
+            for one in (*self.idle, *self.left):
+                one.close()
+            for one in self.idle:
+                one.process.wait()
+            self.idle.clear()
+            self.left.clear()

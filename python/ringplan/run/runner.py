@@ -2,22 +2,33 @@
 
 from __future__ import annotations
 
+import bisect
+import contextlib
+import functools
+import json
 import math
+import signal
+import subprocess
 import sys
 import threading
 import time
-from collections.abc import Sequence
+from collections import Counter, deque
+from collections.abc import Iterator, Sequence
 from dataclasses import dataclass, replace
 
 from ringplan import programs, texts
-from ringplan.run.board import CHUNKS, Board, Claim, ClaimEnded, Name, Note, Status, Stop, Tries, names_of
-from ringplan.run.hooks import Hooks, Outcome
+from ringplan.run.board import CHUNKS, LOOK, Board, Claim, ClaimEnded, Name, Note, Status, Stop, names_of
+from ringplan.run.hooks import Hooks, NoLock, Outcome, Result, Supervisor
+from ringplan.run.report import Pace
 from ringplan.texts import StepLine
 
-# How many entries may come before the history so far is judged.
+# How many entries may come before the history so far is judged; then half as many again may come, and so on.
 JUDGED = 1000
-# How long a worker with nothing to do waits before it looks again, in seconds.
-LOOK = 0.5
+# In a plan of so many steps, those whose kind's last hook took less than so many seconds are claimed together, and wait for the disk together. Mirrors only if
+# copies are brief as well: a slot whose mirror waits for its copy takes each write twice. A smaller plan is done in its order.
+LARGE, BRIEF = 10_000, 0.02
+# The signals that stop a runner.
+SIGNALS = {signal.SIGINT, signal.SIGTERM}
 # How long a worker that finds steps goes on before it looks what other runners have done, in seconds.
 LEARN = 5.0
 
@@ -30,19 +41,29 @@ class Options:
     give_up: int | None = None
     pause: float = 1.0
     longest: float = 300.0
+    # The minutes of a day from which and up to which copies may begin.
+    between: tuple[int, int] | None = None
+    # A program that is told of events by a line of JSON.
+    on_event: str | None = None
 
 
-def judge(board: Board) -> programs.Answer:
-    """What `replay` says of the board's history."""
-    return programs.ask("replay", board.record().text())
+def judge(board: Board) -> tuple[programs.Answer, int]:
+    """What `replay` says of the board's history, and how many entries that has. A judge that cannot answer is a `Stop`."""
+    record = board.record()
+    answer = programs.ask("replay", record.text())
+    if answer.status > 1:
+        raise Stop(Status.FAULT, f"the judge cannot answer: {answer.first()}{' (out of memory)' if answer.first() == 'no 60' else ''}")
+    return answer, len(record.entries)
 
 
-def read_steps(bundle: str) -> list[StepLine]:
-    """The lines of steps of an approved plan. A plan that is refused is a `Stop`."""
+@functools.lru_cache(maxsize=1)
+def read_steps(bundle: str) -> tuple[list[StepLine], list[Name]]:
+    """The steps of an approved plan, and their names. A plan that is refused is a `Stop`."""
     answer = programs.ask("steps", bundle)
     if answer.status:
-        raise Stop(Status.REFUSED, f"the plan is refused:\n{answer.errors}".rstrip())
-    return texts.read_steps(answer.text)
+        raise Stop(Status.REFUSED if answer.status == 1 else Status.FAULT, f"the plan is refused:\n{answer.errors}".rstrip())
+    steps = texts.read_steps(answer.text)
+    return steps, names_of(steps)
 
 
 class Runner:
@@ -52,42 +73,48 @@ class Runner:
         self.board, self.hooks, self.options = board, hooks, options
         self.lock = threading.RLock()
         self.changed = threading.Condition(self.lock)
-        self.is_stopping, self.busy, self.learnt = False, 0, -math.inf
+        self.is_stopping, self.learnt = False, -math.inf
+        # Claims that no worker does yet, and how long the last hook of each kind took.
+        self.claims, self.took = deque[Claim](), dict[str, float]()
+        # The steps that workers do; what `limit` has set; whether that, or the time of day, lets a step wait.
+        self.doing, self.limits, self.is_barred, self.limited = list[Name](), dict[str, int](), False, -math.inf
         self.fault: Stop | None = None
         self.said: dict[Name, str] = {}
-        self.entries = self.judged = 0
+        self.entries, self.judged = 0, JUDGED
+        # The judge's last answer, and how many entries it read; how often hooks of a kind ended in one way; how fast copies are.
+        self.verdict, self.ends, self.pace = ("", 0), Counter[tuple[str, str]](), Pace([], {})
         self.load()
 
     def load(self) -> None:
         """Reads the plan that the board has now, and which of its steps are done."""
-        edition, record = "", self.board.record()
-        while edition != record.edition:
-            steps, (edition, states) = read_steps(record.bundle), self.board.states()
-            record = record if edition == record.edition else self.board.record()
-        self.edition, self.steps, self.names, self.entries = edition, steps, names_of(steps), len(record.entries)
-        self.judged = min(self.judged, self.entries)
+        self.edition, bundle, done = self.board.plan()
+        self.steps, self.names = read_steps(bundle)
         self.numbers = {name: number for number, name in enumerate(self.names)}
+        self.pace.load(self.names, self.board.settings("sizes"))
         # Of each step how many of its dependencies are not done, and the steps that wait for it.
-        self.left = [len(step.after) for step in steps]
-        self.waiting: list[list[int]] = [[] for _ in steps]
-        for step in steps:
+        self.left = [len(step.after) for step in self.steps]
+        self.waiting: list[list[int]] = [[] for _ in self.steps]
+        for step in self.steps:
             for number in step.after:
                 self.waiting[number].append(step.step)
-        self.done, self.ready = set[int](), {number for number, left in enumerate(self.left) if not left}
-        for state in states:
-            if state.is_done:
-                self.mark(state.number)
+        # The steps that can be done, in order. Those that somebody does are among them.
+        self.done, self.ready = set[int](), [number for number, left in enumerate(self.left) if not left]
+        for number in done:
+            self.mark(number, is_seen=False)
 
-    def mark(self, number: int) -> None:
+    def mark(self, number: int, is_seen: bool = True) -> None:
         """Counts a step as done, once."""
         if number in self.done:
             return
         self.done.add(number)
-        self.ready.discard(number)
+        self.pace.give(self.names[number], CHUNKS, is_seen)
+        place = bisect.bisect_left(self.ready, number)
+        if place < len(self.ready) and self.ready[place] == number:
+            del self.ready[place]
         for other in self.waiting[number]:
             self.left[other] -= 1
             if not self.left[other] and other not in self.done:
-                self.ready.add(other)
+                bisect.insort(self.ready, other)
 
     def say(self, claim: Claim, what: str) -> None:
         """Tells the operator of a step, once in a row."""
@@ -102,12 +129,24 @@ class Runner:
         self.fault = self.fault or fault
         self.is_stopping = True
 
+    def tell(self, event: str, **members: object) -> None:
+        """Tells the operator's program of an event, and does not wait for it."""
+        if self.options.on_event is None:
+            return
+        line = json.dumps({"event": event, "done": len(self.done), "steps": len(self.steps), **members}) + "\n"
+        try:
+            process = subprocess.Popen([self.options.on_event], stdin=subprocess.PIPE, stdout=2, start_new_session=True)
+            threading.Thread(target=process.communicate, args=[line.encode()], daemon=True).start()
+        except OSError as error:
+            print(f"{self.options.on_event} cannot be run: {error.strerror}", file=sys.stderr, flush=True)
+
     # The judge.
     def see_judge(self) -> None:
         """Has the history so far judged. A `no` is a `Stop`."""
-        self.judged = self.entries
-        answer = judge(self.board)
+        answer, self.entries = judge(self.board)
+        self.judged, self.verdict = self.entries + max(JUDGED, self.entries // 2), (answer.first(), self.entries)
         if answer.first() != "yes":
+            self.tell("the judge says no", answer=answer.first())
             raise Stop(Status.REFUSED, f"the judge says {answer.first()}")
 
     def note(self, claim: Claim, notes: Sequence[Note], is_done: bool = False) -> None:
@@ -122,111 +161,177 @@ class Runner:
                 print("done", self.numbers[claim.name], claim.name, flush=True)
 
     # Steps.
-    def call(self, kind: str, claim: Claim, handle: int, chunk: int | None = None) -> Outcome:
+    def call(self, kind: str, claim: Claim, one: Supervisor, chunk: int | None = None) -> Result:
         """Runs a hook of the step, or of a chunk of it."""
         with self.lock:
             if claim.name not in self.numbers:
-                return Outcome.ENDED
-            members = self.steps[self.numbers[claim.name]].members()
-        members |= {"again": True} if claim.is_again else {}
-        return self.hooks.run(kind, members if chunk is None else {**members, "chunk": chunk}, handle, lambda: self.board.renew(claim))
+                return Result(Outcome.ENDED)
+            number = self.numbers[claim.name]
+        members = self.steps[number].members() | {"token": claim.token} | ({"again": True} if claim.is_again else {}) | ({} if chunk is None else {"chunk": chunk})
+        began = time.monotonic()
+        try:
+            result = self.hooks.run(kind, f"{number} {claim.name}", members, one, lambda: self.board.until(claim), lambda is_resting: self.beat(claim, is_resting))
+        finally:
+            self.took[claim.name.kind] = time.monotonic() - began
+        with self.lock:
+            self.ends[kind, result.outcome.value] += 1
+        return result
 
-    def give_chunks(self, claim: Claim, handle: int, chunks: Sequence[int]) -> Outcome:
+    def beat(self, claim: Claim, is_resting: bool) -> None:
+        """Called while a hook takes long: leaves to others what was claimed with its step."""
+        if is_resting:
+            self.say(claim, "its hook has failed, and is over once no process of it is left")
+        with self.lock:
+            left, self.claims = self.claims, deque()
+        for other in left:
+            with contextlib.suppress(ClaimEnded):
+                self.board.give_back(other, other.tries)
+
+    def give_chunks(self, claim: Claim, one: Supervisor, chunks: Sequence[int]) -> Result:
         """Gives chunks by one hook each, as far as that goes."""
         for chunk in chunks:
-            outcome = Outcome.ENDED if self.is_stopping else self.call("chunk", claim, handle, chunk)
-            if outcome is not Outcome.DONE:
-                return outcome
+            result = Result(Outcome.ENDED) if self.is_stopping else self.call("chunk", claim, one, chunk)
+            if result.outcome is not Outcome.DONE:
+                return result
             self.note(claim, [Note("chunk", chunk)])
-        return Outcome.DONE
+            with self.lock:
+                self.pace.give(claim.name, self.pace.parts.get(claim.name, 0) + 1)
+        return Result(Outcome.DONE)
 
-    def copy(self, claim: Claim, handle: int) -> Outcome:
+    def measure(self, claim: Claim, one: Supervisor) -> Result:
+        """Copies, and measures how long that takes."""
+        with self.lock:
+            self.pace.give(claim.name, len(claim.marks), is_seen=False)
+            self.pace.begin(time.time())
+        try:
+            return self.copy(claim, one)
+        finally:
+            with self.lock:
+                self.pace.end(time.time())
+
+    def copy(self, claim: Claim, one: Supervisor) -> Result:
         """Copies the chunks that are left, by one hook or by one for each chunk. An `open` of a worker that died gets its `abort` first."""
         self.note(claim, [*([Note("abort")] if claim.is_open else []), Note("open")])
         left = [chunk for chunk in range(CHUNKS) if chunk not in claim.marks]
         if self.hooks.has("chunk"):
-            outcome, given = self.give_chunks(claim, handle, left), list[int]()
+            result, given = self.give_chunks(claim, one, left), list[int]()
         else:
-            outcome, given = self.call("copy", claim, handle), left
-        if outcome is Outcome.DONE:
+            result, given = self.call("copy", claim, one), left
+        if result.outcome is Outcome.DONE:
             self.note(claim, [*(Note("chunk", chunk) for chunk in given), Note("close")], is_done=True)
         else:
             self.note(claim, [Note("abort")])
-        return outcome
+        return result
 
     def do(self, claim: Claim) -> None:
-        with self.hooks.holding(claim.name) as handle:
-            if handle is None:
-                self.board.give_back(claim, replace(claim.tries, until=time.time() + LOOK))
-                self.say(claim, "a hook that outlived its runner still does it")
-                return
+        try:
+            one = self.hooks.hold(claim.name)
+        except NoLock as error:
+            self.give_back(claim, Result(Outcome.FAILED, f"its lock cannot be taken: {error}"))
+            return
+        if one is None:
+            self.board.give_back(claim, claim.tries.later(LOOK))
+            self.say(claim, "a process of an earlier hook still does it")
+            return
+        try:
             if claim.name.kind == "copy":
-                outcome = self.copy(claim, handle)
-            elif (outcome := self.call(claim.name.kind, claim, handle)) is Outcome.DONE:
+                result = self.measure(claim, one)
+            elif (result := self.call(claim.name.kind, claim, one)).outcome is Outcome.DONE:
                 self.note(claim, [Note("do")], is_done=True)
-        if outcome is not Outcome.DONE:
-            self.give_back(claim, outcome)
+        finally:
+            self.hooks.free(one)
+        if result.outcome is not Outcome.DONE:
+            self.give_back(claim, result)
 
-    def give_back(self, claim: Claim, outcome: Outcome) -> None:
+    def give_back(self, claim: Claim, result: Result) -> None:
         """Gives a step back that is not done, to be tried again after a pause that doubles each time."""
+        outcome = result.outcome
         failures, waits = claim.tries.failures + (outcome is Outcome.FAILED), claim.tries.waits + (outcome is Outcome.NOT_NOW)
         pause = min(self.options.longest, self.options.pause * 2 ** min(failures + waits - 1, 30)) if outcome is not Outcome.ENDED else 0.0
         is_given_up = outcome is Outcome.FAILED and self.options.give_up is not None and failures >= self.options.give_up
-        self.board.give_back(claim, Tries(failures, waits, time.time() + pause, is_given_up))
+        self.board.give_back(claim, replace(claim.tries.later(pause), failures=failures, waits=waits, is_given_up=is_given_up, why=result.why, lines="\n".join(result.lines)))
+        if is_given_up:
+            self.tell("given up", step=self.numbers.get(claim.name), name=str(claim.name), why=result.why, lines=result.lines)
         after = "given up" if is_given_up else f"again in {pause:g} s"
-        self.say(claim, f"{outcome.value}, {failures} failures, {after}")
+        self.say(claim, f"{outcome.value}{f' ({result.why})' if result.why else ''}, {failures} failures, {after}")
 
     # Workers.
-    def learn(self) -> float:
-        """Marks what other runners of the board have done. Returns when to look for a step again, and infinity where none ever can be done."""
-        self.learnt = now = time.time()
-        soonest, ready = math.inf, frozenset(self.ready)
-        edition, states = self.board.states()
+    def learn(self) -> bool:
+        """Marks what other runners of the board have done. Whether there was anything."""
+        edition, names = self.board.news()
+        self.learnt = time.monotonic()
         if edition != self.edition:
             self.load()
             print(f"the board has another plan: {len(self.done)} of {len(self.steps)} steps are done", flush=True)
-            return now
-        for state in states:
-            if state.is_done and state.number not in self.done:
-                self.mark(state.number)
-                soonest = now
-            elif state.worker:
-                soonest = min(soonest, now + LOOK)
-            elif state.number in ready and not state.is_done and not state.tries.is_given_up:
-                soonest = min(soonest, state.tries.until)
-        return soonest
+            return True
+        count = len(self.done)
+        for name in names:
+            self.mark(self.numbers[name])
+        return len(self.done) > count
+
+    def candidates(self) -> Iterator[Name]:
+        """The steps that may begin now, in order. Fewer at once than the plan allows is a run of it too."""
+        limits, busy = self.limits, Counter[str]()
+        for name in self.doing:
+            busy.update(["", *(self.nodes(name) if name.kind == "copy" else [])])
+        if busy[""] >= limits.get("", math.inf):
+            self.is_barred = True
+            return
+        for number in self.ready:
+            name = self.names[number]
+            is_full = name.kind == "copy" and any(busy[node] >= limits.get(node, math.inf) for node in self.nodes(name))
+            if is_full or name.kind == "copy" and not self.is_time():
+                self.is_barred = True
+            else:
+                yield name
+
+    def nodes(self, name: Name) -> set[str]:
+        """The nodes that a copy fills and reads."""
+        number = self.numbers.get(name)
+        return set() if number is None else {self.steps[number].who(), *(self.steps[number].sources or ())}
+
+    def is_time(self) -> bool:
+        """Whether copies may begin at this time of day."""
+        if self.options.between is None:
+            return True
+        (first, last), clock = self.options.between, time.localtime()
+        now = 60 * clock.tm_hour + clock.tm_min
+        return first <= now < last if first <= last else now >= first or now < last
 
     def take(self, worker: str) -> Claim | float:
-        """Claims the least step that can be done now, once the judge has read the history. Else returns when one can be, and infinity where none ever can."""
-        if self.entries - self.judged >= JUDGED:
+        """Claims a step that can be done now, once the judge has read the history. If there is none, in how many seconds to look again: infinity if there never will be."""
+        if self.entries >= self.judged:
             self.see_judge()
         if self.is_stopping:
             return math.inf
-        if time.time() > self.learnt + LEARN:
+        if self.claims:
+            return self.claims.popleft()
+        if time.monotonic() > self.learnt + LEARN:
             self.learn()
-        claim = self.board.claim(worker, self.edition, (self.names[number] for number in sorted(self.ready)))
-        if isinstance(claim, Claim):
-            self.busy += 1
-            return claim
-        if claim is None:
-            self.learn()
-            return time.time() + LOOK / 5
-        soon = time.time() + LOOK if self.busy else math.inf
-        return soon if self.busy and time.time() < self.learnt + LOOK else min(soon, self.learn())
+        if time.monotonic() > self.limited + LOOK:
+            self.limits, self.limited = self.board.settings("limits"), time.monotonic()
+        self.is_barred = False
+        brief = {kind for kind, took in self.took.items() if took < BRIEF}
+        brief -= set() if "copy" in brief else {"mirror"}
+        # Of steps that are claimed together none is counted before it begins.
+        brief = set() if self.limits or len(self.steps) < LARGE else brief
+        found = self.board.claim(worker, self.edition, self.candidates(), brief)
+        if isinstance(found, list):
+            self.claims.extend(found)
+            return self.claims.popleft()
+        if self.learn() or found is None:
+            return LOOK / 5
+        return LOOK if self.is_barred else found
 
     def wait(self, worker: str) -> Claim | None:
-        """Waits for a step that can be done, and claims it. None where none ever can be, or where the runner stops."""
+        """Waits for a step that can be done, and claims it. None if none ever can be, or if the runner stops."""
         with self.changed:
             while (claim := self.take(worker)) != math.inf:
                 if isinstance(claim, Claim):
+                    self.doing.append(claim.name)
                     return claim
-                self.changed.wait(min(LOOK, max(0.0, claim - time.time())))
+                self.changed.wait(min(LOOK, claim))
         return None
-
-    def release(self) -> None:
-        with self.changed:
-            self.busy -= 1
-            self.changed.notify_all()
 
     def work(self, worker: str) -> None:
         try:
@@ -236,24 +341,35 @@ class Runner:
                 except ClaimEnded as fault:
                     self.say(claim, str(fault))
                 finally:
-                    self.release()
+                    with self.changed:
+                        self.doing.remove(claim.name)
+                        self.changed.notify_all()
         except Stop as fault:
             self.stop(fault)
         except Exception as error:
             self.stop(Stop(Status.FAULT, f"{type(error).__name__}: {error}"))
 
     def run(self) -> Status:
-        """Goes through the plan. How that ended."""
+        """Goes through the plan. How that ended. The caller blocks SIGINT and SIGTERM, which are taken here one by one: no handler can come in between."""
         threads = [threading.Thread(target=self.work, args=[f"worker {number}"]) for number in range(self.options.workers)]
         for thread in threads:
             thread.start()
         for thread in threads:
-            # A signal that comes as a wait begins does not end it: its handler runs once the wait is over.
             while thread.is_alive():
-                thread.join(LOOK)
+                thread.join(LOOK / 5)
+                # After SIGCONT, `sigtimedwait` would return a signal that never came.
+                if signal.sigpending() & SIGNALS:
+                    signal.sigwait(SIGNALS)
+                    if self.is_stopping:
+                        self.hooks.end()
+                    else:
+                        print(f"stops: lets {len(self.hooks.running)} hooks end, and a second signal ends them", file=sys.stderr, flush=True)
+                    self.stop()
+        self.hooks.close()
         if self.fault is not None:
             raise self.fault
         self.see_judge()
         if len(self.done) == len(self.steps):
+            self.tell("done")
             return Status.DONE
         return Status.STOPPED if self.is_stopping else Status.GIVEN_UP

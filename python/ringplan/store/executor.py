@@ -17,7 +17,7 @@ from functools import partial
 
 from ringplan.store.coordinator import CHUNKS, Store
 from ringplan.store.history import Past, recorded
-from ringplan.store.members import Blocked, Doubt, Member, Partition, Slot, using
+from ringplan.store.members import Blocked, Doubt, Member, Partition, Slot, Tokens, using
 from ringplan.store.nodes import Gone
 from ringplan.store.versions import Contents, merged
 from ringplan.texts import History, StepLine
@@ -36,7 +36,7 @@ class Executor:
 
     def __init__(self, store: Store, steps: Sequence[StepLine], deaths: float = 0.0) -> None:
         self.store, self.steps, self.deaths = store, steps, deaths
-        self.done, self.taken, self.lock = set[int](), set[int](), threading.Lock()
+        self.done, self.taken, self.lock, self.tokens = set[int](), set[int](), threading.Lock(), Tokens()
         self.opened, self.marks = set[int](), defaultdict[int, set[int]](set)
         self.died = 0
 

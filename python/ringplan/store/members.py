@@ -8,6 +8,7 @@ from collections.abc import Callable, Iterable, Iterator
 from dataclasses import dataclass, field
 
 from ringplan.store.nodes import Node
+from ringplan.texts import StepLine
 
 
 class Blocked(Exception):
@@ -98,6 +99,20 @@ class Slot:
 
     def hints(self) -> str:
         return f"hints.{self.partition}.{self.index}"
+
+
+class Tokens:
+    """The greatest token that the store has seen for each slot, and for each node that joins or retires. A hook with a smaller one comes too late: its step was given out again."""
+
+    def __init__(self) -> None:
+        self.seen, self.lock = dict[tuple[int, int] | str, int](), threading.Lock()
+
+    def admit(self, step: StepLine, token: int) -> bool:
+        """Whether the store may do what a hook with this token asks. Asked before each effect, while nothing else happens to the step."""
+        about: tuple[int, int] | str = step.who() if step.partition is None else step.place()
+        with self.lock:
+            self.seen[about] = max(token, self.seen.get(about, 0))
+            return token == self.seen[about]
 
 
 class Partition:

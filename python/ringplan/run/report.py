@@ -1,0 +1,154 @@
+"""What there is to say of a plan that is being done: which steps run or wait, and how long its copies will take; in words, as JSON, and for Prometheus."""
+
+from __future__ import annotations
+
+import math
+import time
+from collections import Counter
+from collections.abc import Iterable, Mapping, Sequence
+from typing import Any
+
+from ringplan.run.board import CHUNKS, Name, State
+
+
+class Pace:
+    """How much copies have given, and how much a second while any of them ran: in the unit of the sizes, or in copies if no partition has a size."""
+
+    def __init__(self, names: Iterable[Name], sizes: Mapping[str, int]) -> None:
+        # How much was given while copies were seen to run, and for how many seconds; how many run, and since when.
+        self.seen, self.busy, self.count, self.since = 0.0, 0.0, 0, 0.0
+        self.load(names, sizes)
+
+    def load(self, names: Iterable[Name], sizes: Mapping[str, int]) -> None:
+        """Begins with the copies of a plan. What was measured stays."""
+        self.is_sized, self.parts, self.done = bool(sizes), dict[Name, int](), 0.0
+        self.sizes = {name: sizes.get(str(name.partition), 1) for name in names if name.kind == "copy"}
+        self.whole = sum(self.sizes.values())
+
+    def give(self, name: Name, parts: int, is_seen: bool = True) -> None:
+        """Of a copy so many chunks are given by now. A step of another kind has none."""
+        amount = self.sizes.get(name, 0) * (parts - self.parts.get(name, 0)) / CHUNKS
+        self.parts[name] = parts
+        self.done += amount
+        self.seen += amount * is_seen
+
+    def begin(self, moment: float) -> None:
+        self.since = self.since if self.count else moment
+        self.count += 1
+
+    def end(self, moment: float) -> None:
+        self.count -= 1
+        self.busy += 0.0 if self.count else moment - self.since
+
+    def rate(self, moment: float) -> float:
+        busy = self.busy + (moment - self.since if self.count else 0.0)
+        return self.seen / busy if busy > 0 else 0.0
+
+    def left(self, moment: float) -> float | None:
+        """How many seconds copies still take. None as long as no rate is known."""
+        if self.done >= self.whole:
+            return 0.0
+        return (self.whole - self.done) / rate if (rate := self.rate(moment)) else None
+
+    def words(self, moment: float) -> str:
+        """Empty for a plan without copies."""
+        if not self.sizes:
+            return ""
+        rate, left = self.rate(moment), self.left(moment)
+        done = f"{amount(self.done)} of {amount(self.whole)} are copied" if self.is_sized else f"{self.done:.0f} of {self.whole} copies are done"
+        return f"{done}{f', {amount(rate)} a second' if rate and self.is_sized else ''}{f', {span(left)} left' if left else ''}"
+
+
+def pace_of(states: Sequence[State], sizes: Mapping[str, int], now: float) -> Pace:
+    """The pace by when each copy began and ended."""
+    pace, spans = Pace((state.name for state in states), sizes), list[tuple[float, float]]()
+    for state in states:
+        if state.name.kind == "copy":
+            is_seen = bool(state.since and (state.is_done or state.worker))
+            pace.give(state.name, CHUNKS if state.is_done else state.chunks, is_seen)
+            spans += [(state.since, state.ended if state.is_done else now)] if is_seen else []
+    last = -math.inf
+    for begin, end in sorted(spans):
+        pace.busy += max(0.0, end - max(begin, last))
+        last = max(last, end)
+    return pace
+
+
+def amount(number: float) -> str:
+    for unit in ("", " k", " M", " G", " T"):
+        if number < 1000:
+            break
+        number /= 1000
+    return f"{number:.3g}{unit}"
+
+
+def span(seconds: float) -> str:
+    if seconds < 120:
+        return f"{seconds:.0f} s"
+    minutes = round(seconds / 60)
+    return f"{minutes} min" if minutes < 120 else f"{minutes // 60} h {minutes % 60:02} min"
+
+
+def told(state: State, is_held: bool) -> str:
+    """What there is to say of a step that was begun and is not done."""
+    tries = state.tries
+    why = f" ({tries.why})" if tries.why else ""
+    if tries.is_given_up:
+        return f"given up after {tries.failures} failures{why}"
+    if state.worker:
+        return f"{state.worker} does it, since {time.strftime('%H:%M:%S', time.localtime(state.since))}" if is_held else "a runner that ended was doing it"
+    return f"{tries.failures} failures, {tries.waits} times not now{why}, again in {tries.left():.0f} s"
+
+
+def advice(state: State) -> str:
+    """What an operator can do about a step that was given up. Empty for others."""
+    if not state.tries.is_given_up:
+        return ""
+    leave = f", `ringplan-run leave {state.name.partition}.{state.name.slot}` leaves its slot with its owner" if state.name.kind in ("mirror", "copy") else ""
+    return f"`ringplan-run retry {state.number}` tries it again{leave}"
+
+
+def begun(states: Iterable[State]) -> list[State]:
+    """The steps that somebody does, or tried in vain; first those that were given up, then those that failed."""
+    found = [state for state in states if not state.is_done and (state.worker or state.tries.failures or state.tries.waits)]
+    return sorted(found, key=lambda state: (not state.tries.is_given_up, not state.tries.failures))
+
+
+def members(states: Sequence[State], pace: Pace, is_held: bool) -> dict[str, Any]:
+    """The whole of it as members of a JSON object. Times are in seconds, since 1970 if they are moments."""
+    now = time.time()
+    left = [
+        {"step": state.number, "name": str(state.name), "worker": state.worker, "since": state.since, "advice": advice(state), **vars(state.tries)}
+        for state in begun(states)
+    ]
+    copies = {"unit": "size" if pace.is_sized else "copies", "copied": pace.done, "to_copy": pace.whole, "rate": pace.rate(now), "left": pace.left(now)}
+    return {"steps": len(states), "done": sum(state.is_done for state in states), "is_held": is_held, **copies, "begun": left}
+
+
+def state_of(state: State) -> str:
+    if state.is_done or state.tries.is_given_up:
+        return "done" if state.is_done else "given_up"
+    return "running" if state.worker else "pausing" if state.tries.left() else "left"
+
+
+def metrics(states: Sequence[State], pace: Pace, judged: tuple[str, int], hooks: Mapping[tuple[str, str], int], lease: float) -> str:
+    """The whole of it for Prometheus. `judged` is the judge's last answer, and how many entries it read; `hooks` counts hooks by their kind and end."""
+    now, counts, lines = time.time(), Counter(map(state_of, states)), list[str]()
+
+    def add(name: str, what: str, rows: Mapping[str, float], kind: str = "gauge") -> None:
+        lines.extend([f"# HELP ringplan_{name} {what}", f"# TYPE ringplan_{name} {kind}", *(f"ringplan_{name}{labels} {value:.15g}" for labels, value in rows.items())])
+
+    add("steps", "Steps of the plan by state.", {f'{{state="{name}"}}': counts[name] for name in ("done", "running", "pausing", "given_up", "left")})
+    unit = "size" if pace.is_sized else "copies"
+    add("copied", "What copies have given, in the unit of the sizes or in copies.", {f'{{unit="{unit}"}}': pace.done})
+    add("to_copy", "What copies give in all.", {f'{{unit="{unit}"}}': pace.whole})
+    if (left := pace.left(now)) is not None:
+        add("left_seconds", "How long copies still take.", {"": left})
+    add("failures", "How often hooks of steps failed that are not done.", {"": sum(state.tries.failures for state in states if not state.is_done)})
+    add("hooks_total", "Hooks of this runner by kind and end.", {f'{{kind="{kind}",end="{end}"}}': count for (kind, end), count in sorted(hooks.items())}, "counter")
+    add("oldest_step_seconds", "How long the oldest step runs.", {"": max((now - state.since for state in states if state.worker and not state.is_done), default=0.0)})
+    if lease < math.inf:
+        add("lease_left_seconds", "How long the lease of this runner lasts.", {"": lease})
+    add("judge_yes", "Whether the last answer of the judge is yes; 1 before the first one.", {"": judged[0] in ("", "yes")})
+    add("judged_entries", "The entries of the history that the judge has read.", {"": judged[1]})
+    return "".join(f"{line}\n" for line in lines)
