@@ -26,12 +26,12 @@ sys.path.insert(0, str(TOP / "python"))
 from ringplan.merging import Stop, merge  # noqa: E402
 
 PAGE = TOP / "docs/JUDGING.md"
-# What the page says beside its table, and what the stamps below do.
+# What the page says beside its table, and what the timestamps below do.
 RULES = (
-    "An event that needs a node to be up holds it too, shared with others that need the same.",
-    "An entry's stamp is 1 more than the greatest stamp of all that it holds, and of the puts and"
+    "An event that needs a node to be up also takes a shared lock on the node.",
+    "An entry's timestamp is 1 more than the greatest timestamp of all that it holds, and of the puts and"
     " gets that it names.",
-    "Equal stamps may come in any order.",
+    "Equal timestamps may come in any order.",
 )
 STEPS = ("join", "mirror", "switch", "drop", "retire")
 OTHERS = "put write hint ack get read endget down up handoff lose open chunk close abort".split()
@@ -142,7 +142,7 @@ def read_table() -> Table:
             if phrase in rest:
                 phrases.append(phrase)
                 rest = rest.replace(phrase, "")
-        if re.sub(r",|\band\b|\bbeside the above\b", "", rest).strip() or not phrases:
+        if re.sub(r",|\band\b|\balso\b", "", rest).strip() or not phrases:
             sys.exit(f"the trial does not know what this row says: {row}")
         for kind in re.findall(r"`(\w+)`", events):
             for each in STEPS if kind == "do" else (kind,):
