@@ -228,7 +228,7 @@ class Story:
         self.bundle = bundle
         return True
 
-    def choose_again(self, words: Sequence[str], text: str, bundle: str, answer: str) -> None:
+    def choose_again(self, words: list[str], text: str, bundle: str, answer: str) -> None:
         """By the plan that was printed, and is chosen now, the history goes on in the same way, if it goes on: of a few plans by hand it does not. By the old plan too, or there is no
         such history."""
         out, said, status = ask(words, text + bundle)
