@@ -62,8 +62,8 @@ ROWS = (
     # The plan, and each window of it.
     Row("windows --rounds 1", "move_one_slot", (1, 1, 2, 0)),
     Row("windows --rounds 1", "plan_replace", (1, 0, 5, 0)),
-    # Two plans, and the history by each.
-    Row("around --dead c", "replay_a_move", (1, 1, 2, 2)),
+    # Two plans, and the history by the old one: that by the new one is made by a run of it.
+    Row("around --dead c", "replay_a_move", (1, 1, 2, 1)),
 )
 
 
