@@ -210,7 +210,7 @@ def try_python(usr: pathlib.Path, scratch: pathlib.Path) -> None:
     for kind in ("join", "mirror", "copy", "switch", "drop", "retire"):
         (hooks / kind).write_text("#!/bin/sh\ncat\n")
         (hooks / kind).chmod(0o755)
-    ran = run(usr / "bin/ringplan-run", "apply", usr / "share/doc/ringplan/examples/planned_replace.bundle", "--do", hooks, into=scratch)
+    ran = run(usr / "bin/ringplan-run", "apply", usr / "share/doc/ringplan/examples/planned_replace.bundle", "--do", hooks, "--new", into=scratch)
     owes("ringplan-run apply", ran.returncode == 0 and "18 of 18 steps are done, and the judge says yes" in ran.stdout + ran.stderr, ran)
 
 
