@@ -9,14 +9,17 @@ from __future__ import annotations
 import contextlib
 import enum
 import fcntl
+import hashlib
 import json
 import math
 import os
 import select
+import socket
+import struct
 import subprocess
 import sys
 import threading
-from collections.abc import Callable, Iterable, Mapping
+from collections.abc import Callable, Iterable, Mapping, Sequence
 from typing import Any, NamedTuple
 
 from ringplan.run import supervisor
@@ -25,8 +28,12 @@ from ringplan.run.supervisor import now
 
 NOT_NOW = 75
 GRACE = 5.0
+# A lock, as the system's `struct flock`: its kind, from where its place counts, its place and length, and a process.
+FLOCK = "hhqqi4x"
 # How often a claim is looked at while its hook runs, in seconds.
 BEAT = 0.25
+# Writes and reads JSON in few bytes. An encoder and a decoder that are kept take a third of the time.
+WRITE, READ = json.JSONEncoder(separators=(",", ":"), sort_keys=True).encode, json.JSONDecoder().decode
 
 
 class Outcome(enum.Enum):
@@ -53,39 +60,45 @@ class Supervisor:
     """A supervisor as its runner sees it."""
 
     def __init__(self) -> None:
-        words = [sys.executable, "-I", "-S", supervisor.__file__]
-        self.process = subprocess.Popen(words, stdin=subprocess.PIPE, stdout=subprocess.PIPE, bufsize=0, start_new_session=True)
-        assert self.process.stdin is not None and self.process.stdout is not None
-        self.to, self.come, self.rest, self.lock = self.process.stdin, self.process.stdout, b"", threading.Lock()
+        words, (self.link, other) = [sys.executable, "-I", "-S", supervisor.__file__], socket.socketpair()
+        with other:
+            self.process = subprocess.Popen(words, stdin=other.fileno(), stdout=other.fileno(), start_new_session=True)
+        # The descriptor that holds the lock of the step that it serves.
+        self.rest, self.lock, self.held = b"", threading.Lock(), -1
         self.is_left, self.answered = False, select.poll()
-        self.answered.register(self.come, select.POLLIN)
+        self.answered.register(self.link, select.POLLIN)
 
-    def send(self, **command: Any) -> None:
+    def send(self, handles: Sequence[int] = (), **command: object) -> None:
+        data = WRITE(command).encode() + b"\n"
         # Without its reader there is no answer either.
-        with self.lock, contextlib.suppress(BrokenPipeError):
-            self.to.write(json.dumps(command).encode() + b"\n")
+        with self.lock, contextlib.suppress(ConnectionError):
+            sent = socket.send_fds(self.link, [data], handles) if handles else 0
+            self.link.sendall(data[sent:])
 
-    def answer(self, seconds: float | None = None) -> dict[str, Any] | None:
+    def answer(self, seconds: float) -> dict[str, Any] | None:
         """Its next answer. None if there is none in time. A supervisor that is gone is a `Stop`."""
         while b"\n" not in self.rest:
-            if not self.answered.poll(None if seconds is None else 1000 * seconds):
+            if not self.answered.poll(1000 * seconds):
                 return None
-            data = self.come.read(1 << 16)
+            data = b""
+            with contextlib.suppress(ConnectionError):
+                data = self.link.recv(1 << 16)
             if not data:
                 raise Stop(Status.FAULT, "the supervisor of a hook was killed, so it is not known whether the hook runs")
             self.rest += data
         line, self.rest = self.rest.split(b"\n", 1)
-        found: dict[str, Any] = json.loads(line)
+        found: dict[str, Any] = READ(line.decode())
         return found
 
-    def ask(self, **command: Any) -> dict[str, Any]:
-        self.send(**command)
-        return self.answer() or {}
+    def free(self) -> None:
+        """Frees the lock of its step."""
+        os.close(self.held)
+        if self.is_left:
+            self.send(free=True)
 
     def close(self) -> None:
         """Lets it end once it has nothing to wait for."""
-        self.to.close()
-        self.come.close()
+        self.link.close()
 
 
 class Hooks:
@@ -94,6 +107,7 @@ class Hooks:
     def __init__(self, folder: str, locks: str, limits: Mapping[str, float] = {}) -> None:
         # How many seconds a hook of a kind may take.
         self.folder, self.locks, self.limits, self.lock = folder, locks, limits, threading.Lock()
+        self.file = os.path.abspath(os.path.join(locks, "steps"))
         self.idle, self.running, self.left = list[Supervisor](), set[Supervisor](), list[Supervisor]()
         # Whether the hooks are to end, and whether a supervisor died and left a hook.
         self.is_ending = self.is_lost = False
@@ -110,66 +124,67 @@ class Hooks:
         if missing:
             raise Stop(Status.FAULT, f"no executable in {self.folder} for: {' '.join(missing)}")
 
-    # The locks of steps.
-    def file(self, name: Name) -> str:
-        return os.path.join(self.locks, name.file())
+    # The locks of steps: each is a byte of one file, so no step makes a file of its own. A descriptor holds a lock, and with it all processes that have a copy.
+    def lock_of(self, handle: int, how: int, kind: int, name: Name) -> int:
+        """Takes a step's lock, or looks for one that stands against it. Returns its kind."""
+        place = int.from_bytes(hashlib.sha256(name.file().encode()).digest()[:7])
+        found: tuple[int, ...] = struct.unpack(FLOCK, fcntl.fcntl(handle, how, struct.pack(FLOCK, kind, os.SEEK_SET, place, 1, 0)))
+        return found[0]
+
+    def open(self) -> int:
+        """A descriptor of its own of the file of all locks."""
+        with contextlib.suppress(FileNotFoundError):
+            return os.open(self.file, os.O_RDWR | os.O_CREAT, 0o666)
+        os.makedirs(self.locks, exist_ok=True)
+        return os.open(self.file, os.O_RDWR | os.O_CREAT, 0o666)
 
     def hold(self, name: Name) -> Supervisor | None:
-        """A supervisor that holds the step's lock. None while a process of an earlier hook of the step is left."""
+        """A supervisor for the step, whose lock is held. None while a process of an earlier hook of the step is left."""
+        handle = -1
         try:
+            handle = self.open()
+            self.lock_of(handle, fcntl.F_OFD_SETLK, fcntl.F_WRLCK, name)
             with self.lock:
                 one = self.idle.pop() if self.idle else None
-            if one is None:
-                os.makedirs(self.locks, exist_ok=True)
-                one = Supervisor()
-            answer = one.ask(lock=os.path.abspath(self.file(name)))
+            one = one or Supervisor()
         except OSError as error:
+            if handle >= 0:
+                os.close(handle)
+            if isinstance(error, BlockingIOError):
+                return None
             raise NoLock(error.strerror) from error
-        if answer.get("held"):
-            return one
-        with self.lock:
-            self.idle.append(one)
-        if "error" in answer:
-            raise NoLock(answer["error"])
-        return None
+        one.held = handle
+        return one
 
     def free(self, one: Supervisor) -> None:
         """Frees its lock. A supervisor that has processes left does not serve another step."""
-        one.send(free=True)
+        one.free()
         with self.lock:
             (self.left if one.is_left else self.idle).append(one)
 
     def is_running(self, name: Name) -> bool:
         """Whether a hook of the step runs on this machine, also one that outlived its runner."""
         try:
-            handle = os.open(self.file(name), os.O_RDONLY)
+            handle = os.open(self.file, os.O_RDONLY)
         except FileNotFoundError:
             return False
         try:
-            fcntl.flock(handle, fcntl.LOCK_SH | fcntl.LOCK_NB)
-            return False
-        except BlockingIOError:
-            return True
+            return self.lock_of(handle, fcntl.F_OFD_GETLK, fcntl.F_RDLCK, name) != fcntl.F_UNLCK
         finally:
             os.close(handle)
-
-    def forget(self, name: Name) -> None:
-        """Removes the lock of a step that is done."""
-        with contextlib.suppress(FileNotFoundError):
-            os.unlink(self.file(name))
 
     # Hooks that run.
     def run(self, kind: str, title: str, members: dict[str, object], one: Supervisor, until: Callable[[], float], beat: Callable[[bool], None]) -> Result:
         """Runs a hook to its end. `until` is the moment up to which the step is the worker's: its processes are killed then, also if this runner is stopped or dead.
 
         `beat` is called while the hook runs on, with whether it has failed and waits for processes that it left."""
-        line = json.dumps(members, separators=(",", ":"), sort_keys=True) + "\n"
+        line = WRITE(members) + "\n"
         with self.lock:
             moment = until()
             if self.is_ending or moment <= now():
                 return Result(Outcome.ENDED)
             self.running.add(one)
-            one.send(run=self.path(kind), name=title, input=line, until=moment, limit=self.limits.get(kind, math.inf), grace=GRACE)
+            one.send([one.held], run=self.path(kind), name=title, input=line, until=moment, limit=self.limits.get(kind, math.inf), grace=GRACE)
         try:
             while (answer := one.answer(BEAT)) is None or "rest" in answer:
                 beat(answer is not None)

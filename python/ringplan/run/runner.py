@@ -157,7 +157,6 @@ class Runner:
                 if claim.name not in self.numbers:
                     self.load()
                 self.mark(self.numbers[claim.name])
-                self.hooks.forget(claim.name)
                 print("done", self.numbers[claim.name], claim.name, flush=True)
 
     # Steps.

@@ -1,14 +1,13 @@
 """Stands between a runner and the hooks of one step, and holds the step's lock until no process of a hook is left, whatever becomes of the runner.
 
-Orphans become its children (it is a subreaper), so it sees a process that closes descriptors or begins a session of its own. Commands are lines of JSON:
+Orphans become its children (it is a subreaper), so it sees a process that closes descriptors or begins a session of its own. Commands are lines of JSON on a socket:
 
-    {"lock": PATH}                                                takes a lock: {"held": BOOL} or {"error": TEXT}
     {"run": PATH, "name": TEXT, "input": TEXT,
-     "until": MOMENT, "limit": SECONDS, "grace": SECONDS}         runs a hook, and ends it if it takes longer than its limit:
+     "until": MOMENT, "limit": SECONDS, "grace": SECONDS}         runs a hook, and ends it if it takes longer than its limit; the descriptor that holds the lock comes with it:
                                                                   {"status": N, "is_killed": BOOL, "is_late": BOOL, "is_left": BOOL, "lines": [..]} or {"error": TEXT}
     {"until": MOMENT}                                             moves the moment at which all processes are killed
     {"end": SECONDS}                                              ends them: by SIGTERM now, and by SIGKILL so much later
-    {"free": true}                                                frees the lock
+    {"free": true}                                                frees the lock, although processes are left
 
 A moment is a second of CLOCK_BOOTTIME, which counts while the machine sleeps. A hook that ended with 0 may leave processes. Any other is over once none is left;
 `{"rest": true}` says that it waits for them.
@@ -17,12 +16,12 @@ A moment is a second of CLOCK_BOOTTIME, which counts while the machine sleeps. A
 from __future__ import annotations
 
 import ctypes
-import fcntl
 import json
 import math
 import os
 import select
 import signal
+import socket
 import time
 from collections import deque
 from typing import Any
@@ -43,7 +42,8 @@ def now() -> float:
 
 class Supervisor:
     def __init__(self) -> None:
-        self.lock = -1
+        # Commands come by it. The descriptors that came with commands, and the one that holds the lock.
+        self.link, self.handles, self.lock = socket.socket(fileno=0), deque[int](), -1
         # The hook's process while it lives, its status, and whether an answer is owed.
         self.hook, self.status, self.is_owed = 0, 0, False
         # Whether a process is left; whether the hook was killed at its moment; whether `rest` was said; whether the runner is gone.
@@ -59,7 +59,7 @@ class Supervisor:
 
     def answer(self, **members: Any) -> None:
         try:
-            os.write(1, json.dumps(members).encode() + b"\n")
+            self.link.sendall(json.dumps(members).encode() + b"\n")
         except OSError:
             self.is_over = True
 
@@ -67,8 +67,6 @@ class Supervisor:
     def obey(self, command: dict[str, Any]) -> None:
         try:
             match command:
-                case {"lock": path}:
-                    self.answer(held=self.take(path))
                 case {"run": path, "name": name, "input": line, "until": until, "limit": limit, "grace": grace}:
                     self.until, self.limit, self.grace, self.name = until, now() + limit, grace, name.encode()
                     self.run(path, line.encode())
@@ -79,17 +77,8 @@ class Supervisor:
                 case _:
                     self.free()
         except OSError as error:
-            self.answer(error=error.strerror)
-
-    def take(self, path: str) -> bool:
-        self.lock = os.open(path, os.O_RDWR | os.O_CREAT, 0o666)
-        # Hooks inherit it: so most of them keep it if somebody kills this process.
-        os.set_inheritable(self.lock, True)
-        try:
-            fcntl.flock(self.lock, fcntl.LOCK_EX | fcntl.LOCK_NB)
-        except BlockingIOError:
             self.free()
-        return self.lock >= 0
+            self.answer(error=error.strerror)
 
     def free(self) -> None:
         if self.lock >= 0:
@@ -98,6 +87,10 @@ class Supervisor:
 
     def run(self, path: str, line: bytes) -> None:
         """Starts a hook. Its input is whole before it starts, so that it reads all or nothing of it."""
+        self.free()
+        self.lock = self.handles.popleft()
+        # Hooks inherit it: so most of them keep it if somebody kills this process.
+        os.set_inheritable(self.lock, True)
         self.status, self.is_killed, self.is_late, self.is_resting = 0, False, False, False
         self.last.clear()
         given = os.memfd_create("input")
@@ -139,6 +132,8 @@ class Supervisor:
                 self.hook, self.status = 0, os.waitstatus_to_exitcode(status)
         if self.is_owed and not self.hook:
             self.tell()
+        elif not self.is_left:
+            self.free()
 
     def tell(self) -> None:
         """Answers for a hook that has ended, once what it printed is read."""
@@ -153,6 +148,8 @@ class Supervisor:
             self.rest = b""
         self.write()
         self.is_owed, self.until, self.limit = False, math.inf, math.inf
+        if not self.is_left:
+            self.free()
         lines = [line.decode(errors="replace") for line in self.last] if self.status else []
         self.answer(status=self.status, is_killed=self.is_killed, is_late=self.is_late, is_left=self.is_left, lines=lines)
 
@@ -208,7 +205,8 @@ class Supervisor:
         rest = b""
         while not self.is_over or self.is_left:
             if self.wait():
-                data = os.read(0, 1 << 16)
+                data, handles, _, _ = socket.recv_fds(self.link, 1 << 16, 1)
+                self.handles.extend(handles)
                 self.is_over = self.is_over or not data
                 *lines, rest = (rest + data).split(b"\n")
                 for line in lines:
