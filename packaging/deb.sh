@@ -34,7 +34,6 @@ Architecture: amd64
 Maintainer: Rowaypas maintainers <maintainers@users.noreply.rowaypas.example>
 Installed-Size: $size
 Depends: ${needs#shlibs:Depends=}, python3 (>= 3.11)
-Recommends: python3-requests
 Section: database
 Priority: optional
 Description: plans and checks ring changes of Dynamo-style stores

@@ -24,6 +24,8 @@ from ringplan import __version__, programs, texts
 from ringplan.run import report
 from ringplan.run.bar import shown
 from ringplan.run.board import LOOK, Board, Change, Name, NoBoard, State, Status, Stop
+from ringplan.run.etcd import EtcdBoard
+from ringplan.run.gateway import Access
 from ringplan.run.hooks import Hooks
 from ringplan.run.page import Page
 from ringplan.run.runner import SIGNALS, Options, Runner, judge, read_steps
@@ -66,11 +68,6 @@ def open_board(words: argparse.Namespace, is_new: bool = False, is_read: bool = 
     name = place(words)
     if not name.startswith(("etcd:", "etcds:")):
         return SqliteBoard(name, is_new, is_read)
-    try:
-        from ringplan.run.etcd import EtcdBoard
-        from ringplan.run.gateway import Access
-    except ModuleNotFoundError as error:
-        raise Stop(Status.FAULT, f"a board in etcd needs the Python package {error.name}: python3-{error.name} of Debian") from error
     try:
         password = pathlib.Path(words.password_file).read_text().rstrip("\n") if words.password_file else ""
         for path in (words.ca, words.cert, words.key):

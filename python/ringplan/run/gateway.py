@@ -1,17 +1,17 @@
-"""A client of etcd: transactions and leases by its JSON gateway, with `requests`."""
+"""A client of etcd: transactions and leases by its JSON gateway."""
 
 from __future__ import annotations
 
 import base64
+import http.client
 import json
+import ssl
 import sys
 import threading
 import time
 from collections.abc import Sequence
 from dataclasses import dataclass
 from typing import Any, NamedTuple
-
-import requests
 
 from ringplan.run.board import Status, Stop, Tries
 
@@ -20,7 +20,7 @@ REQUEST, PAUSE, TOLD = 5.0, 0.1, 5.0
 # The codes of gRPC by which a server says that it may answer later, that a lease is not there, and that a user's token is over.
 LATER, NOT_FOUND, NO_USER = (1, 2, 4, 14), 5, 16
 # How a request ends that has no answer.
-NO_ANSWER = (OSError, requests.RequestException, ValueError)
+NO_ANSWER = (OSError, http.client.HTTPException, ValueError)
 
 Json = dict[str, Any]
 
@@ -114,25 +114,37 @@ class Etcd:
 
     silent: float | None
 
-    def session(self) -> Any:
-        """The connections of this thread."""
-        if not hasattr(self.local, "session"):
-            it = self.local.session = requests.Session()
-            # No proxy of the environment stands between.
-            it.trust_env = False
-            it.verify = self.access.ca or True
-            it.cert = (self.access.cert, self.access.key) if self.access.cert and self.access.key else self.access.cert
-        return self.local.session
+    def connection(self, timeout: float) -> http.client.HTTPConnection:
+        """This thread's connection to the member that is asked. An answer may take so long."""
+        member, link = self.access.members[self.member], self.local.__dict__.get("link")
+        if link is None or self.local.member != member:
+            link, self.local.member = http.client.HTTPConnection(member), member
+            if self.access.is_tls:
+                context = ssl.create_default_context(cafile=self.access.ca)
+                if self.access.cert:
+                    context.load_cert_chain(self.access.cert, self.access.key)
+                link = http.client.HTTPSConnection(member, context=context)
+            self.local.link = link
+        link.timeout = timeout
+        if link.sock is not None:
+            link.sock.settimeout(timeout)
+        return link
 
     def send(self, path: str, body: Json, timeout: float) -> tuple[int, Json]:
-        url = f"http{'s' * self.access.is_tls}://{self.access.members[self.member]}{path}"
-        answer = self.session().post(url, data=json.dumps(body), timeout=timeout, headers={"Authorization": self.token} if self.token else {})
-        if answer.status_code == 400 and not answer.text.startswith("{"):
-            raise Refused(0, answer.text.strip()[:200])
-        reply: Json = answer.json()
+        link = self.connection(timeout)
+        try:
+            link.request("POST", path, json.dumps(body), {"Authorization": self.token} if self.token else {})
+            answer = link.getresponse()
+            data = answer.read()
+        except NO_ANSWER:
+            link.close()
+            raise
+        if answer.status == 400 and not data.startswith(b"{"):
+            raise Refused(0, data.decode(errors="replace").strip()[:200])
+        reply: Json = json.loads(data)
         if not isinstance(reply, dict):
             raise ValueError("the answer is not etcd's")
-        return answer.status_code, reply
+        return answer.status, reply
 
     def ask(self, path: str, body: Json, timeout: float = REQUEST) -> Json:
         """Sends a request once."""
