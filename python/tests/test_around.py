@@ -92,11 +92,12 @@ def see_the_end(bench: Bench) -> None:
 def test_a_runner_goes_on_by_another_plan(bench: Bench) -> None:
     process = begin_copies(bench)
     before = record_of(bench)
-    asked = programs.ask("around", before.text(), "--dead", "birch")
+    marked = before._replace(entries=[*before.entries, "down birch = ok"])
+    asked = programs.ask("around", marked.text(), "--dead", "birch")
     assert bench.run("around", "--dead", "birch") == (Status.DONE, "3 of 16 steps of the new plan are done\n", asked.errors)
     after = record_of(bench)
     # The runner may have begun the copy anew by now.
-    kept = [line for line in before.entries if line != f"open {DEAD} = ok"]
+    kept = [line for line in marked.entries if line != f"open {DEAD} = ok"]
     assert after.text().startswith(asked.text.removesuffix("end\n")) and after.entries[: len(kept)] == kept
     # The copy that read birch is told to stop. The other one goes on.
     bench.wait_for("begin", DEAD, 2)
@@ -125,6 +126,22 @@ def test_without_a_runner_the_next_one_goes_on(bench: Bench) -> None:
     assert "2 slots are no longer mirrored to elm (2)" in err
     for step in (OTHER, DEAD):
         bench.let_go(step)
+    see_the_end(bench)
+
+
+@over_both
+def test_a_dead_node_is_down_in_the_history_once_it_is_a_member(bench: Bench) -> None:
+    # elm has not joined: by the rules it cannot be down, and its moves go elsewhere.
+    bench.answer(0, 1)
+    assert bench.run("apply", "--give-up", "1")[0] == Status.GIVEN_UP
+    code, _, err = bench.run("around", "--dead", "elm", "--dead", "birch")
+    assert code == Status.DONE, err
+    assert [line for line in record_of(bench).entries if line.startswith("down")] == ["down birch = ok"]
+    # A second plan finds it down already.
+    code, _, err = bench.run("around", "--dead", "birch", "--dead", "elm")
+    assert code == Status.DONE, err
+    assert record_of(bench).entries.count("down birch = ok") == 1
+    bench.answer(0, 0)
     see_the_end(bench)
 
 

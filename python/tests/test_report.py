@@ -65,7 +65,7 @@ def test_status_says_how_long_copies_take(bench: Bench) -> None:
     assert bench.run("apply", "--layout", str(layout), "--give-up", "1", "--workers", "4")[0] == Status.GIVEN_UP
     code, out, _ = bench.run("status")
     assert code == Status.GIVEN_UP and " of 3 M are copied, " in out.splitlines()[1] and out.splitlines()[1].endswith(" left")
-    assert "    `ringplan-run retry 6` tries it again, `ringplan-run leave 1.1` leaves its slot with its owner\n" in out
+    assert "    `ringplan-run retry 6` tries it again, `ringplan-run leave 1.1` leaves its slot with its owner, `ringplan-run around --dead NODE` goes on" in out
     found = json.loads(bench.run("status", "--format", "json")[1])
     assert found["unit"] == "size" and found["to_copy"] == 3000502 and 0 < found["copied"] < found["to_copy"] and found["rate"] > 0 and found["left"] > 0
     layout.write_text("layout 1\nsize 77 5\nend\n")
@@ -170,6 +170,22 @@ def test_events_go_to_a_command(bench: Bench) -> None:
     first, last = map(json.loads, events.read_text().splitlines())
     assert (first["event"], first["step"], first["why"], first["lines"]) == ("given up", 2, "ended with 7", ["copy 2 is not done"])
     assert (last["event"], last["done"], last["steps"]) == ("done", 18, 18)
+
+
+def test_a_hook_that_finds_a_node_dead_is_given_up_at_once(bench: Bench) -> None:
+    events, command = bench.folder / "events", bench.folder / "command"
+    command.write_text(f"#!/bin/sh\ncat >> {events}\n")
+    command.chmod(0o755)
+    bench.answer(2, 69)
+    code, _, err = bench.run("apply", "--on-event", str(command))
+    assert code == Status.GIVEN_UP and "2 copy 0 1 d: found a node dead (ended with 69), 1 failures, given up\n" in err
+    wait_until(lambda: events.exists() and events.read_text().endswith("\n"))
+    (event,) = map(json.loads, events.read_text().splitlines())
+    assert (event["event"], event["step"], event["nodes"], event["lines"]) == ("a node is dead", 2, ["b", "d"], ["copy 2 is not done"])
+    assert bench.run("around", "--dead", "b")[0] == Status.DONE
+    assert "down b = ok" in bench.run("history")[1].splitlines()
+    bench.answer(2, 0)
+    assert bench.run("apply")[0] == Status.DONE
 
 
 @over_both

@@ -19,11 +19,12 @@ import re
 import signal
 import sys
 import time
+from collections.abc import Sequence
 
 from ringplan import __version__, programs, texts
 from ringplan.run import report
 from ringplan.run.bar import shown
-from ringplan.run.board import LOOK, Board, Change, Name, NoBoard, State, Status, Stop
+from ringplan.run.board import LOOK, Board, Change, Name, NoBoard, Record, State, Status, Stop
 from ringplan.run.etcd import EtcdBoard
 from ringplan.run.gateway import Access
 from ringplan.run.hooks import Hooks
@@ -149,7 +150,8 @@ def around(words: argparse.Namespace) -> Status:
         is_swapped = False
         while not is_swapped:
             known = board.record()
-            answer = programs.ask("around", known.text(), *options)
+            marked = known._replace(entries=[*known.entries, *downs(known, words.dead)])
+            answer = programs.ask("around", marked.text(), *options)
             if answer.status:
                 raise Stop(Status.REFUSED if answer.status == 1 else Status.FAULT, f"the board is as it was:\n{answer.text}{answer.errors}".rstrip())
             *bundle, history = texts.read_texts(answer.text)
@@ -164,6 +166,17 @@ def around(words: argparse.Namespace) -> Status:
     states = board.states()[1]
     print(f"{sum(state.is_done for state in states)} of {len(states)} steps of the new plan are done")
     return Status.DONE
+
+
+def downs(known: Record, dead: Sequence[str]) -> list[str]:
+    """The entries that say in a history which nodes are dead. A node that is not a member, such as one that has not joined yet, or that is down already, has none."""
+    (ring, plan), entries = texts.read_plan(known.bundle), set(known.entries)
+    members = {node.name for node in ring.nodes if node.is_in}
+    done = [step for number, step in enumerate(plan.steps) if f"do {number} = ok" in entries]
+    members |= {str(step.node) for step in done if step.kind == "join"}
+    members -= {str(step.node) for step in done if step.kind == "retire"}
+    wanted = [f"down {node} = ok" for node in dict.fromkeys(dead) if node in members]
+    return [entry for entry in wanted if entry not in entries]
 
 
 def wait_for_steps(board: Board) -> None:
@@ -337,7 +350,7 @@ def command_line() -> argparse.ArgumentParser:
             command.add_argument("--new", action="store_true", help="makes the board if it is not there, without asking")
             command.add_argument("--plan-sum", metavar="SHA256", help="refuses a bundle with another SHA-256 sum")
             command.add_argument("--only-between", type=times, metavar="HH:MM-HH:MM", help="lets copies begin only at this time of day")
-            command.add_argument("--on-event", metavar="COMMAND", help="a program that gets a line of JSON if a step is given up, the judge says no, or all is done")
+            command.add_argument("--on-event", metavar="COMMAND", help="a program that gets a line of JSON if a step is given up, a node is dead, the judge says no, or all is done")
             command.add_argument("--timeout", type=timeout, action="append", default=[], metavar="KIND=SECONDS", help="ends a hook that takes longer, and counts a failure")
             command.add_argument("--serve", type=int, metavar="PORT", help="shows a page at this port; 0 takes a free one")
             command.add_argument("--listen", default="127.0.0.1", metavar="ADDRESS", help="the address of the page; elsewhere than on loopback it has a token (default: %(default)s)")

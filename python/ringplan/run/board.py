@@ -96,14 +96,20 @@ def names_of(steps: Sequence[StepLine]) -> list[Name]:
 
 
 class Note(NamedTuple):
-    """An entry of the history of a step: `do`, `open`, `chunk`, `close` or `abort`, and the number of the chunk."""
+    """An entry of the history of a step: `do`, `open`, `chunk`, `close` or `abort`, and the number of the chunk. Or `down` with a node, which is of no step."""
 
     word: str
     chunk: int | None = None
 
     def line(self, number: int) -> str:
         """The entry, for the number that the step has."""
+        if self.is_down():
+            return f"{self.word} = ok"
         return f"{self.word} {number} = ok" if self.chunk is None else f"{self.word} {number} {self.chunk} = ok"
+
+
+    def is_down(self) -> bool:
+        return self.word.startswith("down ")
 
 
 class Progress(NamedTuple):
@@ -138,17 +144,25 @@ class Change:
 
     bundle: str
     names: list[Name]
+    # An entry of no step stands with any one.
     notes: list[tuple[Name, Note]]
 
     @staticmethod
     def of(bundle: str, names: list[Name], entries: Iterable[Entry]) -> Change:
-        words = (entry.event for entry in entries)
-        return Change(bundle, names, [(names[int(number)], Note(word, *map(int, chunk))) for word, number, *chunk in words])
+        notes = list[tuple[Name, Note]]()
+        for word, what, *chunk in (entry.event for entry in entries):
+            if word != "down":
+                notes.append((names[int(what)], Note(word, *map(int, chunk))))
+            elif names:
+                notes.append((names[0], Note(f"down {what}")))
+        return Change(bundle, names, notes)
 
     def progress(self) -> dict[Name, Progress]:
         """How far each step is that has an entry."""
         found = dict[Name, Progress]()
         for name, note in self.notes:
+            if note.is_down():
+                continue
             found[name] = found.get(name, Progress()).after(note)
         return found
 

@@ -1,6 +1,7 @@
 """Hooks: executables that do steps. Each gets one JSON object on its standard input.
 
-A hook is told by its file's name which kind of step it does. It ends with 0 if the step is done, and with 75 if it cannot be done now. Any other end is a failure.
+A hook is told by its file's name which kind of step it does. It ends with 0 if the step is done, with 75 if it cannot be done now, and with 69 if a node that it
+needs is dead for good. Any other end is a failure.
 Between the runner and its hooks stand supervisors, one for each step that is being done.
 """
 
@@ -26,7 +27,7 @@ from ringplan.run import supervisor
 from ringplan.run.board import Name, Status, Stop
 from ringplan.run.supervisor import now
 
-NOT_NOW = 75
+DEAD, NOT_NOW = 69, 75
 GRACE = 5.0
 # A lock, as the system's `struct flock`: its kind, from where its place counts, its place and length, and a process.
 FLOCK = "hhqqi4x"
@@ -40,6 +41,8 @@ class Outcome(enum.Enum):
     DONE = "done"
     NOT_NOW = "not now"
     FAILED = "failed"
+    # A failure for ever, by this plan.
+    DEAD = "found a node dead"
     # The runner ended the hook, or did not start it.
     ENDED = "ended by a signal"
 
@@ -211,7 +214,8 @@ class Hooks:
         if answer["is_killed"]:
             return Result(Outcome.ENDED)
         why = f"ended with {status}" if status > 0 else f"killed by signal {-status}"
-        return Result(Outcome.NOT_NOW if status == NOT_NOW else Outcome.FAILED, why, tuple(answer["lines"]))
+        outcome = {DEAD: Outcome.DEAD, NOT_NOW: Outcome.NOT_NOW}.get(status, Outcome.FAILED)
+        return Result(outcome, why, tuple(answer["lines"]))
 
     def end(self) -> None:
         """Ends the hooks that run, with all their processes: at once by SIGTERM, and after a while by SIGKILL."""

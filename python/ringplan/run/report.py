@@ -105,7 +105,7 @@ def advice(state: State) -> str:
     if not state.tries.is_given_up:
         return ""
     leave = f", `ringplan-run leave {state.name.partition}.{state.name.slot}` leaves its slot with its owner" if state.name.kind in ("mirror", "copy") else ""
-    return f"`ringplan-run retry {state.number}` tries it again{leave}"
+    return f"`ringplan-run retry {state.number}` tries it again{leave}, `ringplan-run around --dead NODE` goes on without a dead node"
 
 
 def begun(states: Iterable[State]) -> list[State]:

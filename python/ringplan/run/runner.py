@@ -244,13 +244,14 @@ class Runner:
 
     def give_back(self, claim: Claim, result: Result) -> None:
         """Gives a step back that is not done, to be tried again after a pause that doubles each time."""
-        outcome = result.outcome
-        failures, waits = claim.tries.failures + (outcome is Outcome.FAILED), claim.tries.waits + (outcome is Outcome.NOT_NOW)
+        outcome, is_dead = result.outcome, result.outcome is Outcome.DEAD
+        failures, waits = claim.tries.failures + (outcome in (Outcome.FAILED, Outcome.DEAD)), claim.tries.waits + (outcome is Outcome.NOT_NOW)
         pause = min(self.options.longest, self.options.pause * 2 ** min(failures + waits - 1, 30)) if outcome is not Outcome.ENDED else 0.0
-        is_given_up = outcome is Outcome.FAILED and self.options.give_up is not None and failures >= self.options.give_up
+        is_given_up = is_dead or outcome is Outcome.FAILED and self.options.give_up is not None and failures >= self.options.give_up
         self.board.give_back(claim, replace(claim.tries.later(pause), failures=failures, waits=waits, is_given_up=is_given_up, why=result.why, lines="\n".join(result.lines)))
         if is_given_up:
-            self.tell("given up", step=self.numbers.get(claim.name), name=str(claim.name), why=result.why, lines=result.lines)
+            nodes = sorted(self.nodes(claim.name) - {""})
+            self.tell("a node is dead" if is_dead else "given up", step=self.numbers.get(claim.name), name=str(claim.name), nodes=nodes, why=result.why, lines=result.lines)
         after = "given up" if is_given_up else f"again in {pause:g} s"
         self.say(claim, f"{outcome.value}{f' ({result.why})' if result.why else ''}, {failures} failures, {after}")
 
@@ -285,7 +286,7 @@ class Runner:
                 yield name
 
     def nodes(self, name: Name) -> set[str]:
-        """The nodes that a copy fills and reads."""
+        """The nodes that a step is about, such as those that a copy fills and reads."""
         number = self.numbers.get(name)
         return set() if number is None else {self.steps[number].who(), *(self.steps[number].sources or ())}
 
