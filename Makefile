@@ -32,8 +32,9 @@ PACKAGES := lib/python3/dist-packages
 # What says to Python's tools that the package is installed, and which commands it has.
 INFO := $(PACKAGES)/ringplan-$(VERSION).dist-info
 OURS := $(PACKAGES)/ringplan $(INFO) share/doc/ringplan
-FILES := bin/ringplan bin/ringplan-run bin/ringplan-import bin/ringplan-merge share/man/man1/ringplan.1 \
-    share/bash-completion/completions/ringplan $(ZSH)/_ringplan share/fish/vendor_completions.d/ringplan.fish \
+COMMANDS := ringplan-run ringplan-import ringplan-merge
+SHELLS := share/bash-completion/completions share/fish/vendor_completions.d
+FILES := $(foreach it,ringplan $(COMMANDS),bin/$(it) share/man/man1/$(it).1 $(word 1,$(SHELLS))/$(it) $(word 2,$(SHELLS))/$(it).fish) $(ZSH)/_ringplan $(ZSH)/_ringplan-run \
     lib/libringplan.so lib/libringplan.so.$(CALLS) lib/pkgconfig/ringplan.pc include/ringplan.h
 
 .PHONY: all install uninstall deb dist test
@@ -62,6 +63,10 @@ install: all
 	sed 's|@PYTHON@|$(PYTHON)|; s|@MODULE@|ringplan.importing|' packaging/script.py.in > $(TO)/bin/ringplan-import
 	sed 's|@PYTHON@|$(PYTHON)|; s|@MODULE@|ringplan.merging|' packaging/script.py.in > $(TO)/bin/ringplan-merge
 	chmod 755 $(TO)/bin/ringplan-run $(TO)/bin/ringplan-import $(TO)/bin/ringplan-merge
+	for it in $(COMMANDS); do packaging/man.py $(VERSION) $$it > $(TO)/share/man/man1/$$it.1 || exit; \
+	    echo "eval \"\$$(register-python-argcomplete $$it 2> /dev/null)\"" > $(TO)/$(word 1,$(SHELLS))/$$it; \
+	    echo "register-python-argcomplete --shell fish $$it 2> /dev/null | source" > $(TO)/$(word 2,$(SHELLS))/$$it.fish; done
+	cp packaging/completions.zsh $(TO)/$(ZSH)/_ringplan-run
 	chmod 644 $(addprefix $(TO)/,$(filter share/%,$(FILES)))
 	packaging/info.py $(VERSION) $(TO)/$(PACKAGES)
 	for it in $(TEXTS); do $(INSTALL) -D -m 644 $$it $(TO)/share/doc/ringplan/$$it || exit; done

@@ -14,7 +14,7 @@ scratch=$(mktemp -d)
 trap 'rm -rf "$scratch"' EXIT
 tree=$scratch/tree
 "${MAKE:-make}" -s install DESTDIR="$tree" PREFIX=/usr PYTHON=/usr/bin/python3 ZSH=share/zsh/vendor-completions LIBRARY="${LIBRARY-}"
-gzip -9n "$tree/usr/share/man/man1/ringplan.1"
+gzip -9n "$tree"/usr/share/man/man1/*.1
 
 with_library=${LIBRARY:+, the C library}
 
@@ -34,6 +34,7 @@ Architecture: amd64
 Maintainer: Rowaypas maintainers <maintainers@users.noreply.rowaypas.example>
 Installed-Size: $size
 Depends: ${needs#shlibs:Depends=}, python3 (>= 3.11)
+Recommends: python3-argcomplete
 Section: database
 Priority: optional
 Description: plans and checks ring changes of Dynamo-style stores

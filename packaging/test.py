@@ -1,5 +1,5 @@
 #!/usr/bin/env python3
-"""Makes the packages, installs the deb into a root of its own by dpkg, and uses what was installed: the program, the completions, the page of the manual, the C
+"""Makes the packages, installs the deb into a root of its own by dpkg, and uses what was installed: the program, the completions, the pages of the manual, the C
 library and the Python package. Then `make install` and `make uninstall`. It wants the program as it is built, and `LIBRARY` in the environment or
 crates/ringplan_c/out/libringplan_c.a; without these the packages are made without the C library. With --skip-none a part that cannot be tried is a fault."""
 import hashlib
@@ -140,11 +140,33 @@ def try_shells(usr: pathlib.Path) -> None:
         owes(f"what {shell} completes", shown[-1:] == [wanted], shown)
 
 
-def try_manual(page: pathlib.Path) -> None:
+def try_python_completions(usr: pathlib.Path) -> None:
+    """What shells complete of the commands in Python, by argcomplete."""
+    if not shutil.which("register-python-argcomplete"):
+        skip("the completions of ringplan-run are not tried, as python3-argcomplete is not installed")
+        return
+    by_bash = '. "$0"; COMP_LINE=$1; COMP_POINT=${#1}; COMP_TYPE=9; _python_argcomplete "${1%% *}"; echo "${COMPREPLY[@]}"'
+    by_zsh = 'fpath=("$1" $fpath); autoload -U compinit; compinit -u -D; print $_comps[ringplan-run] $_comps[ringplan-import] $_comps[ringplan-merge]'
+    env = {"PATH": f"{usr}/bin:{PLAIN['PATH']}", "HOME": usr.parent}
+    for line, wanted in {"ringplan-run st": "status", "ringplan-run apply --gi": "--give-up", "ringplan-import descr": "describering", "ringplan-merge --ou": "--output"}.items():
+        script = usr / "share/bash-completion/completions" / line.split()[0]
+        found = does(f"bash on {line}", "bash", "--norc", "-c", by_bash, script, line, env=env)
+        owes(f"bash on {line}", found.strip() == wanted, found)
+    calls: dict[str, tuple[tuple[object, ...], str]] = {
+        "zsh": (("-fc", by_zsh, "zsh", usr / "share/zsh/vendor-completions"), "_ringplan-run _ringplan-run _ringplan-run"),
+        "fish": (("-c", "source $argv[1]; complete -C 'ringplan-run st' | cut -f 1", usr / "share/fish/vendor_completions.d/ringplan-run.fish"), "status"),
+    }
+    for shell, (words, wanted) in calls.items():
+        if shutil.which(shell):
+            found = does(f"{shell} of ringplan-run", shell, *words, env=env)
+            owes(f"{shell} of ringplan-run", found.strip() == wanted, found)
+
+
+def try_manual(page: pathlib.Path, *headings: str) -> None:
     ran = run("man", "--warnings", "-P", "cat", "-l", page, env={"MANWIDTH": 100, "HOME": page.parent})
     owes("man -l", ran.returncode == 0 and not ran.stderr, ran.stderr)
     shown = re.sub(".\b", "", ran.stdout)
-    for heading in ("NAME", "SYNOPSIS", "COMMANDS", "EXIT STATUS"):
+    for heading in ("NAME", "SYNOPSIS", "EXIT STATUS", *headings):
         owes(f"the page's {heading}", f"\n{heading}\n" in shown, shown)
 
 
@@ -240,7 +262,9 @@ def try_all(scratch: pathlib.Path) -> None:
     install(make_packages(scratch), root)
     try_program(root / "usr")
     try_shells(root / "usr")
-    try_manual(root / "usr/share/man/man1/ringplan.1.gz")
+    try_python_completions(root / "usr")
+    for name, headings in {"ringplan": ("COMMANDS",), "ringplan-run": ("COMMANDS", "SEE ALSO"), "ringplan-import": ("OPTIONS",), "ringplan-merge": ("OPTIONS",)}.items():
+        try_manual(root / f"usr/share/man/man1/{name}.1.gz", *headings)
     if LIBRARY:
         try_library(root / "usr", scratch)
     try_python(root / "usr", scratch)

@@ -26,6 +26,7 @@ from collections.abc import Callable, Iterable, Iterator
 from typing import Any
 
 from ringplan import programs
+from ringplan.options import complete
 from ringplan.texts import NAME, Ring, RingNode
 
 
@@ -234,8 +235,9 @@ def say_what_was_made(rows: Rows, ring: Ring, words: argparse.Namespace) -> None
         note(f"{len(rows)} ranges are filled up to {len(ring.rows)} partitions by {filled} without keys{advice and f'{advice} sizes'}")
 
 
-def main() -> int:
+def command_line() -> argparse.ArgumentParser:
     parser = argparse.ArgumentParser(prog="ringplan-import", description=(__doc__ or "").split("\n")[0])
+    parser.epilog = "Exit status: 0 a ring is printed, 2 the command line, a file or what it has is refused"
     parser.add_argument("source", choices=SOURCES, help="what the file is")
     parser.add_argument("file", nargs="?", default="-", help="the file; standard input without it")
     parser.add_argument("--read", type=int, metavar="R", help="slots that answer a read (default: 2)")
@@ -245,6 +247,12 @@ def main() -> int:
     parser.add_argument("--join", action="append", default=[], metavar="NAME", help="a node that is declared out, so that a change can let it join")
     parser.add_argument("--layout", metavar="FILE", help="write a layout too: racks, the source's names as aliases, and size 0 for each range that only fills up")
     parser.add_argument("--datacenter", default="", metavar="NAME", help="of describering and ring: only the nodes of this datacentre")
+    return parser
+
+
+def main() -> int:
+    parser = command_line()
+    complete(parser)
     words = parser.parse_intermixed_args()
     try:
         rows = SOURCES[words.source](lines_of(words.file), words.slots, words.datacenter)

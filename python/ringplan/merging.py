@@ -22,6 +22,7 @@ from collections.abc import Iterable, Iterator
 from dataclasses import dataclass, field
 from enum import IntEnum
 
+from ringplan.options import complete
 
 # The most bytes of a line, its end included. A reply lists puts of which none succeeds another, so at most one of each writer, and a bundle has at most 1,024 writers.
 # Each has a name of at most 255 bytes and a space before it. As much as four names is left for the place and the event.
@@ -210,12 +211,19 @@ def write(path: str, lines: Iterable[bytes]) -> None:
                 os.unlink(part)
 
 
-def main() -> int:
+def command_line() -> argparse.ArgumentParser:
     parser = argparse.ArgumentParser(prog="ringplan-merge", description=(__doc__ or "").split("\n")[0])
+    parser.epilog = "Exit status: 0 the history is written, 2 the command line or a log is refused, 3 a file cannot be read or written"
     lines = f"lines `PLACE EVENT = REPLY` of at most {LONGEST} bytes; a put or a get has a name of 1 to 255 bytes without spaces and control bytes; `-` is standard input"
     written = "writes to FILE all of the history, or at a fault nothing; standard output may have lines already when a fault is found"
     parser.add_argument("logs", nargs="+", metavar="LOG", help=lines)
     parser.add_argument("-o", "--output", default="-", metavar="FILE", help=written)
+    return parser
+
+
+def main() -> int:
+    parser = command_line()
+    complete(parser)
     words = parser.parse_intermixed_args()
     if words.logs.count("-") > 1:
         parser.error("standard input is one log")

@@ -22,6 +22,7 @@ import time
 from collections.abc import Sequence
 
 from ringplan import __version__, programs, texts
+from ringplan.options import complete
 from ringplan.run import report
 from ringplan.run.bar import shown
 from ringplan.run.board import LOOK, Board, Change, Name, NoBoard, Record, State, Status, Stop
@@ -289,8 +290,13 @@ def timeout(word: str) -> tuple[str, float]:
     return kind, seconds(time)
 
 
+STATUSES = """Exit status: 0 all is done, 1 the plan is refused, no other is found, or the judge says no, 2 the command line, a file or a program is at fault,
+3 the board is of another plan, older than it was, or not there, 4 the board is of this plan, with another ring or certificate, 5 another runner works with the board,
+6 steps were given up, 7 not all steps are done: a signal stopped the runner, or none works"""
+
+
 def command_line() -> argparse.ArgumentParser:
-    parser = argparse.ArgumentParser(prog="ringplan-run", description="Goes through an approved plan by hooks.")
+    parser = argparse.ArgumentParser(prog="ringplan-run", description="Goes through an approved plan by hooks.", epilog=STATUSES)
     parser.add_argument("--version", action="version", version=f"ringplan-run {__version__}")
     commands = parser.add_subparsers(dest="command", required=True, metavar="COMMAND")
     calls = {
@@ -359,7 +365,9 @@ def command_line() -> argparse.ArgumentParser:
 
 
 def main() -> None:
-    words = command_line().parse_args()
+    parser = command_line()
+    complete(parser)
+    words = parser.parse_args()
     try:
         try:
             code = words.call(words)
