@@ -88,7 +88,7 @@ def test_a_hook_that_failed_is_over_once_its_processes_are(bench: Bench) -> None
     time.sleep(1.0)
     assert bench.steps("begin") == [0]
     bench.let_go(0)
-    assert process.stderr.readline() == "0 join d: failed (killed by signal 9), 1 failures, again in 0.05 s\n"
+    assert process.stderr.readline() == "0 join d: failed (killed by signal 9), 1 failure, again in 0.05 s\n"
     process.communicate(timeout=LONG)
     assert process.returncode == Status.DONE and bench.steps("twice") == []
 
@@ -183,10 +183,10 @@ def test_a_hook_that_takes_too_long_is_a_failure(bench: Bench) -> None:
     (child,) = [child for hook in bench.hooks_of(process) for child in bench.children(hook)] or [0]
     assert '"worker": "worker' in bench.run("status", "--format", "json")[1]
     _, err = process.communicate(timeout=LONG)
-    assert process.returncode == Status.GIVEN_UP and "2 copy 0 1 d: failed (not after 3 s), 1 failures, given up\n" in err
+    assert process.returncode == Status.GIVEN_UP and "2 copy 0 1 d: failed (not after 3 s), 1 failure, given up\n" in err
     assert not child or gone(child)
     code, out, _ = bench.run("status")
-    assert code == Status.GIVEN_UP and "2 copy 0 1 d: given up after 1 failures (not after 3 s)\n" in out
+    assert code == Status.GIVEN_UP and "2 copy 0 1 d: given up after 1 failure (not after 3 s)\n" in out
 
 
 @over_both
@@ -194,7 +194,7 @@ def test_status_says_why(bench: Bench) -> None:
     bench.answer(2, 12)
     assert bench.run("apply", "--give-up", "1")[0] == Status.GIVEN_UP
     code, out, _ = bench.run("status")
-    assert code == Status.GIVEN_UP and "2 copy 0 1 d: given up after 1 failures (ended with 12)\n    | copy 2 is not done\n" in out
+    assert code == Status.GIVEN_UP and "2 copy 0 1 d: given up after 1 failure (ended with 12)\n    | copy 2 is not done\n" in out
     assert bench.run("retry", "2")[0] == Status.DONE and bench.run("status")[0] == Status.STOPPED
     found = json.loads(bench.run("status", "--format", "json")[1])
     assert (found["steps"], found["is_held"]) == (18, False) and 0 < found["done"] < 18
@@ -435,4 +435,4 @@ def test_hooks_that_print_much_keep_their_lines_apart(bench: Bench) -> None:
     assert code == Status.GIVEN_UP
     copies = [line.split(" | ", 1)[1] for line in err.splitlines() if line.startswith("2 copy 0 1 d | ")]
     assert copies[:100000] == [*map(str, range(1, 100001))] and "".join(copies[100000:]).endswith("00007last")
-    assert "2 copy 0 1 d: failed (ended with 3), 1 failures, given up\n" in err
+    assert "2 copy 0 1 d: failed (ended with 3), 1 failure, given up\n" in err

@@ -167,10 +167,10 @@ def test_the_page_has_the_picture_of_draw_and_nothing_from_outside(bench: Bench)
     process = bench.start("apply", "--serve", "0", "--pause", "6000", "--longest-pause", "6000")
     address = address_of(process)
     bench.wait_for("fail", 2)
-    wait_until(lambda: "2 copy 0 1 d: 1 failures" in bench.run("status")[1])
+    wait_until(lambda: "2 copy 0 1 d: 1 failure" in bench.run("status")[1])
     picture = programs.ask("draw", bench.bundle.read_text() + bench.run("history")[1]).text
     until = time.monotonic() + LONG
-    while "<td>2<td>copy 0 1 d<td>1 failures" not in (text := reply(address, "/now")[2]) or picture not in text:
+    while "<td>2<td>copy 0 1 d<td>1 failure" not in (text := reply(address, "/now")[2]) or picture not in text:
         assert time.monotonic() < until, text
         time.sleep(0.05)
     assert "2 of 18 steps are done" in text

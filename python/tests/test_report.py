@@ -178,7 +178,7 @@ def test_a_hook_that_finds_a_node_dead_is_given_up_at_once(bench: Bench) -> None
     command.chmod(0o755)
     bench.answer(2, 69)
     code, _, err = bench.run("apply", "--on-event", str(command))
-    assert code == Status.GIVEN_UP and "2 copy 0 1 d: found a node dead (ended with 69), 1 failures, given up\n" in err
+    assert code == Status.GIVEN_UP and "2 copy 0 1 d: found a node dead (ended with 69), 1 failure, given up\n" in err
     wait_until(lambda: events.exists() and events.read_text().endswith("\n"))
     (event,) = map(json.loads, events.read_text().splitlines())
     assert (event["event"], event["step"], event["nodes"], event["lines"]) == ("a node is dead", 2, ["b", "d"], ["copy 2 is not done"])

@@ -196,7 +196,7 @@ def test_a_pausing_step_is_tried_again_on_demand(bench: Bench) -> None:
     process = bench.start("apply", "--pause", "600", "--longest-pause", "600")
     bench.wait_for("fail", 0)
     bench.answer(0, 0)
-    wait_until(lambda: "0 join d: 1 failures, 0 times not now" in bench.run("status")[1])
+    wait_until(lambda: "0 join d: 1 failure" in bench.run("status")[1])
     assert bench.run("retry", "0")[0] == 0
     assert process.wait(timeout=LONG) == Status.DONE
 

@@ -43,7 +43,8 @@ setTimeout(look, 1000);
 """
 STYLE = """
 body { font: 15px/1.4 "DejaVu Sans", Verdana, sans-serif; margin: 1.5em; color-scheme: light dark }
-h1 { font-size: 1.2em } table { border-collapse: collapse } th, td { padding: .2em 1em .2em 0; text-align: left } svg { max-width: 100%; height: auto }
+h1 { font-size: 1.2em } table { border-collapse: collapse } th, td { padding: .2em 1em .2em 0; text-align: left; vertical-align: top }
+.bad { color: light-dark(#b3380c, #ff9d6e) } pre { margin: 0 } svg { max-width: 100%; height: auto }
 """
 HEAD = f"""<!DOCTYPE html>
 <html lang="en">
@@ -102,11 +103,11 @@ class Picture:
     def write(self, record: Record, states: list[State]) -> str:
         """The part of the page that changes."""
         rows = "".join(
-            f"<tr><td>{state.number}<td>{html.escape(str(state.name))}<td>{html.escape(report.told(state, True))}"
+            f"<tr{' class=bad' * state.tries.is_given_up}><td>{state.number}<td>{html.escape(str(state.name))}<td>{html.escape(report.told(state, True))}"
             f"<td><pre>{html.escape(state.tries.lines)}</pre>{html.escape(report.advice(state))}"
             for state in report.begun(states)
         )
-        table = f"<table><tr><th>step<th><th><th>it printed last{rows}</table>" if rows else "<p>No step runs."
+        table = f"<table><tr><th>step<th>what it does<th>how it is<th>it printed last{rows}</table>" if rows else "<p>No step runs."
         pace = f"<p>{html.escape(self.runner.pace.words(time.time()))}"
         return f"<h1>{sum(state.is_done for state in states)} of {len(states)} steps are done</h1>\n{pace}\n{table}\n{self.draw(record.text())}"
 
