@@ -4,7 +4,8 @@
 A round is a plan, a board (a file, or an etcd of three members) and runners on one or two machines, whose hooks ask this process for each effect. Meanwhile runners are killed, stopped longer than
 their leases or sent storms of signals; hooks close their descriptors, work in sessions of their own, fail and are killed; the board is opened by links, its disk is full, members of etcd are killed, and
 clocks are wrong. Owed: no step is done twice at once, none before what it waits for, none again without being told so or once a step that waits for it has begun; each hook that comes too late is refused
-by its token; all steps end, and the judge says yes. The hooks themselves see this. It takes 5 minutes, with --all 60."""
+by its token; all steps end, and the judge says yes. The hooks themselves see this. It takes 5 minutes, with --all 60: then also a plan of 12,290 steps with partitions of 1 to 100 sizes, and a copy of
+ten that fails at first. What `status` and the page say at a quarter, a half and three quarters of it is at most a quarter off the time that it then takes."""
 import argparse
 import concurrent.futures
 import contextlib
@@ -20,6 +21,7 @@ import sys
 import tempfile
 import threading
 import time
+import urllib.request
 from collections import Counter, defaultdict
 from collections.abc import Iterator
 from typing import Any
@@ -27,6 +29,7 @@ from typing import Any
 TOP = pathlib.Path(__file__).resolve().parent.parent
 sys.path[:0] = [str(TOP / "python"), str(TOP / "python/tests")]
 from bench import GROW, REPLACE, Server
+from rates import bundle_of
 
 from ringplan import programs, texts
 from ringplan.store.members import Tokens
@@ -54,6 +57,20 @@ FORMS = {
     "closer": "#!/bin/sh\nexec /usr/bin/python3 -ISE -c 'import os, sys; os.closerange(3, 1024); os.execv(sys.argv[1], sys.argv[1:])' {hook}\n",
     "leaver": "#!/usr/bin/python3 -ISE\nimport subprocess, sys\nsys.exit(subprocess.run(['{hook}'], start_new_session=True).returncode)\n",
 }
+# A copy that takes as long as its partition is large. One of ten fails half way, but not a second time.
+SIZES = [1, 2, 3, 5, 8, 13, 20, 32, 50, 79, 100]
+SIZED = f"""#!/bin/sh
+read -r line
+place=${{line#*\\"partition\\":}}
+place=${{place%%[!0-9]*}}
+set -- {' '.join(map(str, SIZES))}
+shift $((place * 7919 % 11))
+case $line in
+    *again*) ;;
+    *) [ $((place % 10)) != 0 ] || {{ sleep "$(printf 0.%03d $(($1 * 2)))"; exit 1; }} ;;
+esac
+sleep "$(printf 0.%03d $(($1 * 4)))"
+"""
 FILE_FAULTS = ["kill", "kill both", "stop", "storm", "link", "supervisor", "disk"]
 ETCD_FAULTS = ["kill", "kill both", "stop", "freeze", "storm", "member", "supervisor"]
 
@@ -374,12 +391,54 @@ def run_round(seed: int) -> tuple[str, Counter[str], list[str]]:
         shutil.rmtree(folder, ignore_errors=True)
 
 
+def lay_sized(folder: pathlib.Path) -> None:
+    """A plan by which two of eight nodes join, a layout and hooks."""
+    (folder / "bundle").write_text(bundle_of(6, 2, 4096))
+    rows = [f"size {place} {SIZES[place * 7919 % 11]}" for place in range(4096)]
+    (folder / "layout").write_text("\n".join(["layout 1", *rows, "end", ""]))
+    (folder / "hooks").mkdir()
+    for kind in ("join", "mirror", "copy", "switch", "drop", "retire"):
+        (folder / "hooks" / kind).write_text(SIZED if kind == "copy" else "#!/bin/sh\n")
+        (folder / "hooks" / kind).chmod(0o755)
+
+
+def see_time_left(folder: pathlib.Path) -> list[str]:
+    """Compares the time left that the page and `status` say with what it then took."""
+    lay_sized(folder)
+    place, board = {**os.environ, "PYTHONPATH": str(TOP / "python")}, ["--board", "board"]
+    words = [sys.executable, "-m", "ringplan.run", "apply", "bundle", "--do", "hooks", "--new", "--workers", "6", "--layout", "layout", "--serve", "0", *board]
+    said = list[tuple[str, float, float]]()
+    with open(folder / "said", "w+") as errors, subprocess.Popen(words, cwd=folder, env=place, stdout=subprocess.DEVNULL, stderr=errors) as process:
+        while "the page is at " not in (text := (folder / "said").read_text()) and process.poll() is None:
+            time.sleep(0.1)
+        address = text.split("the page is at ")[1].split()[0]
+        for part in (0.25, 0.5, 0.75):
+            while process.poll() is None:
+                with urllib.request.urlopen(f"{address}status.json") as answer:
+                    found = json.load(answer)
+                if found["copied"] >= part * found["to_copy"]:
+                    break
+                time.sleep(0.5)
+            said.append((f"the page at {part:.0%}", time.monotonic(), found["left"]))
+            ran = subprocess.run([sys.executable, "-m", "ringplan.run", "status", "--format", "json", *board], cwd=folder, env=place, capture_output=True)
+            said.append((f"`status` at {part:.0%}", time.monotonic(), json.loads(ran.stdout)["left"]))
+        status, end = process.wait(), time.monotonic()
+    print(*(f"{what} says {left:.1f} s, and it took {end - moment:.1f}" for what, moment, left in said), sep="\n", flush=True)
+    wrong = [f"{what} is off by more than a quarter" for what, moment, left in said if not 0.75 <= left / (end - moment) <= 1.25]
+    return wrong + [f"the runner ended with {status}"] * (status != 0)
+
+
 def main() -> int:
     parser = argparse.ArgumentParser(prog="trials/runner.py")
     parser.add_argument("--all", action="store_true", help="60 minutes")
     parser.add_argument("--minutes", type=float, default=5.0, help="how long (default: %(default)s)")
     parser.add_argument("--seed", type=int, default=0, help="the first round (default: %(default)s)")
     words = parser.parse_args()
+    lost = list[str]()
+    if words.all:
+        with tempfile.TemporaryDirectory(prefix="ringplan-night-") as folder:
+            lost = see_time_left(pathlib.Path(folder))
+        print(*lost, sep="\n", end="\n" * bool(lost), flush=True)
     until, counts, faults, rounds, seed = time.monotonic() + 60 * (60.0 if words.all else words.minutes), Counter[str](), 0, 0, words.seed
     with concurrent.futures.ProcessPoolExecutor(os.cpu_count()) as pool:
         left = dict[concurrent.futures.Future[tuple[str, Counter[str], list[str]]], int]()
@@ -398,7 +457,7 @@ def main() -> int:
     if not counts["late hooks refused"]:
         print("no hook came late")
     print(f"{rounds} rounds, {faults} with a fault")
-    return int(bool(faults) or not counts["late hooks refused"])
+    return int(bool(faults or lost) or not counts["late hooks refused"])
 
 
 if __name__ == "__main__":

@@ -44,7 +44,7 @@ setTimeout(look, 1000);
 STYLE = """
 body { font: 15px/1.4 "DejaVu Sans", Verdana, sans-serif; margin: 1.5em; color-scheme: light dark }
 h1 { font-size: 1.2em } table { border-collapse: collapse } th, td { padding: .2em 1em .2em 0; text-align: left; vertical-align: top }
-.bad { color: light-dark(#b3380c, #ff9d6e) } pre { margin: 0 } svg { max-width: 100%; height: auto }
+td:nth-child(-n+3) { white-space: nowrap } .bad { color: light-dark(#b3380c, #ff9d6e) } pre { margin: 0 } svg { max-width: 100%; height: auto }
 """
 HEAD = f"""<!DOCTYPE html>
 <html lang="en">

@@ -89,8 +89,8 @@ def span(seconds: float) -> str:
     return f"{minutes} min" if minutes < 120 else f"{minutes // 60} h {minutes % 60:02} min"
 
 
-def failed(times: int) -> str:
-    return f"{times} failure{'s' * (times != 1)}"
+def counted(number: int, what: str) -> str:
+    return f"{number} {what}{'s' * (number != 1)}"
 
 
 def told(state: State, is_held: bool) -> str:
@@ -98,11 +98,11 @@ def told(state: State, is_held: bool) -> str:
     tries = state.tries
     why = f" ({tries.why})" if tries.why else ""
     if tries.is_given_up:
-        return f"given up after {failed(tries.failures)}{why}"
+        return f"given up after {counted(tries.failures, 'failure')}{why}"
     if state.worker:
         return f"{state.worker} does it, since {time.strftime('%H:%M:%S', time.localtime(state.since))}" if is_held else "a runner that ended was doing it"
-    waits = [f"{tries.waits} times not now"] if tries.waits else []
-    return ", ".join([*([failed(tries.failures)] if tries.failures else []), *waits]) + f"{why}, again in {tries.left():.0f} s"
+    waits = [f"{counted(tries.waits, 'time')} not now"] if tries.waits else []
+    return ", ".join([*([counted(tries.failures, "failure")] if tries.failures else []), *waits]) + f"{why}, again in {tries.left():.0f} s"
 
 
 def advice(state: State) -> str:

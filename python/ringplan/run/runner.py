@@ -19,7 +19,7 @@ from dataclasses import dataclass, replace
 from ringplan import programs, texts
 from ringplan.run.board import CHUNKS, LOOK, Board, Claim, ClaimEnded, Name, Note, Status, Stop, names_of
 from ringplan.run.hooks import Hooks, NoLock, Outcome, Result, Supervisor
-from ringplan.run.report import Pace, failed
+from ringplan.run.report import Pace, counted
 from ringplan.texts import StepLine
 
 # How many entries may come before the history so far is judged; then half as many again may come, and so on.
@@ -253,7 +253,7 @@ class Runner:
             nodes = sorted(self.nodes(claim.name) - {""})
             self.tell("a node is dead" if is_dead else "given up", step=self.numbers.get(claim.name), name=str(claim.name), nodes=nodes, why=result.why, lines=result.lines)
         after = "given up" if is_given_up else f"again in {pause:g} s"
-        self.say(claim, f"{outcome.value}{f' ({result.why})' if result.why else ''}, {failed(failures)}, {after}")
+        self.say(claim, f"{outcome.value}{f' ({result.why})' if result.why else ''}, {counted(failures, 'failure')}, {after}")
 
     # Workers.
     def learn(self) -> bool:
