@@ -4,6 +4,7 @@ from __future__ import annotations
 
 import contextlib
 import json
+import math
 import os
 import pathlib
 import random
@@ -91,6 +92,24 @@ def test_a_hook_that_failed_is_over_once_its_processes_are(bench: Bench) -> None
     assert process.stderr.readline() == "0 join d: failed (killed by signal 9), 1 failure, again in 0.05 s\n"
     process.communicate(timeout=LONG)
     assert process.returncode == Status.DONE and bench.steps("twice") == []
+
+
+def test_a_lock_outlives_a_runner_that_died_before_it_read_an_answer(tmp_path: pathlib.Path) -> None:
+    hook = tmp_path / "join"
+    hook.write_text(f"#!{sys.executable}\nimport subprocess, sys\nsubprocess.Popen(['sleep', '3'], start_new_session=True)\nsys.exit(1)\n")
+    hook.chmod(0o755)
+    hooks = Hooks(str(tmp_path), str(tmp_path / "locks"))
+    one = hooks.hold(NAMES[0])
+    assert one is not None
+    one.send([one.held], run=str(hook), name="join", input="{}\n", until=math.inf, limit=math.inf, grace=1.0)
+    assert one.answered.poll(1000 * LONG)
+    # With an answer that was not read the socket ends by an error.
+    os.close(one.held)
+    one.close()
+    time.sleep(1.0)
+    assert hooks.is_running(NAMES[0]) and hooks.hold(NAMES[0]) is None
+    one.process.wait(timeout=LONG)
+    assert not hooks.is_running(NAMES[0])
 
 
 def test_a_second_signal_ends_processes_in_other_sessions(bench: Bench) -> None:

@@ -201,12 +201,20 @@ class Supervisor:
             self.reap()
         return 0 in ready
 
+    def receive(self) -> bytes:
+        """What the runner sent: nothing once it is gone. If it died before it read all answers, the socket says so by an error."""
+        try:
+            data, handles, _, _ = socket.recv_fds(self.link, 1 << 16, 1)
+        except ConnectionError:
+            return b""
+        self.handles.extend(handles)
+        return data
+
     def serve(self) -> None:
         rest = b""
         while not self.is_over or self.is_left:
             if self.wait():
-                data, handles, _, _ = socket.recv_fds(self.link, 1 << 16, 1)
-                self.handles.extend(handles)
+                data = self.receive()
                 self.is_over = self.is_over or not data
                 *lines, rest = (rest + data).split(b"\n")
                 for line in lines:
