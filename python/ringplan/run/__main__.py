@@ -295,6 +295,68 @@ STATUSES = """Exit status: 0 all is done, 1 the plan is refused, no other is fou
 6 steps were given up, 7 not all steps are done: a signal stopped the runner, or none works"""
 
 
+def add_board(command: argparse.ArgumentParser) -> None:
+    """Which board, and how etcd is reached."""
+    command.add_argument("--board", metavar="BOARD", help="a file, or etcd://HOST:PORT/NAME, or etcds:// for TLS (default: ringplan-SUM.board, by the plan's sum)")
+    for option, what in (("--ca", "the certificate of the authority of etcd's"), ("--cert", "the runner's certificate"), ("--key", "its key")):
+        command.add_argument(option, metavar="FILE", help=what)
+    command.add_argument("--user", metavar="NAME", help="the runner's user in etcd")
+    command.add_argument("--password-file", metavar="FILE", help="the file of the user's password")
+
+
+def add_lease(command: argparse.ArgumentParser) -> None:
+    command.add_argument("--lease", type=count, default=60, metavar="SECONDS", help="how long etcd waits for a dead runner (default: %(default)s)")
+
+
+def add_rest(command: argparse.ArgumentParser) -> None:
+    add_lease(command)
+    command.add_argument("--now", dest="back", action="store_true", help="takes mirrors back whose copies have no chunk")
+    command.set_defaults(rest=True, leave=[], dead=[], layout=None)
+
+
+def add_leave(command: argparse.ArgumentParser) -> None:
+    add_lease(command)
+    command.add_argument("leave", nargs="+", metavar="P.I", help="a slot, by its partition and its index")
+    command.set_defaults(rest=False, back=False, dead=[], layout=None)
+
+
+def add_around(command: argparse.ArgumentParser) -> None:
+    add_lease(command)
+    command.add_argument("--dead", action="append", default=[], metavar="NODE", help="a node that is dead for good; give each of them")
+    command.add_argument("--leave", action="append", default=[], metavar="P.I", help="a slot that stays with its owner, by its partition and its index")
+    command.add_argument("--rest", action="store_true", help="ends the moves that have begun, and begins no others")
+    command.add_argument("--back", action="store_true", help="takes mirrors back that cannot be filled")
+    command.add_argument("--layout", metavar="FILE", help="what is known of nodes and partitions, as `ringplan around` reads it")
+
+
+def add_apply(command: argparse.ArgumentParser) -> None:
+    add_lease(command)
+    command.add_argument("bundle", help="a ring, a plan and its certificate")
+    command.add_argument("--do", required=True, metavar="FOLDER", help="the folder of the hooks")
+    command.add_argument("--workers", type=count, default=1, metavar="K", help="how many steps may be done at once (default: %(default)s)")
+    command.add_argument("--give-up", type=count, metavar="N", help="gives a step up that failed so often (default: never)")
+    command.add_argument("--pause", type=seconds, default=1.0, metavar="SECONDS", help="the pause before a second try; it doubles (default: %(default)s)")
+    command.add_argument("--longest-pause", type=seconds, default=300.0, metavar="SECONDS", help="the longest pause (default: %(default)s)")
+    add_watching(command)
+
+
+def add_watching(command: argparse.ArgumentParser) -> None:
+    """What `apply` asks for before it begins, when it begins copies, and what it says."""
+    command.add_argument("--new", action="store_true", help="makes the board if it is not there, without asking")
+    command.add_argument("--plan-sum", metavar="SHA256", help="refuses a bundle with another SHA-256 sum")
+    command.add_argument("--only-between", type=times, metavar="HH:MM-HH:MM", help="lets copies begin only at this time of day")
+    command.add_argument("--on-event", metavar="COMMAND", help="a program that gets a line of JSON if a step is given up, a node is dead, the judge says no, or all is done")
+    command.add_argument("--timeout", type=timeout, action="append", default=[], metavar="KIND=SECONDS", help="ends a hook that takes longer, and counts a failure")
+    command.add_argument("--serve", type=int, metavar="PORT", help="shows a page at this port; 0 takes a free one")
+    command.add_argument("--listen", default="127.0.0.1", metavar="ADDRESS", help="the address of the page; elsewhere than on loopback it has a token (default: %(default)s)")
+    command.add_argument("--layout", metavar="FILE", help="a layout with the sizes of partitions, for the time that is left")
+
+
+def add_limit(command: argparse.ArgumentParser) -> None:
+    command.add_argument("count", type=count, nargs="?", metavar="K", help="how many steps at once")
+    command.add_argument("--node", type=most, action="append", default=[], metavar="NODE=K", help="how many copies at once read or fill a node")
+
+
 def command_line() -> argparse.ArgumentParser:
     parser = argparse.ArgumentParser(prog="ringplan-run", description="Goes through an approved plan by hooks.", epilog=STATUSES)
     parser.add_argument("--version", action="version", version=f"ringplan-run {__version__}")
@@ -313,54 +375,20 @@ def command_line() -> argparse.ArgumentParser:
         "leave": (around, "leaves a slot with its owner, and ends its move"),
         "around": (around, "puts another plan in the place of the board's: around nodes that died, at rest, or with slots left out"),
     }
+    more = {"apply": add_apply, "limit": add_limit, "rest": add_rest, "leave": add_leave, "around": add_around}
     for name, (call, what) in calls.items():
         command = commands.add_parser(name, help=what, description=what)
         command.set_defaults(call=call)
-        if name == "boards":
-            continue
-        command.add_argument("--board", metavar="BOARD", help="a file, or etcd://HOST:PORT/NAME, or etcds:// for TLS (default: ringplan-SUM.board, by the plan's sum)")
-        for option, what in (("--ca", "the certificate of the authority of etcd's"), ("--cert", "the runner's certificate"), ("--key", "its key")):
-            command.add_argument(option, metavar="FILE", help=what)
-        command.add_argument("--user", metavar="NAME", help="the runner's user in etcd")
-        command.add_argument("--password-file", metavar="FILE", help="the file of the user's password")
+        if name != "boards":
+            add_board(command)
+        if name in more:
+            more[name](command)
         if name == "status":
             command.add_argument("--format", choices=["text", "json"], default="text", help="how it is printed (default: %(default)s)")
         if name == "retry":
             command.add_argument("step", type=int, help="the step's number")
         if name == "history":
             command.add_argument("--bundle", action="store_true", help="the bundle too")
-        if name == "limit":
-            command.add_argument("count", type=count, nargs="?", metavar="K", help="how many steps at once")
-            command.add_argument("--node", type=most, action="append", default=[], metavar="NODE=K", help="how many copies at once read or fill a node")
-        if name == "rest":
-            command.add_argument("--now", dest="back", action="store_true", help="takes mirrors back whose copies have no chunk")
-            command.set_defaults(rest=True, leave=[], dead=[], layout=None)
-        if name == "leave":
-            command.add_argument("leave", nargs="+", metavar="P.I", help="a slot, by its partition and its index")
-            command.set_defaults(rest=False, back=False, dead=[], layout=None)
-        if name in ("apply", "around", "rest", "leave"):
-            command.add_argument("--lease", type=count, default=60, metavar="SECONDS", help="how long etcd waits for a dead runner (default: %(default)s)")
-        if name == "around":
-            command.add_argument("--dead", action="append", default=[], metavar="NODE", help="a node that is dead for good; give each of them")
-            command.add_argument("--leave", action="append", default=[], metavar="P.I", help="a slot that stays with its owner, by its partition and its index")
-            command.add_argument("--rest", action="store_true", help="ends the moves that have begun, and begins no others")
-            command.add_argument("--back", action="store_true", help="takes mirrors back that cannot be filled")
-            command.add_argument("--layout", metavar="FILE", help="what is known of nodes and partitions, as `ringplan around` reads it")
-        if name == "apply":
-            command.add_argument("bundle", help="a ring, a plan and its certificate")
-            command.add_argument("--do", required=True, metavar="FOLDER", help="the folder of the hooks")
-            command.add_argument("--workers", type=count, default=1, metavar="K", help="how many steps may be done at once (default: %(default)s)")
-            command.add_argument("--give-up", type=count, metavar="N", help="gives a step up that failed so often (default: never)")
-            command.add_argument("--pause", type=seconds, default=1.0, metavar="SECONDS", help="the pause before a second try; it doubles (default: %(default)s)")
-            command.add_argument("--longest-pause", type=seconds, default=300.0, metavar="SECONDS", help="the longest pause (default: %(default)s)")
-            command.add_argument("--new", action="store_true", help="makes the board if it is not there, without asking")
-            command.add_argument("--plan-sum", metavar="SHA256", help="refuses a bundle with another SHA-256 sum")
-            command.add_argument("--only-between", type=times, metavar="HH:MM-HH:MM", help="lets copies begin only at this time of day")
-            command.add_argument("--on-event", metavar="COMMAND", help="a program that gets a line of JSON if a step is given up, a node is dead, the judge says no, or all is done")
-            command.add_argument("--timeout", type=timeout, action="append", default=[], metavar="KIND=SECONDS", help="ends a hook that takes longer, and counts a failure")
-            command.add_argument("--serve", type=int, metavar="PORT", help="shows a page at this port; 0 takes a free one")
-            command.add_argument("--listen", default="127.0.0.1", metavar="ADDRESS", help="the address of the page; elsewhere than on loopback it has a token (default: %(default)s)")
-            command.add_argument("--layout", metavar="FILE", help="a layout with the sizes of partitions, for the time that is left")
     return parser
 
 
