@@ -132,8 +132,10 @@ class Etcd:
 
     def send(self, path: str, body: Json, timeout: float) -> tuple[int, Json]:
         link = self.connection(timeout)
+        # By `Accept` etcd knows that a request came by its gateway, whose certificate is not the user's.
+        headers = {"Accept": "application/json", **({"Authorization": self.token} if self.token else {})}
         try:
-            link.request("POST", path, json.dumps(body), {"Authorization": self.token} if self.token else {})
+            link.request("POST", path, json.dumps(body), headers)
             answer = link.getresponse()
             data = answer.read()
         except NO_ANSWER:
