@@ -8,12 +8,14 @@ import random
 import stat
 import subprocess
 import sys
+import threading
+import time
 from collections.abc import Callable
 
 import pytest
 
-from ringplan import programs
-from ringplan.merging import LONGEST, BadLine, Counter, Names, Status, Stop, merge
+from ringplan import merging, programs
+from ringplan.merging import LONGEST, BadLine, Counter, Growing, Names, Status, Stop, merge
 from ringplan.store.__main__ import run
 from ringplan.store.traffic import Load
 
@@ -134,6 +136,120 @@ def test_the_history_of_a_store_comes_back_and_is_judged_yes(tmp_path: pathlib.P
         assert programs.ask("replay", bundle + merged).first() == "yes"
 
 
+def test_writers_are_numbered_by_key(tmp_path: pathlib.Path) -> None:
+    log = tmp_path / "log"
+    puts = [f"{key} {writer}" for key in range(3) for writer in range(1500)] * 2
+    random.Random(1).shuffle(puts)
+    log.write_text("".join(f"{place} put c{put.split()[1]} k{put.split()[0]} x = put p{place}\n" for place, put in enumerate(puts)))
+    entries, seen = list(merge([str(log)], numbers_writers=True))[1:-1], dict[str, dict[str, str]]()
+    for put, entry in zip(puts, entries):
+        _, writer, named, *_ = entry.decode().split()
+        key, own = put.split()
+        assert named == f"k{key}" and seen.setdefault(key, {}).setdefault(own, writer) == writer
+    assert all(list(names.values()) == [f"w{number}" for number in range(1500)] for names in seen.values())
+
+
+def grow(path: str, text: bytes, draw: random.Random) -> None:
+    """Writes a log in random pieces, some of them with a pause after them."""
+    with open(path, "ab", buffering=0) as file:
+        while text:
+            size = draw.choice((1, 7, 50, 400))
+            file.write(text[:size])
+            text = text[size:]
+            time.sleep(draw.choice((0, 0, 0, 0.002)))
+
+
+@pytest.mark.parametrize("naming", NAMINGS)
+def test_logs_that_grow_are_merged_as_whole_ones(naming: Naming, tmp_path: pathlib.Path, monkeypatch: pytest.MonkeyPatch) -> None:
+    """With marks between the lines, and without any."""
+    monkeypatch.setattr(merging, "PAUSE", 0.001)
+    for seed in range(8):
+        draw = random.Random(seed)
+        entries = random_history(draw)
+        paths = split(entries, draw.randrange(1, 9), naming, draw, tmp_path)
+        texts = [pathlib.Path(path).read_bytes() for path in paths]
+        for number, path in enumerate(paths):
+            lines = [line + b"\n" for line in texts[number].split(b"\n")[:-1]]
+            marked = [line + line.split(b" ")[0] + b"\n" if seed % 2 and draw.random() < 0.3 else line for line in lines]
+            texts[number] = b"".join(marked) + b"end\n"
+            pathlib.Path(path).write_bytes(b"")
+        threads = [threading.Thread(target=grow, args=[path, text, random.Random(seed)]) for path, text in zip(paths, texts)]
+        for thread in threads:
+            thread.start()
+        assert b"".join(merge(paths, Growing())).decode() == text_of(entries)
+        for thread in threads:
+            thread.join()
+        # As a whole a log with marks and its `end` is a log too.
+        assert b"".join(merge(paths)).decode() == text_of(entries)
+
+
+def follow(*logs: str, into: pathlib.Path) -> subprocess.Popen[bytes]:
+    words = [sys.executable, "-m", "ringplan.merging", "--follow", *logs]
+    return subprocess.Popen(words, stdout=subprocess.PIPE, stderr=subprocess.PIPE, cwd=into, env={**os.environ, "PYTHONPATH": str(TOP / "python")})
+
+
+def add(path: pathlib.Path, text: str) -> None:
+    with open(path, "a", encoding="ascii") as file:
+        file.write(text)
+
+
+def test_an_entry_goes_out_once_no_log_can_have_one_before_it(tmp_path: pathlib.Path) -> None:
+    first, second = tmp_path / "a", tmp_path / "b"
+    for path in (first, second):
+        path.touch()
+    process = follow("a", "b", into=tmp_path)
+    assert process.stdout is not None and process.stderr is not None
+    assert process.stdout.readline() == b"history 1\n"
+    os.set_blocking(process.stdout.fileno(), False)
+
+    def come(wanted: bytes, least: float = 0.0) -> None:
+        """What comes, and in how many seconds nothing more does."""
+        assert process.stdout is not None
+        found, until, quiet = b"", time.monotonic() + 60, time.monotonic() + least
+        while found != wanted or time.monotonic() < quiet:
+            assert time.monotonic() < until, found
+            found += process.stdout.read() or b""
+            time.sleep(0.005)
+
+    add(first, "1 put w k x = put p\n4 ack p = ok\n")
+    come(b"", 0.3)
+    # The second log's line may be at the same place: it comes later.
+    add(second, "1\n")
+    come(b"put w k x = put 0\n", 0.3)
+    add(second, "2 write p 0 = ticket 2 0 0\n4 wri")
+    come(b"write 0 0 = ticket 2 0 0\n", 0.3)
+    # Half a line is kept back, until its end is there.
+    add(second, "te p 1 = ticket 2 1 0\n")
+    come(b"ack 0 = ok\n", 0.3)
+    assert process.stderr.readline() == b"ringplan-merge: waits for a\n"
+    add(first, "9\n")
+    come(b"write 0 1 = ticket 2 1 0\n")
+    add(first, "end\nno line\n")
+    add(second, "10 do 0 = ok\nend\n")
+    come(b"do 0 = ok\nend\n")
+    assert (process.wait(timeout=60), process.stderr.read()) in ((0, b""), (0, b"ringplan-merge: waits for b\n"))
+
+
+def test_pipes_are_followed(tmp_path: pathlib.Path) -> None:
+    os.mkfifo(tmp_path / "pipe")
+    process = follow("pipe", into=tmp_path)
+    # A process writes half a line and ends. The next one goes on.
+    for text in ("1 do 0 = ok\n2 do", " 1 = ok\nend\n"):
+        with open(tmp_path / "pipe", "w", encoding="ascii") as pipe:
+            pipe.write(text)
+        time.sleep(0.2)
+    assert process.communicate(timeout=60) == (b"history 1\ndo 0 = ok\ndo 1 = ok\nend\n", b"")
+    assert command("--follow", "-", given=b"1 do 0 = ok\nend\n") == (b"history 1\ndo 0 = ok\nend\n", "", 0)
+
+
+def test_a_fault_in_a_log_that_grows(tmp_path: pathlib.Path) -> None:
+    (tmp_path / "log").write_text("1 do 0 = ok\n0\n")
+    assert command("--follow", tmp_path / "log") == (b"history 1\ndo 0 = ok\n", f"ringplan-merge: {tmp_path}/log:2: place 0 comes after place 1\n", 2)
+    assert command("--follow", tmp_path) == (b"history 1\n", f"ringplan-merge: {tmp_path}: Is a directory\n", 3)
+    (tmp_path / "log").write_text("1 do 0 = found" + " x" * LONGEST)
+    assert command("--follow", tmp_path / "log")[1:] == (f"ringplan-merge: {tmp_path}/log:1: a line of more than {LONGEST} bytes\n", 2)
+
+
 def test_equal_places_come_in_the_order_of_the_logs(tmp_path: pathlib.Path) -> None:
     first, second = tmp_path / "first", tmp_path / "second"
     first.write_text("1 put w k x = put a\n2 write a 0 = ticket 0 0 0\n")
@@ -179,7 +295,10 @@ NO_ENTRY = [
     "1 down N = ok\n",
     "1 jump 1 = ok\n",
     "1 do 1\n",
-    "1\n",
+    "1",
+    "1 ",
+    "01\n",
+    "ended\n",
     "\n",
 ]
 FAULTS = [
@@ -195,6 +314,8 @@ FAULTS = [
     ([PUT, "3 put w k x = put p1\n", "2 do 1 = ok\n"], "1:1: a second put p1"),
     (["1 get k = get \xff\n2 get k = get \xff\n"], "0:2: a second get \\xff"),
     (["1 get k = get a\n2 put w k x seen a a = put p\n"], "0:2: a get twice after `seen`"),
+    ([PUT + "3\n2 do 1 = ok\n"], "0:3: place 2 comes after place 3"),
+    ([PUT + "end\n2 do 1 = ok\n"], "0:3: a line after `end`"),
 ]
 
 
