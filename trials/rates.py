@@ -2,7 +2,7 @@
 """Measures the reference store and the runner: trials/rates.py [--servers KIND] [--space COUNT]. It needs the built program, and for the last figure `etcd`.
 
 It prints the events a second of a store over five servers, with five clients and no faults; and what the runner adds to a step, with a board in a file and with one in etcd: the time of `apply` with
-one worker and hooks that do nothing, without its start and its judge, less the time of these hooks alone; and what the disk takes of that."""
+one worker and hooks that do nothing, without its start, less the time of these hooks alone; and what the disk takes of that."""
 import argparse
 import contextlib
 import json
@@ -85,17 +85,10 @@ def sync_time(folder: pathlib.Path, count: int = 200) -> float:
         return (time.perf_counter() - begun) / count
 
 
-class Unjudged(Runner):
-    """A runner without a judge, whose time is the program's."""
-
-    def see_judge(self) -> None:
-        pass
-
-
 def see_runner(folder: pathlib.Path, kind: str, board: Board, bundle: str, hook: pathlib.Path) -> None:
     steps = texts.read_steps(programs.ask("steps", bundle).text)
     board.begin(bundle, names_of(steps))
-    runner = Unjudged(board, Hooks(str(hook.parent), str(folder / f"{kind}.hooks")), Options())
+    runner = Runner(board, Hooks(str(hook.parent), str(folder / f"{kind}.hooks")), Options())
     with open(os.devnull, "w") as nowhere, contextlib.redirect_stdout(nowhere):
         begun = time.perf_counter()
         runner.run()

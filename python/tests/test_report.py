@@ -90,7 +90,9 @@ def test_metrics_and_status_of_the_page(bench: Bench) -> None:
     assert (ran.returncode, ran.stdout, ran.stderr) == (0, "", "")
     values = dict(line.rsplit(" ", 1) for line in text.splitlines() if not line.startswith("#"))
     assert values['ringplan_steps{state="running"}'] == "1" and float(values["ringplan_oldest_step_seconds"]) > 0
-    assert values["ringplan_judge_yes"] == "1" and values['ringplan_hooks_total{kind="join",end="done"}'] == "1"
+    # Two joins or mirrors are done, and the copy is open.
+    assert values["ringplan_watch_ok"] == "1" and int(values["ringplan_watched_entries"]) > 1 and 0 <= float(values["ringplan_last_entry_seconds"]) < LONG
+    assert values['ringplan_hooks_total{kind="join",end="done"}'] == "1"
     assert ("ringplan_lease_left_seconds" in values) == bench.board.startswith("etcd")
     bench.let_go(2)
     process.communicate(timeout=LONG)

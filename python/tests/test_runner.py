@@ -282,15 +282,34 @@ def test_what_is_no_board_is_a_fault(bench: Bench) -> None:
             assert code == Status.FAULT and err.startswith(f"ringplan-run: {address} is not an address etcd://HOST:PORT,../NAME; "), err
 
 
+def change_entry(bench: Bench, entry: int, changed: str, monkeypatch: pytest.MonkeyPatch) -> None:
+    """Lets the judge read another entry at a place of the history."""
+    judge = bench.folder / "judge"
+    real = programs.find()
+    judge.write_text(f"#!/bin/sh\n[ \"$1\" = watch ] || exec {real} \"$@\"\nsed -u '{entry + 2}s/.*/{changed}/' | {real} \"$@\"\n")
+    judge.chmod(0o755)
+    monkeypatch.setenv("ringplan", str(judge))
+
+
 @over_both
 def test_a_no_of_the_judge_stops_the_runner(bench: Bench, monkeypatch: pytest.MonkeyPatch) -> None:
+    change_entry(bench, 0, "do 17 = ok", monkeypatch)
+    code, _, err = bench.run("apply")
+    assert (code, err) == (Status.REFUSED, "ringplan-run: the judge says no 70 0 40\n")
+    assert bench.steps("begin") == [0]
+    assert bench.run("judge")[:2] == (1, "no 70 0 40\n")
+
+
+@over_both
+@pytest.mark.parametrize(("program", "words"), [("echo no 60; exit 3", "the judge cannot answer: no 60 (out of memory)"), ("exit 0", "watch ended with 0, without an answer")])
+def test_a_judge_that_cannot_answer_stops_the_runner(bench: Bench, program: str, words: str, monkeypatch: pytest.MonkeyPatch) -> None:
     judge = bench.folder / "judge"
-    judge.write_text(f'#!/bin/sh\n[ "$1" = replay ] || exec {programs.find()} "$@"\ncat > /dev/null\necho no 70 0 40\nexit 1\n')
+    judge.write_text(f'#!/bin/sh\n[ "$1" = watch ] || exec {programs.find()} "$@"\n{program}\n')
     judge.chmod(0o755)
     monkeypatch.setenv("ringplan", str(judge))
     code, _, err = bench.run("apply")
-    assert (code, err) == (Status.REFUSED, "ringplan-run: the judge says no 70 0 40\n")
-    assert bench.run("judge")[:2] == (1, "no 70 0 40\n")
+    assert code == Status.FAULT and err.endswith(f"{words}\n")
+    assert bench.steps("begin") in ([], [0])
 
 
 @over_both
@@ -379,21 +398,17 @@ def test_a_no_on_the_way_is_seen_where_answers_are_lost(bench: Bench, monkeypatc
 
 @over_both
 def test_a_no_on_the_way_lets_no_further_step_begin(bench: Bench, monkeypatch: pytest.MonkeyPatch) -> None:
-    judge = bench.folder / "judge"
-    others = f'[ "$1" = replay ] || exec {programs.find()} "$@"'
-    judge.write_text(f"#!/bin/sh\n{others}\ngrep -c = >> {bench.folder}/judged\n[ $(wc -l < {bench.folder}/judged) -lt 3 ] && echo yes || echo no 70 50 40\n")
-    judge.chmod(0o755)
-    monkeypatch.setenv("ringplan", str(judge))
-    monkeypatch.setattr(runner, "JUDGED", 20)
+    change_entry(bench, 49, "do 0 = ok", monkeypatch)
     steps = texts.read_steps(programs.ask("steps", REPLACE).text)
     board = open_board(bench.board)
     board.begin(REPLACE, names_of(steps))
-    with pytest.raises(Stop, match="the judge says no 70 50 40") as stop:
+    with pytest.raises(Stop, match="the judge says no 70 49 41") as stop:
         runner.Runner(board, Hooks(str(bench.folder / "hooks"), str(bench.folder / "locks")), runner.Options()).run()
     assert stop.value.status == Status.REFUSED
-    # Of the entries before a copy and after it: 2 + 18, then 3 + 18, then 3 + 18.
-    assert (bench.folder / "judged").read_text().split() == ["20", "41", "62"]
-    assert len(bench.steps("end")) == 11
+    # The last step is the one whose entries the judge refused.
+    ends = [place for place, entry in enumerate(board.record().entries) if entry.startswith(("do", "close"))]
+    assert ends[-2] < 49 <= ends[-1]
+    assert len(bench.steps("begin")) == len(bench.steps("end")) == len(ends)
     board.end()
 
 

@@ -29,8 +29,9 @@ from ringplan.run.board import LOOK, Board, Change, Name, NoBoard, Record, State
 from ringplan.run.etcd import EtcdBoard
 from ringplan.run.gateway import Access
 from ringplan.run.hooks import Hooks
+from ringplan.run.judge import judge
 from ringplan.run.page import Page
-from ringplan.run.runner import SIGNALS, Options, Runner, judge, read_steps
+from ringplan.run.runner import SIGNALS, Options, Runner, read_steps
 from ringplan.run.sqlite import SqliteBoard
 
 
@@ -250,7 +251,7 @@ def retry(words: argparse.Namespace) -> Status:
 
 
 def see_judge(words: argparse.Namespace) -> Status:
-    answer, _ = judge(open_board(words, is_read=True))
+    answer = judge(open_board(words, is_read=True))
     print(answer.text, end="")
     return Status.DONE if answer.first() == "yes" else Status.REFUSED
 

@@ -327,6 +327,9 @@ class Board(Protocol):
     def record(self) -> Record:
         """The bundle and the history. Its lines have the numbers that the steps have now."""
 
+    def later(self, edition: str, mark: int) -> tuple[int, list[str]] | None:
+        """The lines of the history after a mark, and the mark after them; 0 is the mark before all. None if the plan is not of this edition."""
+
     def look(self) -> tuple[Record, list[State]]:
         """The history and all steps at one moment."""
 

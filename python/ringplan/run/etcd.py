@@ -71,6 +71,10 @@ class Plan:
     names: list[Name]
     former: list[str]
 
+    @functools.cached_property
+    def numbers(self) -> dict[Name, int]:
+        return {name: number for number, name in enumerate(self.names)}
+
     def key(self, kind: str, rest: str | Name = "") -> str:
         """A key of this edition."""
         return f"{self.board}/{kind}/{self.edition}/{rest.file() if isinstance(rest, Name) else rest}"
@@ -385,7 +389,7 @@ class EtcdBoard:
             known = count
         if count < known:
             raise Stop(Status.OTHER_PLAN, f"the board {self.address} has come back older: it has {count} notes, and had {known}")
-        for name, note in self.notes(plan, known):
+        for _, name, note in self.notes(plan, known):
             if note.word in ("do", "close"):
                 names[name] = None
         self.noted = plan.edition, count
@@ -432,20 +436,29 @@ class EtcdBoard:
         """The keys below one, or from one of them on."""
         while values := self.etcd.read(all_of(first, PAGE, start, revision))[0]:
             yield from values
+            if len(values) < PAGE:
+                break
             start = values[-1].key + "\0"
 
-    def notes(self, plan: Plan, first: int = 0, revision: int = 0) -> Iterator[tuple[Name, Note]]:
+    def notes(self, plan: Plan, first: int = 0, revision: int = 0) -> Iterator[tuple[int, Name, Note]]:
+        """The entries from a place on, each with its place."""
         for value in self.pages(plan.key("note"), plan.key("note", f"{first:012d}"), revision):
             members = value.members()
             for word, chunk in members["notes"]:
-                yield Name(*members["step"]), Note(word, chunk)
+                yield int(value.key.rsplit("/", 1)[1]), Name(*members["step"]), Note(word, chunk)
 
     def record(self) -> Record:
         return self.recorded(*self.moment())
 
     def recorded(self, plan: Plan, revision: int) -> Record:
-        numbers = {name: number for number, name in enumerate(plan.names)}
-        return Record(plan.edition, plan.bundle, [note.line(numbers[name]) for name, note in self.notes(plan, revision=revision)])
+        return Record(plan.edition, plan.bundle, [note.line(plan.numbers[name]) for _, name, note in self.notes(plan, revision=revision)])
+
+    def later(self, edition: str, mark: int) -> tuple[int, list[str]] | None:
+        plan = self.known()
+        if plan.edition != edition:
+            return None
+        found = list(self.notes(plan, mark))
+        return found[-1][0] + 1 if found else mark, [note.line(plan.numbers[name]) for _, name, note in found]
 
     def look(self) -> tuple[Record, list[State]]:
         plan, revision = self.moment()

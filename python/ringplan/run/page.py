@@ -116,7 +116,7 @@ class Picture:
 
     def metrics(self) -> str:
         it = self.runner
-        return report.metrics(self.states(), it.pace, it.verdict, it.ends, it.board.lease_left())
+        return report.metrics(self.states(), it.pace, it.judge.watched(), it.ends, it.board.lease_left())
 
 
 def token_of(folder: str) -> str:

@@ -6,7 +6,7 @@ import math
 import time
 from collections import Counter
 from collections.abc import Iterable, Mapping, Sequence
-from typing import Any
+from typing import Any, NamedTuple
 
 from ringplan.run.board import CHUNKS, Name, State
 
@@ -136,8 +136,16 @@ def state_of(state: State) -> str:
     return "running" if state.worker else "pausing" if state.tries.left() else "left"
 
 
-def metrics(states: Sequence[State], pace: Pace, judged: tuple[str, int], hooks: Mapping[tuple[str, str], int], lease: float) -> str:
-    """The whole of it for Prometheus. `judged` is the judge's last answer, and how many entries it read; `hooks` counts hooks by their kind and end."""
+class Watched(NamedTuple):
+    """Whether the judge says yes to the history so far, to how many entries, and when the history grew last, in seconds since 1970."""
+
+    is_yes: bool
+    entries: int
+    grew: float
+
+
+def metrics(states: Sequence[State], pace: Pace, watched: Watched, hooks: Mapping[tuple[str, str], int], lease: float) -> str:
+    """The whole of it for Prometheus. `hooks` counts hooks by their kind and end."""
     now, counts, lines = time.time(), Counter(map(state_of, states)), list[str]()
 
     def add(name: str, what: str, rows: Mapping[str, float], kind: str = "gauge") -> None:
@@ -154,6 +162,7 @@ def metrics(states: Sequence[State], pace: Pace, judged: tuple[str, int], hooks:
     add("oldest_step_seconds", "How long the oldest step runs.", {"": max((now - state.since for state in states if state.worker and not state.is_done), default=0.0)})
     if lease < math.inf:
         add("lease_left_seconds", "How long the lease of this runner lasts.", {"": lease})
-    add("judge_yes", "Whether the last answer of the judge is yes; 1 before the first one.", {"": judged[0] in ("", "yes")})
-    add("judged_entries", "The entries of the history that the judge has read.", {"": judged[1]})
+    add("watch_ok", "Whether the judge says yes to the history so far.", {"": watched.is_yes})
+    add("watched_entries", "The entries to which the judge has said yes.", {"": watched.entries})
+    add("last_entry_seconds", "How long ago the history grew.", {"": now - watched.grew})
     return "".join(f"{line}\n" for line in lines)

@@ -19,11 +19,10 @@ from dataclasses import dataclass, replace
 from ringplan import programs, texts
 from ringplan.run.board import CHUNKS, LOOK, Board, Claim, ClaimEnded, Name, Note, Status, Stop, names_of
 from ringplan.run.hooks import Hooks, NoLock, Outcome, Result, Supervisor
+from ringplan.run.judge import Judge
 from ringplan.run.report import Pace, counted
 from ringplan.texts import StepLine
 
-# How many entries may come before the history so far is judged; then half as many again may come, and so on.
-JUDGED = 1000
 # In a plan of so many steps, those whose kind's last hook took less than so many seconds are claimed together, and wait for the disk together. Mirrors only if
 # copies are brief as well: a slot whose mirror waits for its copy takes each write twice. A smaller plan is done in its order.
 LARGE, BRIEF = 10_000, 0.02
@@ -45,15 +44,6 @@ class Options:
     between: tuple[int, int] | None = None
     # A program that is told of events by a line of JSON.
     on_event: str | None = None
-
-
-def judge(board: Board) -> tuple[programs.Answer, int]:
-    """What `replay` says of the board's history, and how many entries that has. A judge that cannot answer is a `Stop`."""
-    record = board.record()
-    answer = programs.ask("replay", record.text())
-    if answer.status > 1:
-        raise Stop(Status.FAULT, f"the judge cannot answer: {answer.first()}{' (out of memory)' if answer.first() == 'no 60' else ''}")
-    return answer, len(record.entries)
 
 
 @functools.lru_cache(maxsize=1)
@@ -80,14 +70,16 @@ class Runner:
         self.doing, self.limits, self.is_barred, self.limited = list[Name](), dict[str, int](), False, -math.inf
         self.fault: Stop | None = None
         self.said: dict[Name, str] = {}
-        self.entries, self.judged = 0, JUDGED
-        # The judge's last answer, and how many entries it read; how often hooks of a kind ended in one way; how fast copies are.
-        self.verdict, self.ends, self.pace = ("", 0), Counter[tuple[str, str]](), Pace([], {})
+        # Whether the history may have entries that the judge has not seen; how often hooks of a kind ended in one way; how fast copies are.
+        self.is_unseen, self.ends, self.pace = True, Counter[tuple[str, str]](), Pace([], {})
+        self.judge = Judge(board)
         self.load()
 
     def load(self) -> None:
         """Reads the plan that the board has now, and which of its steps are done."""
         self.edition, bundle, done = self.board.plan()
+        self.judge.begin(self.edition, bundle)
+        self.is_unseen = True
         self.steps, self.names = read_steps(bundle)
         self.numbers = {name: number for number, name in enumerate(self.names)}
         self.pace.load(self.names, self.board.settings("sizes"))
@@ -141,18 +133,18 @@ class Runner:
             print(f"{self.options.on_event} cannot be run: {error.strerror}", file=sys.stderr, flush=True)
 
     # The judge.
-    def see_judge(self) -> None:
+    def see_judge(self, is_end: bool = False) -> None:
         """Has the history so far judged. A `no` is a `Stop`."""
-        answer, self.entries = judge(self.board)
-        self.judged, self.verdict = self.entries + max(JUDGED, self.entries // 2), (answer.first(), self.entries)
-        if answer.first() != "yes":
-            self.tell("the judge says no", answer=answer.first())
-            raise Stop(Status.REFUSED, f"the judge says {answer.first()}")
+        self.is_unseen = False
+        answer = self.judge.see(is_end)
+        if answer != "yes":
+            self.tell("the judge says no", answer=answer)
+            raise Stop(Status.REFUSED, f"the judge says {answer}")
 
     def note(self, claim: Claim, notes: Sequence[Note], is_done: bool = False) -> None:
         with self.lock:
             self.board.note(claim, notes, is_done)
-            self.entries += len(notes)
+            self.is_unseen = True
             if is_done:
                 if claim.name not in self.numbers:
                     self.load()
@@ -267,6 +259,7 @@ class Runner:
         count = len(self.done)
         for name in names:
             self.mark(self.numbers[name])
+        self.is_unseen = self.is_unseen or bool(names)
         return len(self.done) > count
 
     def candidates(self) -> Iterator[Name]:
@@ -299,8 +292,8 @@ class Runner:
         return first <= now < last if first <= last else now >= first or now < last
 
     def take(self, worker: str) -> Claim | float:
-        """Claims a step that can be done now, once the judge has read the history. If there is none, in how many seconds to look again: infinity if there never will be."""
-        if self.entries >= self.judged:
+        """Claims a step that can be done now, once the judge has said yes to the history. If there is none, in how many seconds to look again: infinity if there never will be."""
+        if self.is_unseen:
             self.see_judge()
         if self.is_stopping:
             return math.inf
@@ -366,9 +359,12 @@ class Runner:
                         print(f"stops: lets {len(self.hooks.running)} hooks end, and a second signal ends them", file=sys.stderr, flush=True)
                     self.stop()
         self.hooks.close()
-        if self.fault is not None:
-            raise self.fault
-        self.see_judge()
+        try:
+            if self.fault is not None:
+                raise self.fault
+            self.see_judge(is_end=True)
+        finally:
+            self.judge.close()
         if len(self.done) == len(self.steps):
             self.tell("done")
             return Status.DONE

@@ -333,6 +333,13 @@ class SqliteBoard:
         rows = it.execute("select word, number, chunk from entries join steps on steps.id = entries.step order by place")
         return Record(*self.bundle(it), [Note(word, chunk).line(number) for word, number, chunk in rows])
 
+    def later(self, edition: str, mark: int) -> tuple[int, list[str]] | None:
+        with self.moment() as it:
+            if self.edition(it) != edition:
+                return None
+            rows = it.execute("select place, word, number, chunk from entries join steps on steps.id = entries.step where place > ? order by place", (mark,)).fetchall()
+        return rows[-1][0] if rows else mark, [Note(word, chunk).line(number) for _, word, number, chunk in rows]
+
     def look(self) -> tuple[Record, list[State]]:
         with self.moment() as it:
             return self.recorded(it), self.listed(it)
