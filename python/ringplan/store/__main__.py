@@ -18,13 +18,16 @@ from ringplan.programs import NoProgram
 from ringplan.store.broken import EXECUTORS, STORES
 from ringplan.store.coordinator import Store
 from ringplan.store.executor import Executor
+from ringplan.store.history import Judged
 from ringplan.store.nodes import KINDS, choose
 from ringplan.store.traffic import Load, Run
 from ringplan.texts import read_plan, read_steps
 
 
-def run(bundle: str, steps: str, load: Load, broken: str = "", dead: tuple[str, ...] = (), servers: str = KINDS[0]) -> tuple[str, dict[str, Any]]:
-    """The bundle with the history of one run, and what there is to count of it."""
+def run(
+    bundle: str, steps: str, load: Load, broken: str = "", dead: tuple[str, ...] = (), servers: str = KINDS[0], is_watched: bool = False
+) -> tuple[str, dict[str, Any]]:
+    """The bundle with the history of one run, and what there is to count of it. A watched run ends once the judge refuses an entry."""
     ring, _ = read_plan(bundle)
     node = choose(servers)
     folder = tempfile.mkdtemp(prefix="ringplan-store-")
@@ -33,6 +36,7 @@ def run(bundle: str, steps: str, load: Load, broken: str = "", dead: tuple[str, 
     if broken == "empty_and_not_told":
         load = dataclasses.replace(load, wipes=True)
     one = Run(store, executor, load, dead)
+    one.judged = Judged(store.history, bundle) if is_watched else None
     try:
         took = one.run()
         acknowledged = [put for put in store.puts if put.is_acknowledged]
@@ -42,8 +46,9 @@ def run(bundle: str, steps: str, load: Load, broken: str = "", dead: tuple[str, 
             member.node.kill()
         shutil.rmtree(folder)
     lines = list(store.history.lines())
-    counts = {"entries": len(lines) - 2, "seconds": round(took, 2), "puts": len(store.puts), "acknowledged": len(acknowledged), "gets": len(store.gets)}
+    counts: dict[str, Any] = {"entries": len(lines) - 2, "seconds": round(took, 2), "puts": len(store.puts), "acknowledged": len(acknowledged), "gets": len(store.gets)}
     counts |= {"steps": len(executor.done), "of": len(executor.steps), "kills": one.kills, "outages": store.outages, "in doubt": store.in_doubt}
+    counts |= {"watched": one.judged.end()} if one.judged else {}
     return bundle + "\n".join(lines) + "\n", counts | {"dead workers": executor.died, "held at too few slots": short}
 
 
@@ -54,6 +59,7 @@ def main() -> None:
     parser.add_argument("out", help="the bundle with the history, for `ringplan replay`")
     parser.add_argument("--break", dest="broken", default="", choices=["", "latest_timestamp_wins", "empty_and_not_told", *STORES, *EXECUTORS], metavar="NAME")
     parser.add_argument("--servers", choices=KINDS, default=KINDS[0], help="the database server of each node")
+    parser.add_argument("--watch", action="store_true", help="has the history judged while it happens, and stops at the first wrong entry")
     parser.add_argument("--dead", nargs="*", default=[], metavar="NODE", help="servers that are killed for good before the plan begins")
     for field in dataclasses.fields(Load):
         kind = type(field.default)
@@ -67,7 +73,7 @@ def main() -> None:
     # Threads change often, so that more orders of events are met.
     sys.setswitchinterval(0.0005)
     try:
-        text, counts = run(bundle.read_text(), steps.read_text(), load, words.broken, tuple(words.dead), words.servers)
+        text, counts = run(bundle.read_text(), steps.read_text(), load, words.broken, tuple(words.dead), words.servers, words.watch)
     except NoProgram as error:
         parser.exit(2, f"{error}\n")
     out.write_text(text)

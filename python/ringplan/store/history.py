@@ -1,4 +1,4 @@
-"""The history of a store: what it did, in an order that `ringplan replay` judges.
+"""The history of a store: what it did, in an order that `ringplan replay` judges, and `ringplan watch` while it happens.
 
 An entry takes its place from one counter while its event holds what it touches, so the order of places is the order in which events took effect. Puts and gets
 are numbered when the history is written out, in that order: no coordinator can number those of the whole store.
@@ -6,13 +6,16 @@ are numbered when the history is written out, in that order: no coordinator can 
 
 from __future__ import annotations
 
+import heapq
 import itertools
+import queue
 import threading
-from collections.abc import Iterable, Iterator
+from collections.abc import Callable, Iterable, Iterator
 from dataclasses import dataclass, field
 
 from ringplan.store.versions import Clock, Version
 from ringplan.texts import History
+from ringplan.watching import Watch
 
 
 @dataclass(eq=False)
@@ -74,11 +77,41 @@ def recorded(history: History, past: Past) -> list[Recorded]:
     return found
 
 
+class Spelling:
+    """The lines of entries, by the numbers of the puts and gets so far."""
+
+    def __init__(self) -> None:
+        self.puts, self.gets = dict[int, int](), dict[int, int]()
+
+    def number(self, word: Word) -> str:
+        if isinstance(word, Put):
+            return str(self.puts[word.id])
+        return str(self.gets[word.id]) if isinstance(word, Get) else str(word)
+
+    def line(self, entry: Recorded) -> str:
+        """The line of the next entry."""
+        (kind, *words), reply = entry
+        if kind == "put" and isinstance(put := words[0], Put):
+            self.puts[put.id] = len(self.puts)
+            seen = "".join(f" {known}" for known in sorted(self.gets[get.id] for get in put.seen))
+            return f"put {put.writer} {put.key} x" + (f" seen{seen}" if seen else "") + f" = put {self.puts[put.id]}"
+        if kind == "get" and isinstance(get := words[0], Get):
+            self.gets[get.id] = len(self.gets)
+            return f"get {get.key} = get {self.gets[get.id]}"
+        told = [str(known) for known in sorted(self.puts[int(id)] for id in reply[1:])] if reply[0] in ("found", "reply") else map(str, reply[1:])
+        return " ".join([str(kind), *map(self.number, words), "=", str(reply[0]), *told])
+
+
+class Refused(Exception):
+    """The judge has refused an entry: the store stops, and all is left as it is."""
+
+
 class Recorder:
-    """Entries by thread, each with its place."""
+    """Entries by thread, each with its place. `tell` is called with each entry."""
 
     def __init__(self) -> None:
         self.places, self.lists, self.local = itertools.count(), list[list[Placed]](), threading.local()
+        self.tell: Callable[[Placed], None] = lambda _: None
 
     def note(self, event: tuple[Word, ...], reply: tuple[str | int, ...] = ("ok",)) -> None:
         """Keeps an event and its reply. Called while what the event touches is held."""
@@ -86,7 +119,9 @@ class Recorder:
         if mine is None:
             mine = self.local.list = []
             self.lists.append(mine)
-        mine.append((next(self.places), (event, reply)))
+        placed = (next(self.places), (event, reply))
+        mine.append(placed)
+        self.tell(placed)
 
     def past(self) -> Past:
         """What was noted so far. Called while no event takes effect that another thread's event may need."""
@@ -110,24 +145,37 @@ class Recorder:
 
     def lines(self, entries: Iterable[Recorded] | None = None) -> Iterator[str]:
         """The lines of the text of all entries, or of these."""
-        puts: dict[int, int] = {}
-        gets: dict[int, int] = {}
-
-        def number(word: Word) -> str:
-            if isinstance(word, Put):
-                return str(puts[word.id])
-            return str(gets[word.id]) if isinstance(word, Get) else str(word)
-
+        spelling = Spelling()
         yield "history 1"
-        for (kind, *words), reply in self.entries() if entries is None else entries:
-            if kind == "put" and isinstance(put := words[0], Put):
-                puts[put.id] = len(puts)
-                seen = "".join(f" {known}" for known in sorted(gets[get.id] for get in put.seen))
-                yield f"put {put.writer} {put.key} x" + (f" seen{seen}" if seen else "") + f" = put {puts[put.id]}"
-            elif kind == "get" and isinstance(get := words[0], Get):
-                gets[get.id] = len(gets)
-                yield f"get {get.key} = get {gets[get.id]}"
-            else:
-                told = [str(known) for known in sorted(puts[int(id)] for id in reply[1:])] if reply[0] in ("found", "reply") else map(str, reply[1:])
-                yield " ".join([str(kind), *map(number, words), "=", str(reply[0]), *told])
+        yield from map(spelling.line, self.entries() if entries is None else entries)
         yield "end"
+
+
+class Judged:
+    """A history that the judge reads while it happens. It cannot be replaced by another one meanwhile."""
+
+    def __init__(self, history: Recorder, bundle: str) -> None:
+        self.watch, self.queue = Watch(bundle), queue.SimpleQueue[Placed | None]()
+        self.feeder = threading.Thread(target=self.feed, daemon=True)
+        self.feeder.start()
+        history.tell = self.tell
+
+    def tell(self, placed: Placed) -> None:
+        self.queue.put(placed)
+        if self.watch.no():
+            raise Refused
+
+    def feed(self) -> None:
+        """Gives the judge each entry once all before it are there: places have no gaps."""
+        spelling, left, due = Spelling(), list[Placed](), 0
+        while (placed := self.queue.get()) is not None:
+            heapq.heappush(left, placed)
+            while left and left[0][0] == due:
+                self.watch.give([spelling.line(heapq.heappop(left)[1])])
+                due += 1
+
+    def end(self) -> str:
+        """The answer to the whole history, or to the part of it before the first wrong entry."""
+        self.queue.put(None)
+        self.feeder.join()
+        return self.watch.end().first()

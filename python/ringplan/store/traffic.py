@@ -6,13 +6,14 @@ import contextlib
 import random
 import threading
 import time
+from collections.abc import Callable
 from concurrent.futures import ThreadPoolExecutor
 from dataclasses import dataclass
 from functools import partial
 
 from ringplan.store.coordinator import Store
 from ringplan.store.executor import Executor
-from ringplan.store.history import Get
+from ringplan.store.history import Get, Judged, Refused
 from ringplan.store.members import Member
 from ringplan.store.nodes import Gone
 
@@ -46,6 +47,15 @@ class Run:
         # Held while a server is dead that comes back.
         self.killing = threading.Lock()
         self.until = time.time() + load.limit
+        # The judge beside the run, if there is one.
+        self.judged: Judged | None = None
+
+    def guard(self, call: Callable[..., object], *words: object) -> None:
+        """Calls something that ends once the judge refuses an entry."""
+        try:
+            call(*words)
+        except Refused:
+            self.until = 0.0
 
     def draw(self, who: str) -> random.Random:
         return random.Random(f"{self.load.seed} {who}")
@@ -143,15 +153,16 @@ class Run:
             for started in [pool.submit(member.node.start) for member in self.store.members]:
                 started.result()
         begun, self.until = time.time(), time.time() + self.load.limit
-        clients = [threading.Thread(target=self.client, args=[number]) for number in range(self.load.clients)]
-        others = [threading.Thread(target=self.kill_servers), threading.Thread(target=self.hand_off)]
+        clients = [threading.Thread(target=self.guard, args=[self.client, number]) for number in range(self.load.clients)]
+        others = [threading.Thread(target=self.guard, args=[call]) for call in (self.kill_servers, self.hand_off)]
         workers = [
-            threading.Thread(target=self.executor.work, args=[self.draw(f"worker {number}"), self.until, self.load.pace]) for number in range(self.load.workers)
+            threading.Thread(target=self.guard, args=[self.executor.work, self.draw(f"worker {number}"), self.until, self.load.pace])
+            for number in range(self.load.workers)
         ]
         for thread in clients:
             thread.start()
         time.sleep(0.3)
-        self.bury()
+        self.guard(self.bury)
         for thread in others + workers:
             thread.start()
         for thread in clients + workers:
@@ -160,5 +171,7 @@ class Run:
         self.finished.set()
         for thread in others:
             thread.join()
-        self.sweep()
+        # After a refusal all is left as it is.
+        if self.until:
+            self.guard(self.sweep)
         return took
