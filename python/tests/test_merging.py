@@ -2,6 +2,7 @@
 
 from __future__ import annotations
 
+import itertools
 import os
 import pathlib
 import random
@@ -14,10 +15,15 @@ from collections.abc import Callable
 
 import pytest
 
-from ringplan import merging, programs
+from ringplan import merging, programs, texts
 from ringplan.merging import LONGEST, BadLine, Counter, Growing, Names, Status, Stop, merge
 from ringplan.store.__main__ import run
-from ringplan.store.traffic import Load
+from ringplan.store.coordinator import Store
+from ringplan.store.executor import Executor
+from ringplan.store.history import Logs
+from ringplan.store.nodes import choose
+from ringplan.store.traffic import Load, Run
+from ringplan.watching import Watch
 
 TOP = pathlib.Path(__file__).parents[2]
 # How a put or a get of some number is called.
@@ -248,6 +254,39 @@ def test_a_fault_in_a_log_that_grows(tmp_path: pathlib.Path) -> None:
     assert command("--follow", tmp_path) == (b"history 1\n", f"ringplan-merge: {tmp_path}: Is a directory\n", 3)
     (tmp_path / "log").write_text("1 do 0 = found" + " x" * LONGEST)
     assert command("--follow", tmp_path / "log")[1:] == (f"ringplan-merge: {tmp_path}/log:1: a line of more than {LONGEST} bytes\n", 2)
+
+
+def test_the_logs_of_a_store_are_judged_while_it_runs(tmp_path: pathlib.Path) -> None:
+    """Over four servers of SQLite that are killed, with marks ten times a second."""
+    bundle = (TOP / "examples/planned_grow.bundle").read_text()
+    try:
+        steps, watch = texts.read_steps(programs.ask("steps", bundle).text), Watch(bundle)
+    except programs.NoProgram as error:
+        pytest.skip(str(error))
+    paths = [str(tmp_path / f"log{number}") for number in range(3)]
+    node = choose("sqlite")
+    store = Store(texts.read_plan(bundle)[0], lambda name: node(str(tmp_path), name))
+    store.history = logs = Logs(paths, pause=0.1)
+    one = Run(store, Executor(store, steps), Load(clients=3, operations=60, faults=0.3, outage=0.2, limit=600))
+
+    def follow_logs() -> None:
+        for line in itertools.islice(merge(paths, Growing()), 1, None):
+            if line != b"end\n":
+                watch.give([line.decode().rstrip("\n")])
+
+    merging = threading.Thread(target=follow_logs)
+    merging.start()
+    try:
+        one.run()
+        count, before = len(store.history.entries()), watch.count
+        logs.end()
+        merging.join()
+    finally:
+        for member in store.members:
+            member.node.kill()
+    assert watch.end().first() == "yes" and watch.count == count
+    # The judge reads while the store runs.
+    assert before > count / 2
 
 
 def test_equal_places_come_in_the_order_of_the_logs(tmp_path: pathlib.Path) -> None:

@@ -10,8 +10,9 @@ import heapq
 import itertools
 import queue
 import threading
-from collections.abc import Callable, Iterable, Iterator
+from collections.abc import Callable, Iterable, Iterator, Sequence
 from dataclasses import dataclass, field
+from typing import TextIO
 
 from ringplan.store.versions import Clock, Version
 from ringplan.texts import History
@@ -83,6 +84,9 @@ class Spelling:
     def __init__(self) -> None:
         self.puts, self.gets = dict[int, int](), dict[int, int]()
 
+    def begin(self, numbers: dict[int, int], id: int) -> None:
+        numbers[id] = len(numbers)
+
     def number(self, word: Word) -> str:
         if isinstance(word, Put):
             return str(self.puts[word.id])
@@ -92,11 +96,11 @@ class Spelling:
         """The line of the next entry."""
         (kind, *words), reply = entry
         if kind == "put" and isinstance(put := words[0], Put):
-            self.puts[put.id] = len(self.puts)
+            self.begin(self.puts, put.id)
             seen = "".join(f" {known}" for known in sorted(self.gets[get.id] for get in put.seen))
             return f"put {put.writer} {put.key} x" + (f" seen{seen}" if seen else "") + f" = put {self.puts[put.id]}"
         if kind == "get" and isinstance(get := words[0], Get):
-            self.gets[get.id] = len(self.gets)
+            self.begin(self.gets, get.id)
             return f"get {get.key} = get {self.gets[get.id]}"
         told = [str(known) for known in sorted(self.puts[int(id)] for id in reply[1:])] if reply[0] in ("found", "reply") else map(str, reply[1:])
         return " ".join([str(kind), *map(self.number, words), "=", str(reply[0]), *told])
@@ -149,6 +153,51 @@ class Recorder:
         yield "history 1"
         yield from map(spelling.line, self.entries() if entries is None else entries)
         yield "end"
+
+
+class Naming(Spelling):
+    """The lines of logs: a put or a get has the name that its coordinator gave it."""
+
+    def begin(self, numbers: dict[int, int], id: int) -> None:
+        numbers[id] = id
+
+
+class Logs(Recorder):
+    """Writes each entry to one of several logs too, as `ringplan-merge --follow` reads them. Each log gets a mark each `pause` seconds."""
+
+    def __init__(self, paths: Sequence[str], pause: float = 1.0) -> None:
+        super().__init__()
+        self.naming, self.pause, self.over = Naming(), pause, threading.Event()
+        self.logs = [(open(path, "w", encoding="ascii", buffering=1), threading.Lock()) for path in paths]
+        self.tell = self.write
+        threading.Thread(target=self.mark, daemon=True).start()
+
+    def mine(self) -> tuple[TextIO, threading.Lock]:
+        """The log of this thread."""
+        return self.logs[threading.get_native_id() % len(self.logs)]
+
+    def note(self, event: tuple[Word, ...], reply: tuple[str | int, ...] = ("ok",)) -> None:
+        """While a log's lock is free, all places that were taken for it are written."""
+        with self.mine()[1]:
+            super().note(event, reply)
+
+    def write(self, placed: Placed) -> None:
+        place, entry = placed
+        self.mine()[0].write(f"{place} {self.naming.line(entry)}\n")
+
+    def mark(self) -> None:
+        while not self.over.wait(self.pause):
+            for file, lock in self.logs:
+                with lock:
+                    file.write(f"{next(self.places)}\n")
+
+    def end(self) -> None:
+        """Closes each log. Called once nothing is noted any more."""
+        self.over.set()
+        for file, lock in self.logs:
+            with lock:
+                file.write("end\n")
+                file.close()
 
 
 class Judged:
