@@ -1,5 +1,5 @@
 #!/usr/bin/env python3
-"""Runs the reference store of python/ringplan/store under traffic and faults, and has its histories judged by `ringplan replay`.
+"""Runs the reference store of python/ringplan/store under traffic and faults, and has its histories judged by `ringplan replay`, and by `ringplan watch` while they happen.
 
     trials/store.py [COUNT] [--first SEED] [--servers KIND] [--jobs J]    COUNT right runs, else 4, and then each broken store
     trials/store.py --break [NAME..] [--servers KIND] [--jobs J]          these broken stores alone, or all of them
@@ -36,6 +36,7 @@ sys.path.insert(0, str(TOP / "python"))
 from ringplan import programs, texts
 from ringplan.store.coordinator import Store
 from ringplan.store.executor import Died, Executor
+from ringplan.store.history import Judged
 from ringplan.store.nodes import KINDS, choose
 from ringplan.store.traffic import Load, Run
 from ringplan.store.versions import Contents, is_at_most
@@ -343,10 +344,14 @@ def run_right(seed: int, servers: str) -> dict[str, Any]:
     one = Run(store, executor, load, case.dead)
     if isinstance(executor, Around):
         executor.prepare(one, goal.text)
+    else:
+        one.judged = Judged(store.history, goal.text)
     try:
         took = one.run()
         lost = read_back(one, random.Random(seed))
         faults = faults_of(store, executor, getattr(executor, "bundle", goal.text)) + ([f"{lost} acknowledged puts are lost"] if lost else [])
+        if one.judged and (answer := one.judged.end()) != "yes":
+            faults.append(f"the judge beside it says {answer}")
     finally:
         for member in store.members:
             member.node.kill()
@@ -432,12 +437,14 @@ def wrong_once(folder: str, name: str, seed: int, servers: str) -> str:
     files = [os.path.join(folder, file) for file in ("bundle", "steps", "out")]
     for path, text in zip(files, (bundle, programs.ask("steps", bundle).text)):
         pathlib.Path(path).write_text(text)
-    words = [sys.executable, "-m", "ringplan.store", *files, "--seed", str(seed), *options, "--break", name, "--limit", "60", "--clients", "3", *(["--servers", servers] if servers else [])]
+    words = [sys.executable, "-m", "ringplan.store", *files, "--seed", str(seed), *options, "--break", name, "--watch", "--limit", "60", "--clients", "3", *(["--servers", servers] if servers else [])]
     ran = subprocess.run(words, capture_output=True, timeout=ENDS, env=ENVIRONMENT)
     if ran.returncode:
         return f"status {ran.returncode}: {ran.stderr.decode()[-300:]}"
     text = pathlib.Path(files[2]).read_text()
-    answer = programs.ask("replay", text).first()
+    answer, watched = programs.ask("replay", text).first(), json.loads(ran.stdout)["watched"]
+    if watched != answer:
+        return f"the judge beside it says {watched}, and afterwards {answer}"
     return answer + (" " + text.split("history 1\n")[1].split("\n")[int(answer.split()[2])] if answer.startswith("no 70") else "")
 
 

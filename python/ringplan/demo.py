@@ -31,6 +31,8 @@ from ringplan.texts import read_plan, read_steps
 
 SPACE, SLOTS, MEMBERS = 16, 3, 6
 BAR = 30
+# What these stores do wrong wants an outage at the right moment, a lost store, or a plan around a dead node.
+SELDOM = ("keeper_of_two", "retire_with_hints", "loss_keeps_generation", "copy_without_hints")
 
 
 def ring(writes: int = 2) -> str:
@@ -147,7 +149,7 @@ def main() -> int:
     parser = argparse.ArgumentParser(prog="python3 -m ringplan.demo", description=(__doc__ or "").split("\n")[0])
     parser.add_argument("--into", type=pathlib.Path, default=pathlib.Path("demo"), metavar="FOLDER", help="where the bundles and the picture go")
     breaks = ["latest_timestamp_wins", *STORES, *EXECUTORS]
-    named = f"runs a store that is broken on purpose: {', '.join(breaks)}. `copy_without_hints` needs a plan around a dead node: trials/store.py has one"
+    named = f"runs a store that is broken on purpose: {', '.join(breaks)}. This run seldom shows {', '.join(SELDOM)}: `trials/store.py --break` has rings and loads that do"
     parser.add_argument("--break", dest="broken", default="", choices=breaks, metavar="NAME", help=named)
     parser.add_argument("--servers", choices=KINDS, default=KINDS[0], help="the database server of each node")
     words = parser.parse_args()

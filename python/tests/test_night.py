@@ -429,12 +429,14 @@ def test_idle_connections_to_the_page_cost_nothing(bench: Bench) -> None:
         assert (process.returncode, err) == (Status.DONE, "")
 
 
-def test_a_judge_without_memory_is_a_fault(bench: Bench, monkeypatch: pytest.MonkeyPatch) -> None:
+@pytest.mark.parametrize(("program", "words"), [("echo no 60; exit 3", "the judge cannot answer: no 60 (out of memory)"), ("exit 0", "judge watch ended with 0, without an answer")])
+def test_a_judge_that_cannot_answer_is_a_fault(bench: Bench, program: str, words: str, monkeypatch: pytest.MonkeyPatch) -> None:
     judge = bench.folder / "judge"
-    judge.write_text(f'#!/bin/sh\n[ "$1" = replay ] || exec {programs.find()} "$@"\ncat > /dev/null\necho no 60\nexit 3\n')
+    judge.write_text(f'#!/bin/sh\n[ "$1" = watch ] || exec {programs.find()} "$@"\n{program}\n')
     judge.chmod(0o755)
     monkeypatch.setenv("ringplan", str(judge))
-    assert bench.run("apply")[::2] == (Status.FAULT, "ringplan-run: the judge cannot answer: no 60 (out of memory)\n")
+    code, _, err = bench.run("apply")
+    assert code == Status.FAULT and err.endswith(f"{words}\n")
 
 
 def test_without_a_reader_the_runner_stops(bench: Bench) -> None:

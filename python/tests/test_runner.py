@@ -301,18 +301,6 @@ def test_a_no_of_the_judge_stops_the_runner(bench: Bench, monkeypatch: pytest.Mo
 
 
 @over_both
-@pytest.mark.parametrize(("program", "words"), [("echo no 60; exit 3", "the judge cannot answer: no 60 (out of memory)"), ("exit 0", "watch ended with 0, without an answer")])
-def test_a_judge_that_cannot_answer_stops_the_runner(bench: Bench, program: str, words: str, monkeypatch: pytest.MonkeyPatch) -> None:
-    judge = bench.folder / "judge"
-    judge.write_text(f'#!/bin/sh\n[ "$1" = watch ] || exec {programs.find()} "$@"\n{program}\n')
-    judge.chmod(0o755)
-    monkeypatch.setenv("ringplan", str(judge))
-    code, _, err = bench.run("apply")
-    assert code == Status.FAULT and err.endswith(f"{words}\n")
-    assert bench.steps("begin") in ([], [0])
-
-
-@over_both
 def test_a_board_keeps_claims_apart(address: str) -> None:
     see_claims_apart(open_board(address))
 

@@ -2,6 +2,7 @@
 
 from __future__ import annotations
 
+import contextlib
 import random
 import re
 import threading
@@ -11,14 +12,18 @@ from typing import Any
 
 from ringplan.store.coordinator import Store
 from ringplan.store.executor import Executor
-from ringplan.store.history import Get, Put
+from ringplan.store.history import Get, Put, Refused
 from ringplan.store.members import Doubt, Member, Partition, Slot
 from ringplan.store.versions import Contents, Version
 from ringplan.texts import StepLine
 
 
 def later(seconds: float, call: Callable[[], object]) -> None:
-    timer = threading.Timer(seconds, call)
+    def do() -> None:
+        with contextlib.suppress(Refused):
+            call()
+
+    timer = threading.Timer(seconds, do)
     timer.daemon = True
     timer.start()
 
