@@ -6,6 +6,7 @@ number of its line. Limits and meanings are not looked at here: `ringplan` decid
 
 from __future__ import annotations
 
+import hashlib
 import json
 import re
 from collections.abc import Callable, Iterator
@@ -76,6 +77,12 @@ class Reader:
 
 def joined(*words: object) -> str:
     return " ".join(map(str, words))
+
+
+def place(key: str, partitions: int) -> tuple[int, int]:
+    """The partition of a key, and its chunk: the first bits of the key's MD5 are the partition, the next four the chunk (section 6.2, strategy 3)."""
+    digest = int(hashlib.md5(key.encode()).hexdigest(), 16) >> (125 - partitions.bit_length())
+    return digest >> 4, digest & 15
 
 
 @dataclass(frozen=True)

@@ -7,7 +7,6 @@ broken store of `broken.py` overrides one of the small methods here.
 from __future__ import annotations
 
 import contextlib
-import hashlib
 import itertools
 import random
 import threading
@@ -19,7 +18,7 @@ from ringplan.store.history import Get, Put, Recorder
 from ringplan.store.members import Blocked, Doubt, Member, Partition, Slot, using
 from ringplan.store.nodes import Gone, Node
 from ringplan.store.versions import Clock, Contents, Version, is_at_most, merged
-from ringplan.texts import Ring
+from ringplan.texts import Ring, place
 
 CHUNKS = 16
 ROUNDS = 64
@@ -33,7 +32,6 @@ class Store:
         self.members = [Member(node.name, number, make_node(node.name), node.is_in) for number, node in enumerate(ring.nodes)]
         self.by_name = {member.name: member for member in self.members}
         self.partitions = [Partition(number, (self.by_name[name] for name in row)) for number, row in enumerate(ring.rows)]
-        self.bits = len(self.partitions).bit_length() - 1
         self.slots, self.read_quorum, self.write_quorum, *losses = ring.quorum
         self.losses = sum(losses)
         self.clocks: dict[tuple[str, str], Clock] = {}
@@ -46,10 +44,8 @@ class Store:
     def all_slots(self) -> Iterator[Slot]:
         return (slot for partition in self.partitions for slot in partition.slots)
 
-    # Places of keys (section 6.2, strategy 3): the first bits of the key's MD5 are the partition, the next four the chunk.
     def place(self, key: str) -> tuple[int, int]:
-        digest = int(hashlib.md5(key.encode()).hexdigest(), 16) >> (124 - self.bits)
-        return digest >> 4, digest & 15
+        return place(key, len(self.partitions))
 
     def slots_of(self, key: str) -> list[Slot]:
         return self.partitions[self.place(key)[0]].slots
