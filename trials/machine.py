@@ -79,7 +79,8 @@ class Table:
         elif step.kind == "mirror":
             self.mirror[slot_of(step)] = node_of(step)
         elif step.kind == "switch":
-            self.owner[slot_of(step)] = self.mirror.pop(slot_of(step))
+            # A switch without a mirror changes nothing.
+            self.owner[slot_of(step)] = self.mirror.pop(slot_of(step), self.owner[slot_of(step)])
 
     def nodes(self, slot: Slot) -> list[str]:
         """The slot's owner, and its mirror if it has one."""
@@ -280,7 +281,7 @@ class Machine:
             self.generation[slot_of(step)] += 1
             self.by_mirror[slot_of(step)] = 1
         elif step.kind == "switch":
-            del self.by_mirror[slot_of(step)]
+            self.by_mirror.pop(slot_of(step), None)
         elif step.kind == "drop":
             self.stored[node_of(step), slot_of(step)] = set()
         self.table.take(step)
@@ -314,7 +315,8 @@ class Machine:
         given = [self.stored[self.table.owner[it], it] for it in self.sources(step)]
         given += [self.hinted[it] for it in keepers]
         slot = slot_of(step)
-        self.stored[self.table.mirror[slot], slot] |= set[int]().union(*given) & of_chunk
+        for mirror in self.table.nodes(slot)[1:]:
+            self.stored[mirror, slot] |= set[int]().union(*given) & of_chunk
         self.progress.marks[number].add(c)
         return self.note("chunk", number, c)
 

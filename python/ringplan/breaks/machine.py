@@ -183,6 +183,8 @@ class World:
         return True
 
     def may_ack(self, v: int) -> bool:
+        if v >= len(self.puts):
+            return False
         put = self.puts[v]
         current = sum(self.generations[put.partition, i] == ticket for i, ticket in put.tickets.items())
         if put.is_acked or current < self.frame.w:
