@@ -135,16 +135,17 @@ class Trial:
     def judge(self, seed: int, ring: texts.Ring, plan: texts.Plan, bundle: str) -> str:
         """What kind of harm the command shows."""
         line, _, status = ask(["check"], bundle)
-        out, errors, ended = answer(bundle.encode())
-        if not out.startswith(line) or ended != status or errors:
-            self.fault(seed, f"check says {line!r} and {status}, and the command {out!r}, {errors!r} and {ended}", bundle)
+        out, script, ended = answer(bundle.encode())
+        if not out.startswith(line) or ended != status:
+            self.fault(seed, f"check says {line!r} and {status}, and the command {out!r} and {ended}", bundle)
         words = out.split("\n")[1]
-        script, _, _ = answer(bundle.encode(), True)
+        if bool(script) != words.startswith("broken: "):
+            self.fault(seed, f"{words}, and the script {script[:200]!r}", bundle)
         if words.startswith("unbroken: the plan keeps"):
             self.counts["certified"] += 1
             return "certificate"
         if not words.startswith("broken: "):
-            self.counts["cut short"] += "; not all" in out
+            self.counts["cut short"] += "left out" in out
             return "nothing"
         if not script.startswith(bundle):
             self.fault(seed, f"the script's bundle begins otherwise: {script[:200]}", bundle)
@@ -217,7 +218,8 @@ class Trial:
 def try_command(bundle: str) -> bool:
     """Whether the command prints, as a process, what its call returns."""
     ran = subprocess.run([sys.executable, "-m", "ringplan.breaks", "-"], input=bundle, capture_output=True, text=True, env={**os.environ, "PYTHONPATH": PYTHON})
-    return (ran.stdout, ran.stderr, ran.returncode) == answer(bundle.encode())
+    words, _, status = answer(bundle.encode())
+    return (ran.stdout, ran.stderr, ran.returncode) == (words, "", status)
 
 
 def main() -> int:

@@ -161,6 +161,17 @@ class Step:
             return Step(kind, reader.number(fields[0]), reader.number(fields[1]), None, slots, after)
         raise reader.bad("no such step")
 
+    def place(self) -> tuple[int, int]:
+        """The partition and the index of the step's slot."""
+        if self.partition is None or self.slot is None:
+            raise ValueError(f"a {self.kind} is of no slot")
+        return self.partition, self.slot
+
+    def reads(self) -> list[tuple[int, int]]:
+        """The slots that a copy reads, each once."""
+        partition, slot = self.place()
+        return [(partition, it) for it in dict.fromkeys((slot,) if self.slots is None else self.slots)]
+
     def line(self) -> str:
         words: list[object] = [word for word in (self.kind, self.partition, self.slot, self.node) if word is not None]
         if self.kind == "copy":

@@ -28,7 +28,7 @@ class Lost:
     slots: tuple[int, ...]
 
     def words(self) -> str:
-        return f"an acknowledged put of {self.key} is not at {slots_of(self.partition, self.slots)}, and a get may read only {'these' if len(self.slots) > 1 else 'it'}"
+        return f"an acknowledged put of {self.key} is not at {slots_of(self.partition, self.slots)}, and a get may read only {'these' if len(self.slots) > 1 else 'this'}"
 
 
 @dataclass(frozen=True)
@@ -45,7 +45,7 @@ class Shared:
 
 @dataclass(frozen=True)
 class TooMany:
-    """A node has more transfers open than its allowance: of all transfers, or of those that it takes or gives."""
+    """A node has more transfers open than its allowance: of all transfers (`both`), or of those that it takes or gives."""
 
     node: str
     side: str
@@ -53,8 +53,7 @@ class TooMany:
     allowance: int
 
     def words(self) -> str:
-        side = {"both": "", "take": " to it", "give": " from it"}[self.side]
-        return f"{self.node} has {self.open} transfers{side} open, and it bears {self.allowance}"
+        return f"{self.node} has {self.open} transfers{ {'both': '', 'take': ' to it', 'give': ' from it'}[self.side] } open, and it bears {self.allowance}"
 
 
 @dataclass(frozen=True)
@@ -70,13 +69,13 @@ class Stranger:
 
 @dataclass(frozen=True)
 class OutOfTurn:
-    """A step of a slot is done, and the slot's step before it is not."""
+    """A step of a slot is done, and an earlier step of the slot is not."""
 
     earlier: int
     later: int
 
     def words(self) -> str:
-        return f"step {self.later} is done before step {self.earlier} of the same slot, which the plan has first"
+        return f"step {self.later} is done before step {self.earlier}, which the slot needs first"
 
 
 Harm = Lost | Shared | TooMany | Stranger | OutOfTurn
