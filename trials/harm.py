@@ -189,7 +189,7 @@ class Trial:
     def run(self, seed: int) -> bool:
         """Tries the plan of a seed, and says whether it is refused."""
         draw = random.Random(seed)
-        is_small = draw.random() < 0.4
+        is_small = draw.random() < 0.5
         ring, plan, bundle = draw_bundle(draw, is_small)
         line, _, status = ask(["check"], bundle)
         if status != 1:

@@ -18,7 +18,7 @@ BEARS = 64
 def draw_ring(draw: random.Random, is_small: bool) -> Ring:
     quorum = draw.choice([it for it in (LOSSY if draw.random() < 0.2 else PLAIN) if it[0] < 4 or not is_small])
     n, q = quorum[0], draw.choice([1, 2] if is_small else [1, 2, 4, 8])
-    count, is_split = n + draw.randrange(1, 4), draw.random() < 0.3
+    count, is_split = n + draw.choice([1, 1, 2, 3]), draw.random() < 0.3
     names = [f"n{k}" for k in range(count)]
     inside = set(draw.sample(names, draw.randrange(n, count + 1)))
     form = 3 if len(quorum) > 3 else 2 if is_split else 1
@@ -103,14 +103,29 @@ def without_step(steps: list[Step], gone: int) -> list[Step]:
     return [replace(step, after=others(step.after)) for number, step in enumerate(steps) if number != gone]
 
 
+def without_detours(steps: list[Step]) -> list[Step]:
+    """A step does not wait directly for what others that it waits for wait for: certificates then have facts."""
+    before = list[set[int]]()
+    for step in steps:
+        before.append({*step.after}.union(*(before[m] for m in step.after)))
+    return [replace(step, after=tuple(m for m in step.after if not any(m in before[k] for k in step.after))) for step in steps]
+
+
 def damage_plan(draw: random.Random, ring: Ring, steps: list[Step]) -> list[Step]:
     """One fault, as a person or a planner may make it."""
-    kind, number = draw.choice(["after", "after", "after", "sources", "node", "step", "join", "all"]), draw.randrange(len(steps))
+    kind, number = draw.choice(["after", "after", "others", "others", "others", "sources", "node", "step", "join", "all"]), draw.randrange(len(steps))
     step = steps[number]
     if kind == "after" and step.after:
         gone = draw.choice(step.after)
         ahead = steps[gone].after if draw.random() < 0.5 else ()
         steps[number] = replace(step, after=tuple(sorted({*step.after, *ahead} - {gone})))
+    elif kind == "others":
+        # What it waits for at other slots.
+        far = [k for k, it in enumerate(steps) if any((steps[m].partition, steps[m].slot) != (it.partition, it.slot) for m in it.after)]
+        if far:
+            number = draw.choice(far)
+            near = [m for m in steps[number].after if (steps[m].partition, steps[m].slot) == (steps[number].partition, steps[number].slot)]
+            steps[number] = replace(steps[number], after=tuple(near))
     elif kind == "all":
         steps[number] = replace(step, after=())
     elif kind == "sources":
@@ -130,17 +145,19 @@ def damage_plan(draw: random.Random, ring: Ring, steps: list[Step]) -> list[Step
 
 
 def damage_certificate(draw: random.Random, certificate: Certificate) -> Certificate:
-    """A line less, a chain in two, or an entry of a line less."""
+    """A line less, a chain in two, an entry of a line less, or two in each other's place."""
     body = list(certificate.body)
     if not body:
         return certificate
     number = draw.randrange(len(body))
-    line, kind = body[number], draw.randrange(3)
+    line, kind = body[number], draw.randrange(4)
     if kind == 0:
         del body[number]
     elif kind == 1 and line.kind != "fact" and len(line.steps) > 1:
         cut = draw.randrange(1, len(line.steps))
         body[number : number + 1] = [CertificateLine(line.kind, line.node, part) for part in (line.steps[:cut], line.steps[cut:])]
+    elif kind == 2 and len(line.steps) > 1:
+        body[number] = CertificateLine(line.kind, line.node, (line.steps[1], line.steps[0], *line.steps[2:]))
     elif len(line.steps) > 2:
         gone = draw.randrange(len(line.steps))
         body[number] = CertificateLine(line.kind, line.node, line.steps[:gone] + line.steps[gone + 1 :])
@@ -168,7 +185,7 @@ def draw_bundle(draw: random.Random, is_small: bool) -> tuple[Ring, Plan, str]:
         for _ in range(draw.randint(1, 2) if is_small else draw.randint(1, 12)):
             writer.move()
         writer.retire()
-        steps = writer.steps
+        steps = without_detours(writer.steps) if draw.random() < 0.5 else writer.steps
     is_early = draw.random() < 0.5
     certificate = certify(ring, Plan(tuple(steps)))
     for _ in range(draw.choice([0, 1, 1, 1, 2, 3])):

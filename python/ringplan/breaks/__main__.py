@@ -4,50 +4,35 @@ The proved program judges the plan and looks for a certificate. If there is none
 followed by hand. If nothing is found, that proves nothing.
 """
 
-from __future__ import annotations
-
 import argparse
 import os
 import pathlib
 import sys
-from collections.abc import Iterator
 
 from ringplan import programs
-from ringplan.breaks.harms import Event, Harm, Lost
+from ringplan.breaks.harms import Event, Harm, Lost, harm_words, in_words
 from ringplan.breaks.machine import Frame, shows
 from ringplan.breaks.order import Order
 from ringplan.breaks.search import Hunt
-from ringplan.breaks.telling import in_words
 from ringplan.texts import Plan, Ring, Script, read_plan, read_texts, write_texts
 
 NO_FILE = 3
-# The events that the judge runs while a script is made shorter.
-EVENTS = 4_000_000
+# A longer script is not made shorter.
+LONGEST = 2_000
 CERTIFIED = "; `ringplan cert` makes a certificate to which the checker says yes"
 
 
-def parts(script: list[Event]) -> Iterator[set[int]]:
-    """Places in a script that may be left out, the last ones first: whole steps, then single events."""
-    steps: dict[str, set[int]] = {}
-    for at, event in enumerate(script):
-        if event[0] in ("do", "open", "chunk", "close"):
-            steps.setdefault(event[1], set()).add(at)
-    yield from reversed(steps.values())
-    yield from ({at} for at in reversed(range(len(script))))
-
-
 def shorten(frame: Frame, harm: Harm, script: list[Event]) -> list[Event]:
-    """Leaves out what the harm does not need."""
-    spent, is_shorter = 0, True
-    while is_shorter:
-        is_shorter = False
-        for places in parts(script):
-            spent += len(script)
-            less = [event for at, event in enumerate(script) if at not in places]
-            if spent < EVENTS and shows(frame, less, harm):
-                script, is_shorter = less, True
-                break
-    return script
+    """Leaves out what the harm does not need: whole steps, then single events, the last ones first."""
+    kept, steps = dict(enumerate(script)), dict[str, list[int]]()
+    for at, event in kept.items():
+        if event[0] in ("do", "open", "chunk", "close"):
+            steps.setdefault(event[1], []).append(at)
+    for places in [*reversed(steps.values()), *([at] for at in reversed(kept))] if len(script) <= LONGEST else []:
+        less = {at: event for at, event in kept.items() if at not in places}
+        if len(less) < len(kept) and shows(frame, list(less.values()), harm):
+            kept = less
+    return list(kept.values())
 
 
 def find_break(ring: Ring, plan: Plan, refusal: list[int]) -> tuple[Harm, list[Event]] | str:
@@ -76,7 +61,7 @@ def answer(data: bytes) -> tuple[str, str, int]:
     if isinstance(found, str):
         return f"{line}unbroken: no run was found in which a promise breaks\n{found}\n", "", status
     harm, script = found
-    words = f"{line}broken: {harm.words()}\n\n" + "".join(f"{it}\n" for it in in_words(plan.steps, script))
+    words = f"{line}broken: {harm_words(harm)}\n\n" + "".join(f"{it}\n" for it in in_words(plan.steps, script))
     return words, write_texts([*read_texts(data.decode())[:3], Script(tuple(script))]), status
 
 

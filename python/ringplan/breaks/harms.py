@@ -1,81 +1,101 @@
-"""What may be broken at the end of a run: the four promises of docs/DEFINITIONS.md, and the order of a slot's steps."""
-
-from __future__ import annotations
+"""What may be broken at the end of a run: the four promises of docs/DEFINITIONS.md, and the order of a slot's steps. And the words for a script."""
 
 from collections.abc import Sequence
-from dataclasses import dataclass
+from itertools import groupby
+from typing import NamedTuple
+
+from ringplan.texts import Step
 
 Slot = tuple[int, int]
 Event = tuple[str, ...]
+CLIENTS = {"put": "put", "write": "put", "ack": "put", "get": "get", "read": "get", "endget": "get"}
+# So many lines stand at the beginning and at the end of a long script.
+FIRST, LAST = 10, 30
 
 
-def listed(words: Sequence[object]) -> str:
-    """`1`, `1 and 2`, `1, 2 and 3`."""
-    *first, last = map(str, words)
-    return f"{', '.join(first)} and {last}" if first else last
-
-
-def slots_of(partition: int, slots: Sequence[int]) -> str:
-    return f"slot{'s' * (len(slots) > 1)} {listed(slots)} of partition {partition}"
-
-
-@dataclass(frozen=True)
-class Lost:
+class Lost(NamedTuple):
     """R slots of a partition do not have the run's put, which is acknowledged."""
-
     key: str
     partition: int
     slots: tuple[int, ...]
 
-    def words(self) -> str:
-        return f"an acknowledged put of {self.key} is not at {slots_of(self.partition, self.slots)}, and a get may read only {'these' if len(self.slots) > 1 else 'this'}"
 
-
-@dataclass(frozen=True)
-class Shared:
+class Shared(NamedTuple):
     """A node owns or mirrors two slots of a partition."""
-
     node: str
     partition: int
     slots: tuple[int, int]
 
-    def words(self) -> str:
-        return f"{self.node} serves {slots_of(self.partition, self.slots)} at once"
 
-
-@dataclass(frozen=True)
-class TooMany:
+class TooMany(NamedTuple):
     """A node has more transfers open than its allowance: of all transfers (`both`), or of those that it takes or gives."""
-
     node: str
     side: str
     open: int
     allowance: int
 
-    def words(self) -> str:
-        return f"{self.node} has {self.open} transfers{ {'both': '', 'take': ' to it', 'give': ' from it'}[self.side] } open, and it bears {self.allowance}"
 
-
-@dataclass(frozen=True)
-class Stranger:
+class Stranger(NamedTuple):
     """The owner or the mirror of a slot is not a member."""
-
     node: str
     slot: Slot
 
-    def words(self) -> str:
-        return f"{self.node} serves {slots_of(self.slot[0], [self.slot[1]])}, and is not a member"
 
-
-@dataclass(frozen=True)
-class OutOfTurn:
+class OutOfTurn(NamedTuple):
     """A step of a slot is done, and an earlier step of the slot is not."""
-
     earlier: int
     later: int
 
-    def words(self) -> str:
-        return f"step {self.later} is done before step {self.earlier}, which the slot needs first"
-
 
 Harm = Lost | Shared | TooMany | Stranger | OutOfTurn
+
+
+def slots(numbers: Sequence[object], partition: int | None = None) -> str:
+    """`slot 1`, `slots 0, 1 and 2 of partition 3`."""
+    *first, last = map(str, numbers)
+    return f"slot{'s' * bool(first)} {', '.join(first)}{' and ' * bool(first)}{last}{'' if partition is None else f' of partition {partition}'}"
+
+
+def harm_words(harm: Harm) -> str:
+    match harm:
+        case Lost(key, partition, lacking):
+            return f"an acknowledged put of {key} is not at {slots(lacking, partition)}, and a get may read only {'these' if len(lacking) > 1 else 'this'}"
+        case Shared(node, partition, served):
+            return f"{node} serves {slots(served, partition)} at once"
+        case TooMany(node, side, count, allowance):
+            return f"{node} has {count} transfers{({'both': '', 'take': ' to it', 'give': ' from it'})[side]} open, and it bears {allowance}"
+        case Stranger(node, slot):
+            return f"{node} serves {slots([slot[1]], slot[0])}, and is not a member"
+        case OutOfTurn(earlier, later):
+            return f"step {later} is done before step {earlier}, which the slot needs first"
+
+
+def step_words(steps: Sequence[Step], number: int) -> str:
+    step = steps[number]
+    if step.partition is None:
+        return f"{step.node} {'joins' if step.kind == 'join' else 'retires'}"
+    at, slot = slots([step.slot], step.partition), step.place()
+    mirror = next((it.node for it in reversed(steps[:number]) if it.kind == "mirror" and it.place() == slot), "no node")
+    read = f"the owner of {at} has" if step.slots is None else f"{slots(step.slots)} {'have' if len(step.slots) > 1 else 'has'}"
+    kinds = {"mirror": f"writes to {at} go to {step.node} too", "copy": f"{mirror} is given what {read}"}
+    return (kinds | {"switch": f"{mirror} owns {at}", "drop": f"{step.node} drops what it has of {at}"})[step.kind]
+
+
+def words_of(events: list[Event], steps: Sequence[Step]) -> str:
+    """The words of a put, a get, a loss, or the events of one step."""
+    word, *fields = events[0]
+    taken = [it[2] for it in events if it[0] in ("write", "read")]
+    if word == "put":
+        return f"a client puts {fields[1]}; {slots(taken)} take{'s' * (len(taken) < 2)} it, and it is acknowledged"
+    if word in ("get", "lose"):
+        return f"a get of {fields[0]} reads {slots(taken)}, and replies nothing" if word == "get" else f"{fields[0]} loses what it stores"
+    begins, ends = word in ("do", "open"), events[-1][0] in ("do", "close")
+    return f"step {fields[0]}{'' if begins and ends else ' ends' if ends else ' begins'}{f': {step_words(steps, int(fields[0]))}' if begins else ''}"
+
+
+def in_words(steps: Sequence[Step], script: Sequence[Event]) -> list[str]:
+    """A line for each put, step and loss, with the number of its first event."""
+    groups = [list(group) for _, group in groupby(enumerate(script, 1), key=lambda it: CLIENTS.get(it[1][0], it[1][1]))]
+    more = max(0, len(groups) - FIRST - LAST)
+    lines = [f"{group[0][0]:4}  {words_of([event for _, event in group], steps)}" for group in groups[:FIRST] + groups[FIRST + more :]]
+    return lines[:FIRST] + [f"  ..  {more} lines more; --script prints all events"] * bool(more) + lines[FIRST:]

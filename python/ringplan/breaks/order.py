@@ -1,26 +1,20 @@
 """Which steps of a plan wait for which, and who serves a slot when, if each slot's steps are done in the plan's order."""
 
-from __future__ import annotations
-
 import contextlib
 import graphlib
 from collections import defaultdict
 from collections.abc import Iterable, Iterator
-from dataclasses import dataclass, replace
+from typing import NamedTuple
 
 from ringplan.breaks.harms import Event, Slot
 from ringplan.texts import Plan, Ring, Step
 
-# The step that comes before all, and the one that comes after all.
-START, NEVER = -1, 2**32
-# The steps that are looked at in all while what steps wait for is gathered.
-VISITS = 5_000_000
+# The step that comes before all, the one that comes after all, and how many steps are looked at in all to find what steps wait for.
+START, NEVER, VISITS = -1, 2**32, 5_000_000
 
 
-@dataclass(frozen=True)
-class Stay:
+class Stay(NamedTuple):
     """A node serves a slot from the step `begin` on, owns it from the step `owns` on, and leaves it at the step `end`."""
-
     node: str
     slot: Slot
     begin: int = START
@@ -28,10 +22,8 @@ class Stay:
     end: int = NEVER
 
 
-@dataclass(frozen=True)
-class Transfer:
+class Transfer(NamedTuple):
     """A copy in which a node takes part, if the steps `needs` are done, and none of `until`."""
-
     copy: int
     needs: tuple[int, ...]
     until: tuple[int, ...]
@@ -47,30 +39,25 @@ class Order:
         for number, step in enumerate(self.steps):
             if step.partition is not None:
                 self.steps_of[step.place()].append(number)
-        # A node that never joins waits for a step that is not there.
         joins = {step.node: number for number, step in enumerate(self.steps) if step.kind == "join"}
         self.joins = {node.name: joins.get(node.name, NEVER) for node in ring.nodes if not node.is_in}
         self.stays = {(p, i): list(self.stays_of((p, i), owner)) for p, row in enumerate(ring.rows) for i, owner in enumerate(row)}
         self.waits = [self.waits_of(number, step) for number, step in enumerate(self.steps)]
         # The places of steps in an order in which they can be done. A step that can never be done has none.
         self.rank = self.ranks()
-        self.transfers: dict[str, list[Transfer]] = defaultdict(list)
-        for number in self.rank:
-            if self.steps[number].kind == "copy":
-                for node, transfer in self.transfers_of(number, self.steps[number]):
-                    self.transfers[node].append(transfer)
 
     def stays_of(self, slot: Slot, first: str) -> Iterator[Stay]:
-        owner, mirror = Stay(first, slot), None
+        # The owner, and the mirror if there is one.
+        stays = [Stay(first, slot)]
         for number in self.steps_of.get(slot, ()):
             step = self.steps[number]
-            if step.kind == "switch" and mirror:
-                yield replace(owner, end=number)
-                owner, mirror = replace(mirror, owns=number), None
+            if step.kind == "switch" and len(stays) > 1:
+                yield stays.pop(0)._replace(end=number)
+                stays[0] = stays[0]._replace(owns=number)
             elif step.kind == "mirror":
-                yield from [replace(mirror, end=number)] if mirror else []
-                mirror = Stay(step.node or "", slot, number, NEVER)
-        yield from [owner, mirror] if mirror else [owner]
+                yield from (it._replace(end=number) for it in stays[1:])
+                stays[1:] = [Stay(step.node or "", slot, number, NEVER)]
+        yield from stays
 
     def waits_of(self, number: int, step: Step) -> set[int]:
         nodes = {step.node} if step.kind in ("mirror", "drop") else set()
@@ -80,22 +67,26 @@ class Order:
         return {*step.after, *(self.joins[node] for node in nodes if node in self.joins)}
 
     def ranks(self) -> dict[int, int]:
-        sorter, rank = graphlib.TopologicalSorter({number: waits for number, waits in enumerate(self.waits)} | {NEVER: {NEVER}}), dict[int, int]()
+        # What waits for a node that never joins is in a circle.
+        sorter, rank = graphlib.TopologicalSorter({**dict(enumerate(self.waits)), NEVER: {NEVER}}), dict[int, int]()
         with contextlib.suppress(graphlib.CycleError):
             sorter.prepare()
         while ready := sorter.get_ready():
             rank |= {number: len(rank) + place for place, number in enumerate(ready)}
             sorter.done(*ready)
-        # Steps that wait for no later line keep the plan's order.
+        # The plan's own order will do if no step waits for a later one.
         return {number: number for number in sorted(rank)} if all(other < number for number in rank for other in self.waits[number]) else rank
 
-    def transfers_of(self, number: int, step: Step) -> Iterator[tuple[str, Transfer]]:
-        """The nodes that may take part in a copy. A node comes once for each of its stays at a slot that is copied or read."""
-        for stay in self.stays[step.place()]:
-            if stay.begin != START and stay.owns > number:
-                yield stay.node, Transfer(number, (*self.waits[number], stay.begin), (number, stay.owns, stay.end), True)
-        for stay in (it for slot in step.reads() for it in self.stays[slot] if it.owns != NEVER):
-            yield stay.node, Transfer(number, (*self.waits[number], stay.owns), (number, stay.end), False)
+    def transfers(self) -> dict[str, list[Transfer]]:
+        """By node, the copies in which it may take part. A copy comes once for each stay of the node at a slot that is copied or read."""
+        found: dict[str, list[Transfer]] = defaultdict(list)
+        for number in self.rank:
+            if (step := self.steps[number]).kind == "copy":
+                for stay in (it for it in self.stays[step.place()] if it.begin != START and it.owns > number):
+                    found[stay.node].append(Transfer(number, (*self.waits[number], stay.begin), (number, stay.owns, stay.end), True))
+                for stay in (it for slot in step.reads() for it in self.stays[slot] if it.owns != NEVER):
+                    found[stay.node].append(Transfer(number, (*self.waits[number], stay.owns), (number, stay.end), False))
+        return found
 
     def closure(self, steps: Iterable[int]) -> set[int] | None:
         """These steps and all that they wait for. None if one of them can never be done, or too many steps were looked at."""
@@ -116,22 +107,8 @@ class Order:
             if first not in self.waits[then] and (closure := self.closure([then])) and first not in closure:
                 yield first, then
 
-    def masks(self, marks: dict[int, int]) -> dict[int, int]:
-        """For each step the marks of all that it waits for, and its own, as bits."""
-        found = {START: 0}
-        for number in self.rank:
-            mask = marks.get(number, 0)
-            for other in self.waits[number]:
-                mask |= found[other]
-            found[number] = mask
-        return found
-
     def events(self, steps: Iterable[int]) -> Iterator[Event]:
         """The events that do these steps, in an order in which they can be done."""
         for number in sorted(steps, key=self.rank.__getitem__):
-            if self.steps[number].kind == "copy":
-                yield ("open", str(number))
-                yield from (("chunk", str(number), str(chunk)) for chunk in range(16))
-                yield ("close", str(number))
-            else:
-                yield ("do", str(number))
+            chunks = [("chunk", str(number), str(chunk)) for chunk in range(16)]
+            yield from [("open", str(number)), *chunks, ("close", str(number))] if self.steps[number].kind == "copy" else [("do", str(number))]
