@@ -32,7 +32,7 @@ PACKAGES := lib/python3/dist-packages
 # What says to Python's tools that the package is installed, and which commands it has.
 INFO := $(PACKAGES)/ringplan-$(VERSION).dist-info
 OURS := $(PACKAGES)/ringplan $(INFO) share/doc/ringplan
-COMMANDS := ringplan-run ringplan-import ringplan-merge
+COMMANDS := ringplan-run ringplan-import ringplan-merge ringplan-break
 SHELLS := share/bash-completion/completions share/fish/vendor_completions.d
 FILES := $(foreach it,ringplan $(COMMANDS),bin/$(it) share/man/man1/$(it).1 $(word 1,$(SHELLS))/$(it) $(word 2,$(SHELLS))/$(it).fish) $(ZSH)/_ringplan $(ZSH)/_ringplan-run \
     lib/libringplan.so lib/libringplan.so.$(CALLS) lib/pkgconfig/ringplan.pc include/ringplan.h
@@ -62,7 +62,8 @@ install: all
 	sed 's|@PYTHON@|$(PYTHON)|; s|@MODULE@|ringplan.run.__main__|' packaging/script.py.in > $(TO)/bin/ringplan-run
 	sed 's|@PYTHON@|$(PYTHON)|; s|@MODULE@|ringplan.importing|' packaging/script.py.in > $(TO)/bin/ringplan-import
 	sed 's|@PYTHON@|$(PYTHON)|; s|@MODULE@|ringplan.merging|' packaging/script.py.in > $(TO)/bin/ringplan-merge
-	chmod 755 $(TO)/bin/ringplan-run $(TO)/bin/ringplan-import $(TO)/bin/ringplan-merge
+	sed 's|@PYTHON@|$(PYTHON)|; s|@MODULE@|ringplan.breaks.__main__|' packaging/script.py.in > $(TO)/bin/ringplan-break
+	chmod 755 $(addprefix $(TO)/bin/,$(COMMANDS))
 	for it in $(COMMANDS); do packaging/man.py $(VERSION) $$it > $(TO)/share/man/man1/$$it.1 || exit; \
 	    echo "eval \"\$$(register-python-argcomplete $$it 2> /dev/null)\"" > $(TO)/$(word 1,$(SHELLS))/$$it; \
 	    echo "register-python-argcomplete --shell fish $$it 2> /dev/null | source" > $(TO)/$(word 2,$(SHELLS))/$$it.fish; done

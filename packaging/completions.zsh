@@ -1,4 +1,4 @@
-#compdef ringplan-run ringplan-import ringplan-merge
+#compdef ringplan-run ringplan-import ringplan-merge ringplan-break
 # By python3-argcomplete, if it is installed.
 autoload -U bashcompinit && bashcompinit
 eval "$(register-python-argcomplete $service 2> /dev/null)"

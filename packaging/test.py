@@ -209,7 +209,7 @@ def try_metadata(usr: pathlib.Path, scratch: pathlib.Path) -> None:
     version = run(PROGRAM, "--version").stdout.split()[1]
     found = does("the metadata", "/usr/bin/python3", "-c", METADATA, into=scratch, env={"PYTHONPATH": usr.parent / PACKAGES}).splitlines()
     files = [it for it in files_of(usr.parent / PACKAGES) if "__pycache__" not in it]
-    commands = "ringplan-import=ringplan.importing:main ringplan-merge=ringplan.merging:main ringplan-run=ringplan.run.__main__:main"
+    commands = "ringplan-break=ringplan.breaks.__main__:main ringplan-import=ringplan.importing:main ringplan-merge=ringplan.merging:main ringplan-run=ringplan.run.__main__:main"
     owes("the metadata", found == [f"{version} {commands}", str(len(files)), str(bool(LIBRARY))], found)
     owes("the copyright", "\nLicense: " in (usr / "share/doc/ringplan/copyright").read_text(), "no licence")
 
@@ -220,13 +220,15 @@ def try_python(usr: pathlib.Path, scratch: pathlib.Path) -> None:
     found = does("the import", "/usr/bin/python3", "-c", code, into=scratch, env={"PATH": f"{usr}/bin:{PLAIN['PATH']}", "PYTHONPATH": usr.parent / PACKAGES})
     owes("what is imported", found.split() == [f"{usr.parent}/{PACKAGES}/ringplan/__init__.py", f"{usr}/bin/ringplan"], found)
     try_metadata(usr, scratch)
-    for name in ("ringplan-import", "ringplan-merge", "ringplan-run"):
+    for name in ("ringplan-break", "ringplan-import", "ringplan-merge", "ringplan-run"):
         found = does(f"{name} --help", usr / "bin" / name, "--help", into=scratch)
         owes(f"{name} --help", found.startswith(f"usage: {name} "), found)
     ring = does("ringplan-import", usr / "bin/ringplan-import", "csv", "--read", 1, given="0,a,r1\n0,b,r2\n1,b,r2\n1,c,r3\n", into=scratch)
     owes("the ring", ring.startswith("ring 1\nspace 2\n"), ring)
     merged = does("ringplan-merge", usr / "bin/ringplan-merge", "-", given="1 put w k x = put a.1\n1 write a.1 0 = ticket 0 0 0\n", into=scratch)
     owes("the history", merged == "history 1\nput w k x = put 0\nwrite 0 0 = ticket 0 0 0\nend\n", merged)
+    broken = does("ringplan-break", usr / "bin/ringplan-break", usr / "share/doc/ringplan/examples/too_few_sources.bundle", status=1, into=scratch)
+    owes("what breaks", broken.startswith("no 23 2\nbroken: an acknowledged put "), broken)
     hooks = scratch / "hooks"
     hooks.mkdir()
     for kind in ("join", "mirror", "copy", "switch", "drop", "retire"):

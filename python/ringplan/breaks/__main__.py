@@ -73,8 +73,9 @@ def main() -> int:
     try:
         text, bundle, status = answer(sys.stdin.buffer.read() if words.file == "-" else pathlib.Path(words.file).read_bytes())
         # Without a script its reader gets nothing.
-        print(text, end="", file=sys.stderr if words.script and not bundle else sys.stdout) if not words.script or not bundle else print(bundle, end="")
-        sys.stdout.flush()
+        print(bundle if words.script else text, end="", flush=True)
+        said = "ringplan-break: there is no plan to run; `ringplan why` says what is wrong\n" if status == 2 else text if words.script and not bundle else ""
+        print(said, end="", file=sys.stderr)
     except BrokenPipeError:
         os.dup2(os.open(os.devnull, os.O_WRONLY), 1)
         return NO_FILE
