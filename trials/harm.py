@@ -174,15 +174,14 @@ class Trial:
         except TooLarge:
             self.counts["small, not searched in full"] += 1
             return
-        is_harmful = bool(harms - {"turn"}) or "turn" in harms
+        is_harmful = bool(harms)
         self.counts["small and harmful"] += is_harmful
         self.counts["small and harmless"] += not is_harmful
         if kind in KINDS and kind not in harms:
             self.fault(seed, f"the full search finds {sorted(harms)}, and the command {kind}", bundle)
-        if kind in KINDS and (kind != "turn" or harms == {"turn"}):
-            self.counts["small and found"] += 1
-        elif is_harmful:
-            self.counts["small and missed"] += 1
+        self.counts["small and found"] += kind in KINDS
+        self.counts["small and only found out of turn"] += kind == "turn" and harms != {"turn"}
+        if is_harmful and (kind not in KINDS or kind == "turn" and harms != {"turn"}):
             if "--missed" in sys.argv:
                 print(f"seed {seed}: missed {sorted(harms)}\n{bundle}")
 

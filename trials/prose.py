@@ -7,7 +7,7 @@ import sys
 
 TOP = pathlib.Path(__file__).resolve().parent.parent
 BUDGETS = {"README.md": 1300, "EVIDENCE.md": 3500, "DEFINITIONS.md": 5500, "DECISIONS.md": 4000, "ARCHITECTURE.md": 3500, "CHANGE.md": 1500, "RUNNING.md": 1500}
-OTHERS = 14650
+OTHERS = 15250
 # What no sentence has, and what it says instead.
 PHRASES = {
     # X is not a Y

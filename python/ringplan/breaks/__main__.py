@@ -61,7 +61,7 @@ def answer(data: bytes) -> tuple[str, str, int]:
     if isinstance(found, str):
         return f"{line}unbroken: no run was found in which a promise breaks\n{found}\n", "", status
     harm, script = found
-    words = f"{line}broken: {harm_words(harm)}\n\n" + "".join(f"{it}\n" for it in in_words(plan.steps, script))
+    words = f"{line}broken: {harm_words(harm)}\n\n" + "".join(f"{it}\n" for it in in_words(ring, plan.steps, script))
     return words, write_texts([*read_texts(data.decode())[:3], Script(tuple(script))]), status
 
 

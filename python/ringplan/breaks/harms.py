@@ -4,7 +4,7 @@ from collections.abc import Sequence
 from itertools import groupby
 from typing import NamedTuple
 
-from ringplan.texts import Step
+from ringplan.texts import Ring, Step
 
 Slot = tuple[int, int]
 Event = tuple[str, ...]
@@ -70,18 +70,21 @@ def harm_words(harm: Harm) -> str:
             return f"step {later} is done before step {earlier}, which the slot needs first"
 
 
-def step_words(steps: Sequence[Step], number: int) -> str:
+def step_words(ring: Ring, steps: Sequence[Step], number: int) -> str:
     step = steps[number]
     if step.partition is None:
         return f"{step.node} {'joins' if step.kind == 'join' else 'retires'}"
-    at, slot = slots([step.slot], step.partition), step.place()
-    mirror = next((it.node for it in reversed(steps[:number]) if it.kind == "mirror" and it.place() == slot), "no node")
-    read = f"the owner of {at} has" if step.slots is None else f"{slots(step.slots)} {'have' if len(step.slots) > 1 else 'has'}"
-    kinds = {"mirror": f"writes to {at} go to {step.node} too", "copy": f"{mirror} is given what {read}"}
-    return (kinds | {"switch": f"{mirror} owns {at}", "drop": f"{step.node} drops what it has of {at}"})[step.kind]
+    at, (partition, slot) = slots([step.slot], step.partition), step.place()
+    before = [it for it in steps[:number] if (it.partition, it.slot) == (partition, slot)]
+    # Who owns the slot at first, and who is mirrored later.
+    nodes = [ring.rows[partition][slot], *(it.node for it in before if it.kind == "mirror")]
+    owner = nodes[min(len(nodes) - 1, sum(it.kind == "switch" for it in before))]
+    read = f"{owner} has" if step.slots is None else f"{slots(step.slots)} {'have' if len(step.slots) > 1 else 'has'}"
+    kinds = {"mirror": f"writes to {at} go to {step.node} too", "copy": f"{nodes[-1]} is given what {read}"}
+    return (kinds | {"switch": f"{nodes[-1]} owns {at}", "drop": f"{step.node} drops what it has of {at}"})[step.kind]
 
 
-def words_of(events: list[Event], steps: Sequence[Step]) -> str:
+def words_of(ring: Ring, events: list[Event], steps: Sequence[Step]) -> str:
     """The words of a put, a get, a loss, or the events of one step."""
     word, *fields = events[0]
     taken = [it[2] for it in events if it[0] in ("write", "read")]
@@ -90,12 +93,12 @@ def words_of(events: list[Event], steps: Sequence[Step]) -> str:
     if word in ("get", "lose"):
         return f"a get of {fields[0]} reads {slots(taken)}, and replies nothing" if word == "get" else f"{fields[0]} loses what it stores"
     begins, ends = word in ("do", "open"), events[-1][0] in ("do", "close")
-    return f"step {fields[0]}{'' if begins and ends else ' ends' if ends else ' begins'}{f': {step_words(steps, int(fields[0]))}' if begins else ''}"
+    return f"step {fields[0]}{'' if begins and ends else ' ends' if ends else ' begins'}{f': {step_words(ring, steps, int(fields[0]))}' if begins else ''}"
 
 
-def in_words(steps: Sequence[Step], script: Sequence[Event]) -> list[str]:
+def in_words(ring: Ring, steps: Sequence[Step], script: Sequence[Event]) -> list[str]:
     """A line for each put, step and loss, with the number of its first event."""
     groups = [list(group) for _, group in groupby(enumerate(script, 1), key=lambda it: CLIENTS.get(it[1][0], it[1][1]))]
     more = max(0, len(groups) - FIRST - LAST)
-    lines = [f"{group[0][0]:4}  {words_of([event for _, event in group], steps)}" for group in groups[:FIRST] + groups[FIRST + more :]]
+    lines = [f"{group[0][0]:4}  {words_of(ring, [event for _, event in group], steps)}" for group in groups[:FIRST] + groups[FIRST + more :]]
     return lines[:FIRST] + [f"  ..  {more} lines more; --script prints all events"] * bool(more) + lines[FIRST:]

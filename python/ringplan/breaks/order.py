@@ -107,6 +107,10 @@ class Order:
             if first not in self.waits[then] and (closure := self.closure([then])) and first not in closure:
                 yield first, then
 
+    def ends(self, *stays: Stay) -> list[int]:
+        """The ends of stays at slots whose steps are in order. Of others the judge says who serves them."""
+        return [stay.end for stay in stays if not any(True for _ in self.gaps(stay.slot))]
+
     def events(self, steps: Iterable[int]) -> Iterator[Event]:
         """The events that do these steps, in an order in which they can be done."""
         for number in sorted(steps, key=self.rank.__getitem__):

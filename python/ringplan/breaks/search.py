@@ -34,7 +34,7 @@ class Hunt:
     def searched(self) -> str:
         """What was looked at, in words."""
         cut = "" if self.is_whole and self.order.visits <= VISITS else ". The plan is large, so some of it was left out"
-        return f"searched: who serves which slot when, the transfers of each node, and {self.worlds} worlds of {len(self.partitions)} partitions with a put{cut}"
+        return f"searched: who serves which slot when, the transfers of each node, and {self.worlds} worlds of puts{cut}"
 
     def after(self, harm: Harm, steps: Iterable[int], without: Iterable[int], then: Iterable[Event] = ()) -> Iterator[Found]:
         """The script that does these steps with what they wait for, and then more, if that needs no step of the others."""
@@ -50,14 +50,14 @@ class Hunt:
             pairs += ((other, stay) for other in before if other.slot != stay.slot)
             before.append(stay)
         for one, other in sorted(pairs, key=lambda pair: self.step not in (pair[0].begin, pair[1].begin)):
-            yield from self.after(Shared(one.node, one.slot[0], (one.slot[1], other.slot[1])), [one.begin, other.begin], [one.end, other.end])
+            yield from self.after(Shared(one.node, one.slot[0], (one.slot[1], other.slot[1])), [one.begin, other.begin], self.order.ends(one, other))
 
     def strangers(self) -> Iterator[Found]:
         """A node that serves a slot, and has retired."""
         retirements = {step.node: number for number, step in enumerate(self.order.steps) if step.kind == "retire"}
         pairs = [(retirements[stay.node], stay) for stays in self.order.stays.values() for stay in stays if stay.node in retirements]
         for retirement, stay in sorted(pairs, key=lambda pair: self.step not in (pair[0], pair[1].begin)):
-            yield from self.after(Stranger(stay.node, stay.slot), [retirement, stay.begin], [stay.end])
+            yield from self.after(Stranger(stay.node, stay.slot), [retirement, stay.begin], self.order.ends(stay))
 
     def transfers(self) -> Iterator[Found]:
         """More copies of a node than it bears, which may be open at once."""

@@ -87,7 +87,7 @@ class Search:
             for slots in itertools.combinations(range(self.n), self.w):
                 yield ("put", *map(str, slots)), world._replace(has_put=True, views=tuple(view.written(slots) for view in world.views))
         elif world.losses < self.losses:
-            for node in {node for view in world.views for node, _ in view.has if node}:
+            for node in sorted({node for view in world.views for node, _ in view.has if node}):
                 views = tuple(view._replace(has=frozenset(it for it in view.has if it[0] != node)) for view in world.views)
                 yield ("lose", node), world._replace(losses=world.losses + 1, views=views)
 
