@@ -143,6 +143,8 @@ class Trial:
             self.fault(seed, f"{words}, and the script {script[:200]!r}", bundle)
         if words.startswith("unbroken: the plan keeps"):
             self.counts["certified"] += 1
+            if status and ask(["check"], ask(["cert"], bundle)[0])[0] != "yes\n":
+                self.fault(seed, "the certificate that cert makes is refused", bundle)
             return "certificate"
         if not words.startswith("broken: "):
             self.counts["cut short"] += "left out" in out

@@ -110,7 +110,7 @@ class Machine:
         self.reached = set(ring.members)
         self.generation: dict[Slot, int] = defaultdict(int)
         # For each slot with a mirror: what its generation has risen by because of that mirror.
-        self.by_mirror: dict[Slot, int] = {}
+        self.by_mirror: dict[Slot, int] = defaultdict(int)
         self.stored: dict[tuple[str, Slot], set[int]] = defaultdict(set)
         self.hinted: dict[tuple[str, Slot], set[int]] = defaultdict(set)
         # Slots that a node must be cleared of when it is seen again.

@@ -3,6 +3,7 @@
 Nodes do not go down, and nothing is hinted: an outage only refuses events, and a hint only adds to what a slot has.
 """
 
+import itertools
 from collections import defaultdict
 from collections.abc import Iterable, Iterator
 from functools import reduce
@@ -21,7 +22,7 @@ class Hunt:
     """Scripts that may break something, those first that a refusal points to: its number, and its step or node."""
 
     def __init__(self, order: Order, number: int, value: int = 0) -> None:
-        self.order, self.worlds, self.partitions, self.is_whole = order, 0, dict[int, None](), True
+        self.order, self.worlds, self.is_whole = order, 0, True
         self.node, self.step = (order.ring.nodes[value].name, START - 1) if number == 34 else ("", value if number < 28 else START - 1)
         kinds = {"lost": self.lost, "shared": self.shared, "strangers": self.strangers, "transfers": self.transfers}
         first = {24: "transfers", 25: "shared", 26: "strangers", 27: "strangers", 34: "transfers"}.get(number, "lost")
@@ -96,26 +97,20 @@ class Hunt:
                 stack += [(chosen, rest), ([*chosen, a], beside)]
 
     def lost(self) -> Iterator[Found]:
-        """An acknowledged put that R slots do not have. First come the slots that a step is about, then whole partitions."""
-        named = [self.step] if self.step >= 0 and self.order.steps[self.step].partition is not None else []
-        for number in (*named, *self.suspects()):
-            p, i = self.order.steps[number].place()
-            self.partitions[p] = None
-            read = {j for it in self.order.steps_of[p, i] if self.order.steps[it].slots for _, j in self.order.steps[it].reads()}
-            yield from self.by(Search(self.order, p, {i} | read))
-        for p in self.partitions:
-            yield from self.by(Search(self.order, p, range(len(self.order.ring.rows[p]))))
-
-    def suspects(self) -> Iterator[int]:
-        """Steps that may be done too early, and copies of too few slots."""
-        for slot, numbers in self.order.steps_of.items():
-            yield from (then for _, then in self.order.gaps(slot))
-            yield from (number for number in numbers if self.order.steps[number].slots and len(self.order.steps[number].reads()) < self.order.ring.quorum[1])
+        """An acknowledged put that R slots do not have. First come the slots of steps that may be done too early, with those that they read; then whole partitions."""
+        order = self.order
+        early = [then for slot in order.steps_of for _, then in order.gaps(slot)]
+        named = [self.step] if self.step >= 0 and order.steps[self.step].partition is not None else []
+        for p, i in dict.fromkeys(order.steps[number].place() for number in named + early):
+            yield from self.by(Search(order, p, {i}.union(j for it in order.steps_of[p, i] if order.steps[it].slots for _, j in order.steps[it].reads())))
+        for p in dict.fromkeys(order.steps[number].place()[0] for number in [*named, *early, *itertools.chain(*order.steps_of.values())]):
+            if self.worlds < WORLDS:
+                yield from self.by(Search(order, p, range(len(order.ring.rows[p]))))
 
     def by(self, search: Search) -> Iterator[Found]:
         yield from search.find(WORLDS - self.worlds)
         self.worlds += search.seen
-        self.is_whole &= not search.queue
+        self.is_whole &= not search.queue and self.worlds < WORLDS
 
     def out_of_turn(self) -> Iterator[Found]:
         gaps = [gap for slot in self.order.steps_of for gap in self.order.gaps(slot)]
