@@ -57,7 +57,8 @@ def answer(data: bytes) -> tuple[str, str, int]:
     if certified.returncode == 0:
         return f"{line}unbroken: the plan keeps its promises{CERTIFIED * status}\n", "", status
     ring, plan = read_plan(data.decode())
-    found = find_break(ring, plan, [int(word) for word in certified.stderr.split(b"\n")[0].split()[1:]])
+    refusal = [int(word) for word in certified.stderr.decode().split("\n")[0].split(" ") if word.isdigit()]
+    found = find_break(ring, plan, refusal or [0])
     if isinstance(found, str):
         return f"{line}unbroken: no run was found in which a promise breaks\n{found}\n", "", status
     harm, script = found
