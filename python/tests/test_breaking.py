@@ -174,3 +174,23 @@ def test_the_judge_refuses_what_is_not_so() -> None:
     assert not [harm for harm in others if shows(frame, script, harm)]
     wrong = [("close", "2"), ("do", "2"), ("open", "3"), ("ack", "0"), ("lose", "a"), ("put", "w1", "k0", "x31"), ("chunk", "2", "3"), ("up", "a")]
     assert not [event for event in wrong if shows(frame, [*script, event], Lost("k0", 0, (1, 2)))]
+
+
+def test_a_plan_of_a_hundred_thousand_steps() -> None:
+    """Each of 4,096 partitions of 7 slots goes from 64 nodes to 64 others. One copy in the middle does not wait for its mirror."""
+    old, new = [f"a{k}" for k in range(64)], [f"b{k}" for k in range(64)]
+    lines = ["ring 1", "space 4096", "quorum 7 3 5", *(f"node {it} 4 in" for it in old), *(f"node {it} 4 out" for it in new)]
+    lines += [f"slots {p} " + " ".join(old[(p + 9 * i) % 64] for i in range(7)) for p in range(4096)]
+    lines += ["end", "change 1", *(f"join {it}" for it in new), *(f"leave {it}" for it in old), "end", ""]
+    try:
+        rows = programs.ask("goal", "\n".join(lines)).text.split("\n")
+    except programs.NoProgram as error:
+        pytest.skip(str(error))
+    copies = [place for place, row in enumerate(rows) if row.startswith("copy ")]
+    rows[copies[len(copies) // 2]] = rows[copies[len(copies) // 2]].split(" after")[0]
+    words, bundle, status = answer("\n".join(rows).encode())
+    assert len(copies) == 28672 and status == 1
+    assert words.split("\n")[0].startswith("no 22 ") and words.split("\n")[1].startswith("broken: an acknowledged put of ")
+    # The mirror waits for thousands of steps: the words are cut short, and the script is not.
+    assert len(words.split("\n")) < 50 and " lines more; --script prints all events" in words
+    assert len(script_of(bundle)) > 10_000
