@@ -1,6 +1,7 @@
-"""A full search of a small plan: whether some run breaks a promise, by both readings of a slot's stage. It shares nothing with the package's search but the texts.
+"""A full search of a small plan: whether some run breaks a promise, by both readings of a slot's stage. It shares only the texts with the package's search.
 
-All worlds are looked at to which steps lead, the chunks and ends of copies, the writes of one put to slots one by one, its acknowledgement, and losses. Nodes do not go down, and nothing is hinted.
+It looks at all worlds to which events lead: steps, the chunks and ends of copies, the writes of one put to slots one by one, its acknowledgement, and
+losses. Nodes do not go down, and nothing is hinted.
 """
 
 import pathlib

@@ -1,11 +1,15 @@
 #!/usr/bin/env python3
-"""Tries `ringplan-break` on random plans, most of them with a fault; it wants the program as it is built. `trials/harm.py SEEDS` draws so many refused plans, else 300.
+"""Tries `ringplan-break` on random plans, most of them with a fault; it wants the program as it is built. `trials/harm.py SEEDS` draws so many refused
+plans, else 300.
 
-Owed: the first line and the status are those of `check`. Each script is a run by the machine of trials/machine.py, and by another that reads a slot's stage as the definitions do, and what the words say is
-broken at its end by both. Of some scripts no event can be left out. For an accepted plan there is no script, nor for one to whose certificate `check` says yes. Small plans are searched in full, by
-trials/full.py: scripts are found for 98 of 100 that it finds harmful, and for none of the others.
+Owed: the first line and the status are those of `check`. Each script is a run by the machine of trials/machine.py, and by one that reads a slot's stage as
+the definitions do. What the words say is broken is so at the run's end by both. Of some scripts each event is left out in turn: the rest does not do the
+harm. There is no script for an accepted plan, nor for one for which `cert` makes a certificate to which `check` says yes. Small plans are searched in full
+by trials/full.py: a script is found for 98 of 100 that it finds harmful, and for no other.
 
-It prints a table: by the number that `check` answers, how many plans break a promise, or only do a step out of turn; how many lack only a certificate; and for how many no harm is found."""
+It prints a table: by the number that `check` answers, what the plans break. With --missed it prints small plans for which it finds more harm than the
+command.
+"""
 import os
 import pathlib
 import random
@@ -28,7 +32,9 @@ os.environ["ringplan"] = RUN
 PYTHON = str(pathlib.Path(__file__).resolve().parent.parent / "python")
 # The worlds of a small plan's full search, and the longest scripts from which each event is left out.
 WORLDS, LONGEST = 20_000, 300
-KINDS = {"lost": "an acknowledged put", "shared": "serves .* at once", "transfers": "transfers .*open", "stranger": "is not a member", "turn": "is done before step"}
+# What the words of each kind of harm say.
+KINDS = {"lost": "an acknowledged put", "shared": "serves .* at once", "transfers": "transfers .*open"}
+KINDS |= {"stranger": "is not a member", "turn": "is done before step"}
 
 
 class ByCount(Machine):
@@ -79,7 +85,8 @@ def happens(machine: Machine, event: Sequence[str]) -> bool:
         return machine.lose(fields[0])
     if word in ("write", "ack") and not machine.puts:
         return False
-    call = {"do": machine.do, "open": machine.open_copy, "chunk": machine.chunk, "close": machine.close, "write": machine.write, "ack": machine.ack, "read": machine.read, "endget": machine.end_get}
+    call = {"do": machine.do, "open": machine.open_copy, "chunk": machine.chunk, "close": machine.close}
+    call |= {"write": machine.write, "ack": machine.ack, "read": machine.read, "endget": machine.end_get}
     return bool(call[word](*map(int, fields)))  # type: ignore[operator]
 
 

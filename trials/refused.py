@@ -1,4 +1,6 @@
-"""Random plans of random rings, most of them with a fault: a plan with all dependencies that it needs, of which some are left out, and whose sources, joins, nodes, steps or chains are changed."""
+"""Random plans of random rings, most of them with a fault. A plan is written with all dependencies that it needs. Then some of them are left out, or its
+sources, joins, nodes, steps or chains are changed.
+"""
 
 import pathlib
 import random

@@ -1,4 +1,6 @@
-"""What the examples that are refused break: kinds of harm, scripts that the program reads, plans that keep their promises, input that is no plan, and the judge of scripts."""
+"""What refused plans break: kinds of harm, scripts that the program reads, plans that keep their promises, input that is not a plan, and the judge of
+scripts.
+"""
 
 from __future__ import annotations
 
@@ -170,7 +172,8 @@ def test_the_judge_needs_each_event(name: str, harm: Harm) -> None:
 def test_the_judge_refuses_what_is_not_so() -> None:
     bundle = ask("too_few_sources")[1]
     frame, script = Frame(*read_plan(bundle)), script_of(bundle)[:-4]
-    others: list[Harm] = [Lost("k0", 0, (0, 1)), Lost("k0", 0, (1,)), Lost("k0", 1, (1, 2)), Shared("d", 0, (1, 1)), Stranger("d", (0, 1)), OutOfTurn(2, 3), TooMany("a", "both", 0, 4)]
+    others: list[Harm] = [Lost("k0", 0, (0, 1)), Lost("k0", 0, (1,)), Lost("k0", 1, (1, 2)), Shared("d", 0, (1, 1)), Stranger("d", (0, 1))]
+    others += [OutOfTurn(2, 3), TooMany("a", "both", 0, 4)]
     assert not [harm for harm in others if shows(frame, script, harm)]
     wrong = [("close", "2"), ("do", "2"), ("open", "3"), ("ack", "0"), ("lose", "a"), ("put", "w1", "k0", "x31"), ("chunk", "2", "3"), ("up", "a")]
     assert not [event for event in wrong if shows(frame, [*script, event], Lost("k0", 0, (1, 2)))]

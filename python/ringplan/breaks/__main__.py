@@ -1,7 +1,7 @@
 """Looks for a run in which a refused plan does harm: `ringplan-break FILE [--script]`.
 
-The proved program judges the plan and looks for a certificate. If there is none, a search looks for a script at whose end a promise is broken, and a plain machine judges the script. What is printed can be
-followed by hand. If nothing is found, that proves nothing.
+The proved program judges the plan and looks for a certificate. If there is none, a search looks for a script at whose end a promise is broken, and a plain
+machine judges the script. What is printed can be followed by hand. If nothing is found, that proves nothing.
 """
 
 import argparse
@@ -19,6 +19,7 @@ from ringplan.texts import Plan, Ring, Script, read_plan, read_texts, write_text
 NO_FILE = 3
 # A longer script is not made shorter.
 LONGEST = 2_000
+NO_PLAN = "ringplan-break: there is no plan to run; `ringplan why` says what is wrong\n"
 CERTIFIED = "; `ringplan cert` makes a certificate to which the checker says yes"
 
 
@@ -73,10 +74,9 @@ def main() -> int:
     words = parser.parse_args()
     try:
         text, bundle, status = answer(sys.stdin.buffer.read() if words.file == "-" else pathlib.Path(words.file).read_bytes())
-        # Without a script its reader gets nothing.
+        # Without a script its reader gets nothing, and the words go to standard error.
         print(bundle if words.script else text, end="", flush=True)
-        said = "ringplan-break: there is no plan to run; `ringplan why` says what is wrong\n" if status == 2 else text if words.script and not bundle else ""
-        print(said, end="", file=sys.stderr)
+        print(text if words.script and not bundle else "", NO_PLAN if status == 2 else "", sep="", end="", file=sys.stderr)
     except BrokenPipeError:
         os.dup2(os.open(os.devnull, os.O_WRONLY), 1)
         return NO_FILE

@@ -1,9 +1,11 @@
 """A plain machine that judges a script: whether each event is allowed, and whether a harm is there at its end.
 
-It knows the events `do`, `open`, `chunk`, `close`, `put`, `write`, `ack` and `lose`, as docs/DEFINITIONS.md has them, and one put. There are no hints, and no node is down. It shares no code with the search.
+It knows the events `do`, `open`, `chunk`, `close`, `put`, `write`, `ack` and `lose`, as docs/DEFINITIONS.md has them, and one put. There are no hints, and
+no node is down. It shares no code with the search.
 
-A slot's stage has two readings. By the definitions it is the stage after as many of the slot's steps as are done. By the order it is what the done steps made of the slot, in the order in which they were
-done, as in a real store. Both are one if the slot's steps are done in the plan's order. A script shows a harm only if it does so by both.
+A slot's stage has two readings. By the definitions it is the stage after as many of the slot's steps as are done. By the order it is what the done steps
+made of the slot, in the order in which they were done, as in a real store. Both are one if the slot's steps are done in the plan's order. A script has to
+show a harm by both.
 """
 
 from collections import Counter, defaultdict
@@ -37,7 +39,8 @@ class Frame:
         self.n, self.r, self.w, *losses = ring.quorum
         self.losses = sum(losses)
         self.members = {node.name for node in ring.nodes if node.is_in}
-        self.bears = {(node.name, side): it for node in ring.nodes for side, it in zip(["both"] if len(node.allowances) == 1 else ["take", "give"], node.allowances)}
+        sides = {1: ["both"], 2: ["take", "give"]}
+        self.bears = {(node.name, side): it for node in ring.nodes for side, it in zip(sides[len(node.allowances)], node.allowances)}
         self.stages: dict[Slot, Stage] = {(p, i): (owner, None) for p, row in enumerate(ring.rows) for i, owner in enumerate(row)}
         self.steps_of: dict[Slot, list[int]] = defaultdict(list)
         # By copy, the nodes that take part in it by the order of the plan's lines.
@@ -57,7 +60,8 @@ class World:
     def __init__(self, frame: Frame, by_count: bool) -> None:
         self.frame, self.by_count, self.losses = frame, by_count, 0
         self.done, self.open, self.marks = set[int](), set[int](), set[tuple[int, int]]()
-        self.up, self.members, self.stages, self.counts, self.generations = set(frame.members), set(frame.members), dict(frame.stages), Counter[Slot](), Counter[Slot]()
+        self.up, self.members, self.stages = set(frame.members), set(frame.members), dict(frame.stages)
+        self.counts, self.generations = Counter[Slot](), Counter[Slot]()
         # The partition and the chunk of the put, who has it, the generations of slots when they were written, and whether it is acknowledged.
         self.put, self.stored, self.tickets, self.is_acked = (-1, -1), set[tuple[str, Slot]](), dict[Slot, int](), False
 

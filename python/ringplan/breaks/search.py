@@ -97,7 +97,7 @@ class Hunt:
                 stack += [(chosen, rest), ([*chosen, a], beside)]
 
     def lost(self) -> Iterator[Found]:
-        """An acknowledged put that R slots do not have. First come the slots of steps that may be done too early, with those that they read; then whole partitions."""
+        """An acknowledged put that R slots do not have. First come slots whose steps may be done too early, with what they read; then whole partitions."""
         order = self.order
         early = [then for slot in order.steps_of for _, then in order.gaps(slot)]
         named = [self.step] if self.step >= 0 and order.steps[self.step].partition is not None else []

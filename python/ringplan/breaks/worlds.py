@@ -1,6 +1,7 @@
 """A search for a run in which an acknowledged put is lost: breadth first over what is done of some slots of a partition, with one put.
 
-The put is written and acknowledged at once, at exactly W slots. A copy is two moves: it gives the put's chunk, and it ends. Other steps are done when they are waited for.
+The put is written and acknowledged at once, at exactly W slots. A copy is two moves: it gives the put's chunk, and it ends. Other steps are done when they
+are waited for.
 """
 
 from __future__ import annotations
@@ -22,7 +23,7 @@ class View(NamedTuple):
     has: frozenset[tuple[str | None, int]] = frozenset()
 
     def after(self, step: Step, i: int) -> View:
-        """After a step of slot i that is no copy."""
+        """After a step of slot i that is not a copy."""
         owner, mirror = self.owners[i], self.mirrors[i]
         if step.kind == "mirror":
             mirror = step.node
@@ -61,7 +62,8 @@ class Search:
         is_ordered = not any(True for i in range(self.n) for _ in order.gaps((partition, i)))
         self.key = next(key for key in map("k{}".format, itertools.count()) if place(key, len(order.ring.rows))[0] == partition)
         first = World(0, 0, False, 0, (View(order.ring.rows[partition], (None,) * self.n),) * (1 if is_ordered else 2))
-        # The worlds that were found, each with the world and the move that led to it first. A move is `do` or `chunk` and a step, `put` and slots, or `lose` and a node.
+        # The worlds that were found, each with the world and the move that led to it first.
+        # A move is `do` or `chunk` and a step, `put` and slots, or `lose` and a node.
         self.came: dict[World, tuple[World, Event] | None] = {first: None}
         self.queue, self.seen = deque([first]), 0
 
