@@ -126,7 +126,9 @@ def is_shown(ring: texts.Ring, plan: texts.Plan, events: Sequence[Sequence[str]]
     members = {node.name for node in ring.nodes if node.is_in}
     given = Ring(ring.form, list(allowances), allowances, ring.quorum, members, [list(row) for row in ring.rows])
     machines = [kind(given, plan.steps) for kind in (Machine, ByCount)]
-    return all(all(happens(machine, event) for event in events) and has(machine, words, allowances) for machine in machines)
+    are_runs = all(happens(machine, event) for machine in machines for event in events)
+    # The get at the end of a script finds nothing.
+    return are_runs and all(has(machine, words, allowances) and all(get.reply == [] for get in machine.gets) for machine in machines)
 
 
 class Trial:

@@ -160,8 +160,9 @@ class World:
         """Whether the harm is there now."""
         match harm:
             case Lost(_, p, lacking):
-                is_there = self.is_acked and self.put[0] == p and len(set(lacking)) == self.frame.r
-                return is_there and all((self.stages[p, i][0], (p, i)) not in self.stored for i in lacking)
+                # A get reads owners that are up.
+                owners = [(self.stages[p, i][0], (p, i)) for i in set(lacking)] if self.is_acked and self.put[0] == p else []
+                return len(owners) == self.frame.r and all(owner in self.up for owner, _ in owners) and self.stored.isdisjoint(owners)
             case Shared(node, p, served):
                 return len(set(served)) == 2 and all(node in self.nodes((p, i)) for i in served)
             case TooMany(node, side, count, allowance):
