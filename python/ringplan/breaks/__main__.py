@@ -39,7 +39,7 @@ def shorten(frame: Frame, harm: Harm, script: list[Event]) -> list[Event]:
 def find_break(ring: Ring, plan: Plan, refusal: list[int]) -> tuple[Harm, list[Event]] | str:
     """What breaks, with a script; or what was searched in vain."""
     frame, hunt = Frame(ring, plan), Hunt(Order(ring, plan), *refusal[:2])
-    for harm, script in hunt.found():
+    for harm, script in hunt.found:
         if shows(frame, script, harm):
             script = shorten(frame, harm, script)
             if isinstance(harm, Lost):

@@ -1,4 +1,4 @@
-"""What may be broken at the end of a run: the four promises of docs/DEFINITIONS.md, and the order of a slot's steps. And the words for a script."""
+"""What a run of a refused plan may break: statements that hold at every moment of every run of an accepted one. And the words for a script."""
 
 from collections.abc import Sequence
 from itertools import groupby

@@ -79,7 +79,10 @@ class World:
                 self.put = place(key, self.frame.partitions)
                 return True
             case ("write", "0", i) if self.put != (-1, -1):
-                return self.write((self.put[0], int(i)))
+                slot = (self.put[0], int(i))
+                self.stored |= {(node, slot) for node in self.nodes(slot)}
+                self.tickets[slot] = self.generations[slot]
+                return self.up >= self.nodes(slot)
             case ("ack", "0") if not self.is_acked:
                 self.is_acked = sum(self.generations[slot] == ticket for slot, ticket in self.tickets.items()) >= self.frame.w
                 return self.is_acked
@@ -142,11 +145,6 @@ class World:
         self.open.discard(number)
         self.finish(number, self.frame.steps[number])
         return True
-
-    def write(self, slot: Slot) -> bool:
-        self.stored |= {(node, slot) for node in self.nodes(slot)}
-        self.tickets[slot] = self.generations[slot]
-        return self.up >= self.nodes(slot)
 
     def lose(self, node: str) -> bool:
         if node not in self.members or self.losses == self.frame.losses:

@@ -26,11 +26,7 @@ class Hunt:
         self.node, self.step = (order.ring.nodes[value].name, START - 1) if number == 34 else ("", value if number < 28 else START - 1)
         kinds = {"lost": self.lost, "shared": self.shared, "strangers": self.strangers, "transfers": self.transfers}
         first = {24: "transfers", 25: "shared", 26: "strangers", 27: "strangers", 34: "transfers"}.get(number, "lost")
-        self.kinds = [kinds.pop(first), *kinds.values(), self.out_of_turn]
-
-    def found(self) -> Iterator[Found]:
-        for kind in self.kinds:
-            yield from kind()
+        self.found = itertools.chain.from_iterable(kind() for kind in [kinds.pop(first), *kinds.values(), self.out_of_turn])
 
     def searched(self) -> str:
         """What was looked at, in words."""

@@ -34,9 +34,6 @@ class View(NamedTuple):
     def copied(self, slots: Iterable[int], i: int) -> View:
         return self._replace(has=self.has | {(self.mirrors[i], i)}) if self.mirrors[i] and any((self.owners[j], j) in self.has for j in slots) else self
 
-    def written(self, slots: Iterable[int]) -> View:
-        return self._replace(has=frozenset((node, i) for i in slots for node in (self.owners[i], self.mirrors[i])))
-
 
 class World(NamedTuple):
     """The steps that are done and the copies that gave the put's chunk, as bits; whether there is a put; the losses; and the slots by each reading."""
@@ -87,11 +84,12 @@ class Search:
                 yield self.go_on(world, k, number)
         if not world.has_put:
             for slots in itertools.combinations(range(self.n), self.w):
-                yield ("put", *map(str, slots)), world._replace(has_put=True, views=tuple(view.written(slots) for view in world.views))
+                views = [view._replace(has=frozenset((node, i) for i in slots for node in (view.owners[i], view.mirrors[i]))) for view in world.views]
+                yield ("put", *map(str, slots)), world._replace(has_put=True, views=tuple(views))
         elif world.losses < self.losses:
             for node in sorted({node for view in world.views for node, _ in view.has if node}):
-                views = tuple(view._replace(has=frozenset(it for it in view.has if it[0] != node)) for view in world.views)
-                yield ("lose", node), world._replace(losses=world.losses + 1, views=views)
+                views = [view._replace(has=frozenset(it for it in view.has if it[0] != node)) for view in world.views]
+                yield ("lose", node), world._replace(losses=world.losses + 1, views=tuple(views))
 
     def go_on(self, world: World, k: int, number: int) -> tuple[Event, World]:
         """A step is done, or of a copy that did not give the put's chunk this is given."""
