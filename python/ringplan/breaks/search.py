@@ -100,7 +100,7 @@ class Hunt:
         for p, i in dict.fromkeys(order.steps[number].place() for number in named + early):
             yield from self.by(Search(order, p, {i}.union(j for it in order.steps_of[p, i] if order.steps[it].slots for _, j in order.steps[it].reads())))
         for p in dict.fromkeys(order.steps[number].place()[0] for number in [*named, *early, *itertools.chain(*order.steps_of.values())]):
-            if self.worlds < WORLDS:
+            if self.worlds < WORLDS and order.visits <= VISITS:
                 yield from self.by(Search(order, p, range(len(order.ring.rows[p]))))
 
     def by(self, search: Search) -> Iterator[Found]:
