@@ -4,6 +4,7 @@ pub mod Openings
 pub mod Fronts
 pub mod Rooms
 pub mod Readings
+pub mod Cuttings
 pub mod Resumes
 pub mod Takings
 pub mod Pieces

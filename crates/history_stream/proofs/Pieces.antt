@@ -6,7 +6,7 @@ use Rattle.std.proofs.KnownBytes.{Consumes-nil, Consumes-trans}
 use Rattle.std.proofs.lemmas.List.Elements.{All-from_recursion}
 use Rattle.std.proofs.lemmas.List.Splits.{slice_split_none}
 use Rattle.ring_names.specs.declared.refusal.Refusal.{Refusal}
-use Rattle.ring_names.specs.declared.refusal.Refusal.TheVariants.{BadLine, OutOfMemory, ReadFailed}
+use Rattle.ring_names.specs.declared.refusal.Refusal.TheVariants.{BadLine, OutOfMemory, ReadFailed, TooLarge}
 use Rattle.texts.specs.Judging.{map_ok}
 use Rattle.texts.specs.Parts.{fields_of, lines_of}
 use Rattle.texts.specs.Left.{Left, ◌>>=◌, begins_so, next_number, one_line, over_at}
@@ -14,15 +14,17 @@ use Rattle.texts.specs.Frames.{end_line_at}
 use Rattle.texts.proofs.Cuts.{over}
 use Rattle.texts.proofs.Texts.{appended}
 use Rattle.ring_table.specs.Value.{RingValue}
+use Rattle.plan_runs.specs.declared.event.Entry.{Entry}
 use Rattle.history_text.specs.Said.{SaidEntry}
+use Rattle.history_stream.specs.declared.cutter.Cutter.{Cutter}
 use Rattle.history_stream.specs.declared.reader.Reader.{Reader}
 use Rattle.history_stream.specs.declared.reader.Stage.TheVariants.{First, Entries, Over}
-use Rattle.history_stream.specs.Input.{Tells, IsOutside, IsNext}
+use Rattle.history_stream.specs.Input.{Tells, IsOutside, IsNext, max_input}
 use Rattle.history_stream.specs.Reading.{IsReadTo, Point, goes_on, read_from, rest_at, resume_at}
-use Rattle.history_parts.specs.Parts.{is_marked}
-use Rattle.history_stream.specs.State.{Begun, IsReading, IsRun, Refuses, Stops, Takes, lines_and, point_of}
+use Rattle.history_stream.specs.State.{IsReading, IsRun, Refuses, Stops, StopsAfter, Takes, TakesSome, lines_and, point_of}
+use Rattle.history_stream.specs.Cutter.{Begun, Cuts, CutsSome, IsCutting}
 use Rattle.history_stream.proofs.Inputs.{same_end}
-use Rattle.history_stream.specs.Cutting.{TakesSome, StopsSome, ReadsAll}
+use Rattle.history_stream.specs.Cutting.{ReadsAll}
 
 abbrev at : ℕ → List (List (List ℕ)) → Left
 at k lines = record { line = k; lines = lines }
@@ -64,15 +66,16 @@ end_over ring said k left b e = ap (λ (t : Bool). ◌>>=◌ {B = List SaidEntry
 
 -- ---- piece after piece
 
--- what stops after lines that are read stops with them
-module _ (ring : RingValue) (is_in : ℕ → Bool) (from to : Point) (xs ys : List ℕ) (e : Refusal) (on : IsReadTo ring from xs to) where
-  read_on : (zs : List ℕ) (q : Point) → IsReadTo ring to zs q → IsReadTo ring from (xs ++ zs) q
-  read_on zs q f = λ more. ap (read_from ring from) (append_assoc xs zs more) ∙ on (zs ++ more) ∙ f more
+-- lines that are read after others are read with them
+pub read_on : (ring : RingValue) (from to : Point) (xs : List ℕ) → IsReadTo ring from xs to → (zs : List ℕ) (q : Point) → IsReadTo ring to zs q → IsReadTo ring from (xs ++ zs) q
+read_on ring from to xs on zs q f = λ more. ap (read_from ring from) (append_assoc xs zs more) ∙ on (zs ++ more) ∙ f more
 
+-- what stops after lines that are read stops with them
+module _ (ring : RingValue) (from to : Point) (xs ys : List ℕ) (e : Refusal) (on : IsReadTo ring from xs to) where
   whole_on : (b m r : List ℕ) → ys ≡ b ++ (m ++ r) → xs ++ ys ≡ (xs ++ b) ++ (m ++ r)
   whole_on b m r is = ap (λ (z : List ℕ). xs ++ z) is ∙ sym (append_assoc xs b (m ++ r))
 
-  pub stops_on : Stops ring is_in to ys e → Stops ring is_in from (xs ++ ys) e
+  pub stops_on : Stops ring to ys e → Stops ring from (xs ++ ys) e
   stops_on (inl f) = inl (on ys ∙ f)
   stops_on (inr (k, large, inl h)) = inr (
     k,
@@ -84,7 +87,7 @@ module _ (ring : RingValue) (is_in : ℕ → Bool) (from to : Point) (xs ys : Li
       whole = whole_on h.before h.run h.behind h.whole;
       stage = h.stage;
       said = h.said;
-      read = read_on h.before (record { stage = h.stage; said = h.said; line = k }) h.read;
+      read = read_on ring from to xs on h.before (record { stage = h.stage; said = h.said; line = k }) h.read;
       is_run = h.is_run;
       long = h.long;
     }),
@@ -99,70 +102,70 @@ module _ (ring : RingValue) (is_in : ℕ → Bool) (from to : Point) (xs ys : Li
       whole = whole_on h.before h.line h.behind h.whole;
       said = h.said;
       last = h.last;
-      read = read_on h.before (record { stage = Entries; said = h.said; line = k }) h.read;
+      read = read_on ring from to xs on h.before (record { stage = Entries; said = h.said; line = k }) h.read;
       one_more = subst (λ (z : List ℕ). IsReadTo ring from z (record { stage = Entries; said = h.said ++ h.last ∷ []; line = next_number k })) (sym (append_assoc xs h.before h.line))
-          (read_on (h.before ++ h.line) (record { stage = Entries; said = h.said ++ h.last ∷ []; line = next_number k }) h.one_more);
+          (read_on ring from to xs on (h.before ++ h.line) (record { stage = Entries; said = h.said ++ h.last ∷ []; line = next_number k }) h.one_more);
       many = h.many;
     }),
   )
 
--- of the whole text so far lines were read, and this is left
-pub record So (old now : Reader) (whole left : List ℕ) : Type 0 where
+-- of the whole text so far lines were read and cut, and this is left
+pub record So (old now : Cutter) (whole left : List ℕ) : Type 0 where
   pub done : List ℕ
   pub split : whole ≡ done ++ left
   pub run : IsRun left
-  pub takes : Takes old now (lines_and done)
+  pub cuts : Cuts old now done
 
-pub so_none : (r : Reader) → So r r [] []
-so_none r = record { done = []; split = refl; run = tt; takes = λ ring marks front said so. (said, so, λ more. refl) }
+pub so_none : (r : Cutter) → So r r [] []
+so_none r = record { done = []; split = refl; run = tt; cuts = λ ring marks front said so. (said, so, λ more. refl) }
 
 -- lines after others
 pub takes_both : (old mid new : Reader) (xs ys : List ℕ) → Takes old mid (lines_and xs) → Takes mid new (lines_and ys) → Takes old new (lines_and (xs ++ ys))
-takes_both old mid new xs ys first second = λ ring marks front said so. (
-    let a = first ring marks front said so in
-    let b = second ring marks front a.0 a.1 in
-    (b.0, b.1, λ u. ap (read_from ring (point_of old said)) (append_assoc xs ys u) ∙ a.2 (ys ++ u) ∙ b.2 u))
+takes_both old mid new xs ys first second = λ ring taken said so. (
+    let a = first ring taken said so in
+    let b = second ring taken a.0 a.1 in
+    let writers = b.3.1 ∙ ap (λ (ns : List (List ℕ)). ns ++ b.3.0) a.3.1 ∙ append_assoc old.writers a.3.0 b.3.0 in
+    (b.0, b.1, (λ u. ap (read_from ring (point_of old said)) (append_assoc xs ys u) ∙ a.2 (ys ++ u) ∙ b.2 u), (a.3.0 ++ b.3.0, writers)))
 
--- what refuses bytes after lines refuses both
-pub refuses_both : (old mid : Reader) (xs ys : List ℕ) (e : Refusal) → Takes old mid (lines_and xs) → Refuses mid ys e → Refuses old (xs ++ ys) e
-refuses_both old mid xs ys e first bad = λ ring marks front said so more. (
-    let a = first ring marks front said so in
-    let from = point_of old said in
-    let on : (t : List ℕ) → read_from ring from (xs ++ t) ≡ read_from ring (point_of mid a.0) t = a.2 in
-    subst (λ (z : List ℕ). Stops ring (is_marked marks) from z e) (sym (append_assoc xs ys more)) (stops_on ring (is_marked marks) from (point_of mid a.0) xs (ys ++ more) e on (bad ring marks front a.0 a.1 more)))
-
-pub so_more : (old mid new : Reader) (whole left more rest : List ℕ) → So old mid whole left → TakesSome mid new (left ++ more) rest → So old new (whole ++ more) rest
+pub so_more : (old mid new : Cutter) (whole left more rest : List ℕ) → So old mid whole left → CutsSome mid new (left ++ more) rest → So old new (whole ++ more) rest
 so_more old mid new whole left more rest s t = record {
   done = s.done ++ t.done;
   split = ap (λ (z : List ℕ). z ++ more) s.split ∙ append_assoc s.done left more ∙ ap (λ (z : List ℕ). s.done ++ z) t.whole ∙ sym (append_assoc s.done t.done rest);
   run = t.run;
-  takes = takes_both old mid new s.done t.done s.takes t.takes;
+  cuts = λ ring marks front said so. (
+      let a = s.cuts ring marks front said so in
+      let b = t.cuts ring marks front a.0 a.1 in
+      (b.0, b.1, λ u. ap (read_from ring (point_of old.reader said)) (append_assoc s.done t.done u) ∙ a.2 (t.done ++ u) ∙ b.2 u));
 }
 
--- what refuses a piece refuses the text, whatever follows
-pub so_stops : (old mid : Reader) (whole left more : List ℕ) (e : Refusal) → So old mid whole left → StopsSome mid (left ++ more) e → Refuses old (whole ++ more) e
-so_stops old mid whole left more e s stop = subst (λ (z : List ℕ). Refuses old z e) (sym same) (by stop)
-  where
-    same : whole ++ more ≡ s.done ++ (left ++ more)
-    same = ap (λ (z : List ℕ). z ++ more) s.split ∙ append_assoc s.done left more
+-- what is refused after lines that were read refuses the whole, whatever follows
+pub after_stops : (ring : RingValue) (from : Point) (bytes : List ℕ) (taken : List Entry) (new : Reader) (e : Refusal) → StopsAfter ring from bytes taken new e → (more : List ℕ) → Stops ring from (bytes ++ more) e
+after_stops ring from bytes taken new e s more =
+    let whole : bytes ++ more ≡ s.done ++ (s.rest ++ more) = ap (λ (z : List ℕ). z ++ more) s.whole ∙ append_assoc s.done s.rest more in
+    subst (λ (z : List ℕ). Stops ring from z e) (sym whole) (stops_on ring from s.to s.done (s.rest ++ more) e s.read (s.stops more))
 
-    by : StopsSome mid (left ++ more) e → Refuses old (s.done ++ (left ++ more)) e
-    by (inl bad) = refuses_both old mid s.done (left ++ more) e s.takes bad
-    by (inr (large, run, long)) = λ ring marks front said so rest. inr (
-      mid.line,
-      large,
-      inl (record {
-        before = s.done;
-        run = left ++ more;
-        behind = rest;
-        whole = append_assoc s.done (left ++ more) rest;
-        stage = mid.stage;
-        said = (s.takes ring marks front said so).0;
-        read = (s.takes ring marks front said so).2;
-        is_run = run;
-        long = long;
-      }),
-    )
+-- what refuses a piece refuses the text, whatever follows
+pub so_stops : (old mid : Cutter) (last : Reader) (whole left more : List ℕ) (e : Refusal) → So old mid whole left → Refuses mid.reader last (left ++ more) e
+    → (ring : RingValue) (marks : List Bool) (front : Begun) (said : List SaidEntry) → IsCutting ring marks front said old → (rest : List ℕ) → Stops ring (point_of old.reader said) ((whole ++ more) ++ rest) e
+so_stops old mid last whole left more e s stop ring marks front said so rest =
+    let a = s.cuts ring marks front said so in
+    let here = after_stops ring (point_of mid.reader a.0) (left ++ more) _ last e (stop ring _ a.0 a.1.reading) rest in
+    let same : (whole ++ more) ++ rest ≡ s.done ++ ((left ++ more) ++ rest) =
+    ap (λ (z : List ℕ). z ++ rest) (ap (λ (z : List ℕ). z ++ more) s.split ∙ append_assoc s.done left more) ∙ append_assoc s.done (left ++ more) rest in
+    subst (λ (z : List ℕ). Stops ring (point_of old.reader said) z e) (sym same) (stops_on ring (point_of old.reader said) (point_of mid.reader a.0) s.done ((left ++ more) ++ rest) e a.2 here)
+
+-- a line that is too long is refused, whatever follows
+pub too_long : (r : Reader) (bytes : List ℕ) → IsRun bytes → max_input < length bytes → Refuses r r bytes (TooLarge r.line)
+too_long r bytes run long = λ ring taken said so. record {
+  done = [];
+  rest = bytes;
+  whole = refl;
+  to = point_of r said;
+  read = λ more. refl;
+  stage_is = refl;
+  entries_are = so.entries_are;
+  stops = λ more. inr (r.line, refl, inl (record { before = []; run = bytes; behind = more; whole = refl; stage = r.stage; said = said; read = λ u. refl; is_run = run; long = long }));
+}
 
 -- ---- the bytes that are told
 
@@ -200,39 +203,39 @@ told_any (Some x) = (x, refl)
 
 -- ---- what comes of a history
 
-abbrev pub Comes : Reader → Reader → List ℕ → Option (List ℕ) → Result (Unit {0}) Refusal → Type 0
+abbrev pub Comes : Cutter → Cutter → List ℕ → Option (List ℕ) → Result (Unit {0}) Refusal → Type 0
 Comes old new first a r = (more : List ℕ) × Tells a more × ReadsAll old new (first ++ more) r
 
-pub outside : (old new : Reader) (first : List ℕ) (a : Option (List ℕ)) (r : Result (Unit {0}) Refusal) (e : Refusal) → IsErrAnd r (λ x. x ≡ e) → IsOutside e → Comes old new first a r
+pub outside : (old new : Cutter) (first : List ℕ) (a : Option (List ℕ)) (r : Result (Unit {0}) Refusal) (e : Refusal) → IsErrAnd r (λ x. x ≡ e) → IsOutside e → Comes old new first a r
 outside old new first a (Ok u) e is out = absurd is
 outside old new first a (Err x) e is (inl m) = (let t = told_any a in (t.0, t.1, λ ne nr. absurd (ne (is ∙ m))))
 outside old new first a (Err x) e is (inr m) = (let t = told_any a in (t.0, t.1, λ ne nr. absurd (nr (is ∙ m))))
 
-pub stopped : (old mid new : Reader) (first whole left more : List ℕ) (a b : Option (List ℕ)) (r : Result (Unit {0}) Refusal) (e : Refusal) → IsErrAnd r (λ x. x ≡ e) → So old mid whole left
-    → (e ≢ OutOfMemory → StopsSome mid (left ++ more) e) → Told first (whole ++ more) a b → Comes old new first a r
-stopped old mid new first whole left more a b (Ok u) e is s stop t = absurd is
-stopped old mid new first whole left more a b (Err x) e is s stop t =
+pub stopped : (old mid new : Cutter) (last : Reader) (first whole left more : List ℕ) (a b : Option (List ℕ)) (r : Result (Unit {0}) Refusal) (e : Refusal) → IsErrAnd r (λ x. x ≡ e) → So old mid whole left
+    → (e ≢ OutOfMemory → Refuses mid.reader last (left ++ more) e) → Told first (whole ++ more) a b → Comes old new first a r
+stopped old mid new last first whole left more a b (Ok u) e is s stop t = absurd is
+stopped old mid new last first whole left more a b (Err x) e is s stop t =
     let rest = told_rest a b t.got t.told in
     let same : (whole ++ more) ++ rest.0 ≡ first ++ (t.got ++ rest.0) = ap (λ (z : List ℕ). z ++ rest.0) t.whole_is ∙ append_assoc first t.got rest.0 in (
       t.got ++ rest.0,
       rest.1,
       λ ne nr ring marks front said so. (
-          let found = so_stops old mid whole left more x s (subst (λ (z : Refusal). StopsSome mid (left ++ more) z) (sym is) (stop (λ m. ne (is ∙ m)))) ring marks front said so rest.0 in
-          subst (λ (z : List ℕ). Stops ring (is_marked marks) (point_of old said) z x) same found
+          let found = so_stops old mid last whole left more x s (subst (λ (z : Refusal). Refuses mid.reader last (left ++ more) z) (sym is) (stop (λ m. ne (is ∙ m)))) ring marks front said so rest.0 in
+          subst (λ (z : List ℕ). Stops ring (point_of old.reader said) z x) same found
           ),
     )
 
-pub at_end : (old now : Reader) (first whole left : List ℕ) (a b : Option (List ℕ)) (r : Result (Unit {0}) Refusal) → So old now whole left → Told first whole a b → IsAtEnd b
-    → ((ring : RingValue) (said : List SaidEntry) → map_ok (λ _. said) r ≡ resume_at ring now.stage said (at now.line (lines_of left))) → Comes old now first a r
+pub at_end : (old now : Cutter) (first whole left : List ℕ) (a b : Option (List ℕ)) (r : Result (Unit {0}) Refusal) → So old now whole left → Told first whole a b → IsAtEnd b
+    → ((ring : RingValue) (said : List SaidEntry) → map_ok (λ _. said) r ≡ resume_at ring now.reader.stage said (at now.reader.line (lines_of left))) → Comes old now first a r
 at_end old now first whole left a b r s t end is = (t.got, told_all a b t.got t.told end, by r is)
   where
-    same : (ring : RingValue) (marks : List Bool) (front : Begun) (said : List SaidEntry) (so : IsReading ring marks front said old)
-        → read_from ring (point_of old said) (first ++ t.got) ≡ resume_at ring now.stage (s.takes ring marks front said so).0 (at now.line (lines_of left))
-    same ring marks front said so = ap (read_from ring (point_of old said)) (sym t.whole_is ∙ s.split) ∙ (s.takes ring marks front said so).2 left
+    same : (ring : RingValue) (marks : List Bool) (front : Begun) (said : List SaidEntry) (so : IsCutting ring marks front said old)
+        → read_from ring (point_of old.reader said) (first ++ t.got) ≡ resume_at ring now.reader.stage (s.cuts ring marks front said so).0 (at now.reader.line (lines_of left))
+    same ring marks front said so = ap (read_from ring (point_of old.reader said)) (sym t.whole_is ∙ s.split) ∙ (s.cuts ring marks front said so).2 left
 
-    by : (z : Result (Unit {0}) Refusal) → ((ring : RingValue) (said : List SaidEntry) → map_ok (λ _. said) z ≡ resume_at ring now.stage said (at now.line (lines_of left))) → ReadsAll old now (first ++ t.got) z
-    by (Ok u) f = λ ring marks front said so. (let x = s.takes ring marks front said so in (x.0, x.1, same ring marks front said so ∙ sym (f ring x.0)))
-    by (Err e) f = λ ne nr ring marks front said so. (let x = s.takes ring marks front said so in inl (same ring marks front said so ∙ sym (f ring x.0)))
+    by : (z : Result (Unit {0}) Refusal) → ((ring : RingValue) (said : List SaidEntry) → map_ok (λ _. said) z ≡ resume_at ring now.reader.stage said (at now.reader.line (lines_of left))) → ReadsAll old now (first ++ t.got) z
+    by (Ok u) f = λ ring marks front said so. (let x = s.cuts ring marks front said so in (x.0, x.1, same ring marks front said so ∙ sym (f ring x.0)))
+    by (Err e) f = λ ne nr ring marks front said so. (let x = s.cuts ring marks front said so in inl (same ring marks front said so ∙ sym (f ring x.0)))
 
 -- ---- as the code has them
 
@@ -255,33 +258,33 @@ none_taken r bytes left is run = record {
   done = [];
   whole = sym is;
   run = subst IsRun (sym is) run;
-  takes = λ ring marks front said so. (said, so, λ more. refl);
+  takes = λ ring taken said so. (said, so, (λ more. refl), ([], sym (append-nil r.writers)));
 }
 
-abbrev pub SoFar : Reader → Reader → List ℕ → List ℕ → Option (List ℕ) → Option (List ℕ) → Type 0
+abbrev pub SoFar : Cutter → Cutter → List ℕ → List ℕ → Option (List ℕ) → Option (List ℕ) → Type 0
 SoFar old now first left a b = (whole : List ℕ) × So old now whole left × Told first whole a b
 
-pub first_stop : (old new : Reader) (first l m : List ℕ) (a : Option (List ℕ)) (r : Result (Unit {0}) Refusal) (e : Refusal) → IsErrAnd r (λ x. x ≡ e) → l ≡ [] → m ≡ first → (e ≢ OutOfMemory → StopsSome old (l ++ m) e) → Comes old new first a r
-first_stop old new first l m a r e is p q stop = stopped old old new first [] [] first a a r e is (so_none old) (λ ne. subst (λ (z : List ℕ). StopsSome old z e) (λ i. p i ++ q i) (stop ne)) (told_none first a)
+pub first_stop : (old new : Cutter) (last : Reader) (first l m : List ℕ) (a : Option (List ℕ)) (r : Result (Unit {0}) Refusal) (e : Refusal) → IsErrAnd r (λ x. x ≡ e) → l ≡ [] → m ≡ first → (e ≢ OutOfMemory → Refuses old.reader last (l ++ m) e) → Comes old new first a r
+first_stop old new last first l m a r e is p q stop = stopped old old new last first [] [] first a a r e is (so_none old) (λ ne. subst (λ (z : List ℕ). Refuses old.reader last z e) (λ i. p i ++ q i) (stop ne)) (told_none first a)
 
-pub first_on : (old now : Reader) (first l m left : List ℕ) (a : Option (List ℕ)) → l ≡ [] → m ≡ first → TakesSome old now (l ++ m) left → SoFar old now first left a a
-first_on old now first l m left a p q t = (first, so_more old old now [] [] first left (so_none old) (subst (λ (z : List ℕ). TakesSome old now z left) (λ i. p i ++ q i) t), told_none first a)
+pub first_on : (old now : Cutter) (first l m left : List ℕ) (a : Option (List ℕ)) → l ≡ [] → m ≡ first → CutsSome old now (l ++ m) left → SoFar old now first left a a
+first_on old now first l m left a p q t = (first, so_more old old now [] [] first left (so_none old) (subst (λ (z : List ℕ). CutsSome old now z left) (λ i. p i ++ q i) t), told_none first a)
 
-pub more_stop : (old mid new : Reader) (first left m more : List ℕ) (most : ℕ) (a b c : Option (List ℕ)) (r : Result (Unit {0}) Refusal) (e : Refusal) → IsErrAnd r (λ x. x ≡ e) → SoFar old mid first left a b → m ≡ more → IsNext b c most more
-    → (e ≢ OutOfMemory → StopsSome mid (left ++ m) e) → Comes old new first a r
-more_stop old mid new first left m more most a b c r e is s same n stop =
-    stopped old mid new first s.0 left more a c r e is s.1 (λ ne. subst (λ (z : List ℕ). StopsSome mid (left ++ z) e) same (stop ne)) (told_more first s.0 more most a b c s.2 n)
+pub more_stop : (old mid new : Cutter) (last : Reader) (first left m more : List ℕ) (most : ℕ) (a b c : Option (List ℕ)) (r : Result (Unit {0}) Refusal) (e : Refusal) → IsErrAnd r (λ x. x ≡ e) → SoFar old mid first left a b → m ≡ more → IsNext b c most more
+    → (e ≢ OutOfMemory → Refuses mid.reader last (left ++ m) e) → Comes old new first a r
+more_stop old mid new last first left m more most a b c r e is s same n stop =
+    stopped old mid new last first s.0 left more a c r e is s.1 (λ ne. subst (λ (z : List ℕ). Refuses mid.reader last (left ++ z) e) same (stop ne)) (told_more first s.0 more most a b c s.2 n)
 
-pub more_on : (old mid now : Reader) (first left m more rest : List ℕ) (most : ℕ) (a b c : Option (List ℕ)) → SoFar old mid first left a b → m ≡ more → IsNext b c most more → TakesSome mid now (left ++ m) rest → SoFar old now first rest a c
+pub more_on : (old mid now : Cutter) (first left m more rest : List ℕ) (most : ℕ) (a b c : Option (List ℕ)) → SoFar old mid first left a b → m ≡ more → IsNext b c most more → CutsSome mid now (left ++ m) rest → SoFar old now first rest a c
 more_on old mid now first left m more rest most a b c s same n t =
-    (s.0 ++ more, so_more old mid now s.0 left more rest s.1 (subst (λ (z : List ℕ). TakesSome mid now (left ++ z) rest) same t), told_more first s.0 more most a b c s.2 n)
+    (s.0 ++ more, so_more old mid now s.0 left more rest s.1 (subst (λ (z : List ℕ). CutsSome mid now (left ++ z) rest) same t), told_more first s.0 more most a b c s.2 n)
 
-pub ends : (old now : Reader) (first left shown more : List ℕ) (most : ℕ) (a b c : Option (List ℕ)) (r : Result (Unit {0}) Refusal) → SoFar old now first left a b → IsNext b c most more → length more ≡ 0 → shown ≡ left
-    → ((ring : RingValue) (said : List SaidEntry) → map_ok (λ _. said) r ≡ resume_at ring now.stage said (at now.line (lines_of shown))) → Comes old now first a r
+pub ends : (old now : Cutter) (first left shown more : List ℕ) (most : ℕ) (a b c : Option (List ℕ)) (r : Result (Unit {0}) Refusal) → SoFar old now first left a b → IsNext b c most more → length more ≡ 0 → shown ≡ left
+    → ((ring : RingValue) (said : List SaidEntry) → map_ok (λ _. said) r ≡ resume_at ring now.reader.stage said (at now.reader.line (lines_of shown))) → Comes old now first a r
 ends old now first left shown more most a b c r s n none same is =
     let t = told_more first s.0 more most a b c s.2 n in
     at_end old now first s.0 left a c r s.1 (subst (λ (z : List ℕ). Told first z a c) (same_end s.0 more none) t) (n.end none)
-    (λ ring said. is ring said ∙ ap (λ (z : List ℕ). resume_at ring now.stage said (at now.line (lines_of z))) same)
+    (λ ring said. is ring said ∙ ap (λ (z : List ℕ). resume_at ring now.reader.stage said (at now.reader.line (lines_of z))) same)
 
-pub failed_all : (old new : Reader) (first : List ℕ) (a : Option (List ℕ)) → Comes old new first a (Err ReadFailed)
+pub failed_all : (old new : Cutter) (first : List ℕ) (a : Option (List ℕ)) → Comes old new first a (Err ReadFailed)
 failed_all old new first a = (let t = told_any a in (t.0, t.1, λ ne nr. absurd (nr refl)))

@@ -1,7 +1,7 @@
 -- A reader takes a line.
-use Rattle.std.proofs.Common.{◌≡◌, ◌⊎◌, ℕ, zero, suc, ◌+◌, ◌<◌, Bool, true, false, not, eqb, List, [], ◌∷◌, ◌++◌, length, map, take, drop, get_or, take-append-drop, append_assoc, Result, Ok, Err, IsErrAnd, refl, sym, ap, subst, ◌∙◌, arith, inl, inr}
+use Rattle.std.proofs.Common.{◌≡◌, ◌⊎◌, ℕ, zero, suc, ◌+◌, ◌<◌, Bool, true, false, not, eqb, List, [], ◌∷◌, ◌++◌, length, map, take, drop, get_or, take-append-drop, append_assoc, append-nil, Result, Ok, Err, IsErrAnd, refl, sym, ap, subst, ◌∙◌, arith, inl, inr}
 use Rattle.std.specs.Prelude.{◌≢◌, codes, IfErr, OnOk}
-use Rattle.std.specs.List.{slice_split, onto_first}
+use Rattle.std.specs.List.{AllByRecursion, slice_split, onto_first}
 use Rattle.std.specs.Str.{bytes_eq}
 use Rattle.std.proofs.lemmas.List.Splits.{slice_split-cons_no, slice_split-cons_yes}
 use Rattle.std.proofs.Math.Seq.{take-add}
@@ -13,37 +13,39 @@ use Rattle.texts.specs.Frames.{header_at, end_line_at}
 use Rattle.texts.proofs.Cuts.{first_part}
 use Rattle.ring_table.specs.Value.{RingValue}
 use Rattle.script_text.specs.Valid.{AreWriters}
+use Rattle.plan_runs.specs.declared.event.Entry.{Entry}
+use Rattle.script_text.specs.Said.{names_after}
 use Rattle.history_text.specs.Said.{SaidEntry}
 use Rattle.history_text.specs.Reading.{said_at}
-use Rattle.history_parts.specs.Parts.{is_marked}
-use Rattle.history_stream.specs.declared.place.Place.{Place}
 use Rattle.history_stream.specs.declared.reader.Reader.{Reader}
 use Rattle.history_stream.specs.declared.reader.Stage.{Stage}
 use Rattle.history_stream.specs.declared.reader.Stage.TheVariants.{First, Entries, Over}
 use Rattle.history_stream.specs.Reading.{entries_behind, goes_on, read_from, resume_at}
-use Rattle.history_stream.specs.Place.{Finds}
-use Rattle.history_stream.specs.State.{Begun, IsReading, IsTooMany, Stops, TakesEntry, RefusesEntry, RefusesLine, Takes, Refuses, read_by, line_and, lines_and, point_of}
+use Rattle.history_stream.specs.State.{IsHeld, IsKnownIn, IsReading, IsTooMany, Stops, TakesEntry, RefusesEntry, RefusesLine, Takes, Refuses, read_by, line_and, lines_and, point_of, started}
 use Rattle.history_stream.proofs.Resumes.{entry_step, entry_bad, end_step, header_step, over_bad}
-use Rattle.history_stream.proofs.Pieces.{refuses_both, takes_both}
+use Rattle.history_stream.proofs.Pieces.{takes_both}
+use Rattle.history_stream.proofs.Readings.{names_grown, writers_more}
 
 -- the same but for the next line
 pub record Same (old new : Reader) : Type 0 where
   pub ring : new.ring.now ≡ old.ring.now
-  pub cut : new.cut ≡ old.cut
   pub writers : new.writers ≡ old.writers
-  pub part : new.part ≡ old.part
-  pub place : new.place ≡ old.place
+  pub started : new.started ≡ old.started
+  pub entries : new.entries.items ≡ old.entries.items
 
-moved : (ring : RingValue) (marks : List Bool) (front : Begun) (said : List SaidEntry) (old new : Reader) → Same old new → IsReading ring marks front said old → IsReading ring marks front said new
-moved ring marks front said old new same so = record {
-  valid = so.valid;
-  ring_is = same.ring ∙ so.ring_is;
-  writers_are = same.writers ∙ so.writers_are;
-  names = subst AreWriters (sym same.writers) so.names;
-  cut_is = same.cut ∙ so.cut_is;
-  part_is = rw (same.part, same.writers) so.part_is;
-  place_is = subst (λ (p : Place). Finds ring (is_marked marks) (entries_behind [] said) front.wanted p) (sym same.place) so.place_is;
-}
+moved : (ring : RingValue) (taken : List Entry) (said : List SaidEntry) (old new : Reader) → Same old new → IsReading ring taken said old → IsReading ring taken said new
+moved ring taken said old new same so =
+    let items = same.entries in
+    let count = ap started items in
+    record {
+      valid = so.valid;
+      ring_is = same.ring ∙ so.ring_is;
+      writers_are = same.writers ∙ so.writers_are;
+      names = subst AreWriters (sym same.writers) so.names;
+      entries_are = so.entries_are ∙ ap (λ (es : List Entry). taken ++ es) (sym items);
+      known = subst (λ (es : List Entry). AllByRecursion (IsKnownIn ring new.writers) es) (sym items) (subst (λ (ns : List (List ℕ)). AllByRecursion (IsKnownIn ring ns) old.entries.items) (sym same.writers) so.known);
+      counted = record { same = same.started ∙ so.counted.same ∙ ap (λ (n : ℕ). started taken + n) (sym count); few = subst (λ (n : ℕ). n < 4294967295) (sym same.started) so.counted.few };
+    }
 
 abbrev at : ℕ → List (List (List ℕ)) → Left
 at k lines = record { line = k; lines = lines }
@@ -55,54 +57,57 @@ resumed ring a b said k m lines e f = (λ i. resume_at ring (e i) said (at (f i)
 module _ (old new : Reader) (text : List ℕ) (line : new.line ≡ next_number old.line) where
   -- the first line
   pub takes_first : (u : Unit {0}) → old.stage ≡ First → new.stage ≡ Entries → Same old new → header_at (codes "history") (codes "1") old.line (fields_of text) ≡ Ok u → Takes old new (line_and text)
-  takes_first u was is same e = λ ring marks front said so. (
+  takes_first u was is same e = λ ring taken said so. (
     said,
-    moved ring marks front said old new same so,
+    moved ring taken said old new same so,
     λ more. resumed ring old.stage First said old.line old.line (line_and text more) was refl ∙ header_step ring said old.line (fields_of text) more (Ok u) e ∙ resumed ring Entries new.stage said (next_number old.line) new.line (lines_of more) (sym is) (sym line),
+    ([], same.writers ∙ sym (append-nil old.writers)),
   )
 
   -- the last line
   pub takes_end : (u : Unit {0}) → old.stage ≡ Entries → new.stage ≡ Over → Same old new → ((lines : List (List (List ℕ))) → begins_so goes_on (fields_of text ∷ lines) ≡ false)
       → end_line_at old.line (fields_of text) ≡ Ok u → Takes old new (line_and text)
-  takes_end u was is same off e = λ ring marks front said so. (
+  takes_end u was is same off e = λ ring taken said so. (
     said,
-    moved ring marks front said old new same so,
+    moved ring taken said old new same so,
     λ more. resumed ring old.stage Entries said old.line old.line (line_and text more) was refl ∙ end_step ring said old.line (fields_of text) more (Ok u) (off (lines_of more)) e ∙ resumed ring Over new.stage said (next_number old.line) new.line (lines_of more) (sym is) (sym line),
+    ([], same.writers ∙ sym (append-nil old.writers)),
   )
 
   -- an entry
   pub takes_entry : (mid : Reader) → old.stage ≡ Entries → new.stage ≡ Entries → Same mid new → ((lines : List (List (List ℕ))) → begins_so goes_on (fields_of text ∷ lines) ≡ true)
       → TakesEntry old mid old.line (fields_of text) → Takes old new (line_and text)
-  takes_entry mid was is same on taken = λ ring marks front said so. (let t = taken ring marks front said so in (
+  takes_entry mid was is same on entry = λ ring taken said so. (let t = entry ring taken said so in (
     said ++ t.0 ∷ [],
-    moved ring marks front (said ++ t.0 ∷ []) mid new same t.2,
+    moved ring taken (said ++ t.0 ∷ []) mid new same t.2,
     λ more. resumed ring old.stage Entries said old.line old.line (line_and text more) was refl
         ∙ entry_step ring said old.line (fields_of text) more t.0 (on (lines_of more)) (ap (λ (ns : List (List ℕ)). said_at ring [] ns old.line (fields_of text)) (sym so.writers_are) ∙ t.1)
         ∙ resumed ring Entries new.stage (said ++ t.0 ∷ []) (next_number old.line) new.line (lines_of more) (sym is) (sym line),
+    (let g = names_grown old.writers t.0.0 in (g.0, same.writers ∙ t.2.writers_are ∙ writers_more [] said t.0 ∙ ap (λ (ns : List (List ℕ)). names_after ns t.0.0) (sym so.writers_are) ∙ g.1)),
   ))
 
 module _ (old : Reader) (text : List ℕ) (e : Refusal) where
   pub refuses_first : old.stage ≡ First → header_at (codes "history") (codes "1") old.line (fields_of text) ≡ Err e → RefusesLine old text e
-  refuses_first was is = λ ring marks front said so. inl (λ more. resumed ring old.stage First said old.line old.line (line_and text more) was refl ∙ header_step ring said old.line (fields_of text) more (Err e) is)
+  refuses_first was is = λ ring taken said so. inl (λ more. resumed ring old.stage First said old.line old.line (line_and text more) was refl ∙ header_step ring said old.line (fields_of text) more (Err e) is)
 
   pub refuses_end : old.stage ≡ Entries → ((lines : List (List (List ℕ))) → begins_so goes_on (fields_of text ∷ lines) ≡ false) → end_line_at old.line (fields_of text) ≡ Err e → RefusesLine old text e
-  refuses_end was off is = λ ring marks front said so. inl (λ more. resumed ring old.stage Entries said old.line old.line (line_and text more) was refl ∙ end_step ring said old.line (fields_of text) more (Err e) (off (lines_of more)) is)
+  refuses_end was off is = λ ring taken said so. inl (λ more. resumed ring old.stage Entries said old.line old.line (line_and text more) was refl ∙ end_step ring said old.line (fields_of text) more (Err e) (off (lines_of more)) is)
 
   pub refuses_over : old.stage ≡ Over → e ≡ BadLine old.line → RefusesLine old text e
-  refuses_over was is = λ ring marks front said so. inl (λ more. resumed ring old.stage Over said old.line old.line (line_and text more) was refl ∙ over_bad ring said old.line (fields_of text) more ∙ ap (λ (x : Refusal). Err x) (sym is))
+  refuses_over was is = λ ring taken said so. inl (λ more. resumed ring old.stage Over said old.line old.line (line_and text more) was refl ∙ over_bad ring said old.line (fields_of text) more ∙ ap (λ (x : Refusal). Err x) (sym is))
 
   pub refuses_entry : old.stage ≡ Entries → ((lines : List (List (List ℕ))) → begins_so goes_on (fields_of text ∷ lines) ≡ true) → RefusesEntry old old.line (fields_of text) e → RefusesLine old text e
-  refuses_entry was on bad = λ ring marks front said so. by ring marks front said so (bad ring marks front said so)
+  refuses_entry was on bad = λ ring taken said so. by ring taken said so (bad ring taken said so)
     where
-      by : (ring : RingValue) (marks : List Bool) (front : Begun) (said : List SaidEntry) (so : IsReading ring marks front said old)
+      by : (ring : RingValue) (taken : List Entry) (said : List SaidEntry) (so : IsReading ring taken said old)
           → (said_at ring [] old.writers old.line (fields_of text) ≡ Err e)
-          ⊎ ((x : SaidEntry) × (said_at ring [] old.writers old.line (fields_of text) ≡ Ok x) × (e ≡ TooLarge old.line) × IsTooMany ring (is_marked marks) said x)
+          ⊎ ((x : SaidEntry) × (said_at ring [] old.writers old.line (fields_of text) ≡ Ok x) × (e ≡ TooLarge old.line) × IsTooMany said x)
           → ((more : List ℕ) → read_by ring old said (line_and text more) ≡ Err e)
-          ⊎ ((x : SaidEntry) × (e ≡ TooLarge old.line) × (old.stage ≡ Entries) × IsTooMany ring (is_marked marks) said x
+          ⊎ ((x : SaidEntry) × (e ≡ TooLarge old.line) × (old.stage ≡ Entries) × IsTooMany said x
           × ((more : List ℕ) → read_by ring old said (line_and text more) ≡ read_from ring (record { stage = Entries; said = said ++ x ∷ []; line = next_number old.line }) more))
-      by ring marks front said so (inl f) = inl (λ more. resumed ring old.stage Entries said old.line old.line (line_and text more) was refl
+      by ring taken said so (inl f) = inl (λ more. resumed ring old.stage Entries said old.line old.line (line_and text more) was refl
           ∙ entry_bad ring said old.line (fields_of text) more e (on (lines_of more)) (ap (λ (ns : List (List ℕ)). said_at ring [] ns old.line (fields_of text)) (sym so.writers_are) ∙ f))
-      by ring marks front said so (inr (x, read, large, many)) = inr (
+      by ring taken said so (inr (x, read, large, many)) = inr (
         x,
         large,
         was,
@@ -143,7 +148,7 @@ module _ (old new : Reader) (text : List ℕ) (rest : List (List ℕ)) (was : ol
   pub end_ok : (r : Result (Unit {0}) Refusal) → end_line_at old.line (fields_of text) ≡ r → OnOk r (new ≡ record old { stage = Over; line = next_number old.line }) → OnOk r (Takes old new (line_and text))
   end_ok (Ok u) e is =
       takes_end old new text (ap (λ (r : Reader). r.line) is) u was (ap (λ (r : Reader). r.stage) is)
-      (record { ring = ap (λ (r : Reader). r.ring.now) is; cut = ap (λ (r : Reader). r.cut) is; writers = ap (λ (r : Reader). r.writers) is; part = ap (λ (r : Reader). r.part) is; place = ap (λ (r : Reader). r.place) is }) (stops text rest first) e
+      (record { ring = ap (λ (r : Reader). r.ring.now) is; writers = ap (λ (r : Reader). r.writers) is; started = ap (λ (r : Reader). r.started) is; entries = ap (λ (r : Reader). r.entries.items) is }) (stops text rest first) e
   end_ok (Err x) e is = tt
 
   pub end_err : (r : Result (Unit {0}) Refusal) → end_line_at old.line (fields_of text) ≡ r → IfErr r (λ e. e ≢ OutOfMemory → RefusesLine old text e)
@@ -179,40 +184,46 @@ module _ (a b : Reader) (bytes h line : List ℕ) (taken i n : ℕ) (h_is : h �
   all = ap (λ (z : List ℕ). take taken bytes ++ take (i + 1) z) h_is ∙ sym (take-add taken (i + 1) bytes)
 
   pub lines_more : (c : Reader) → Takes b c (line_and line) → Takes a c (lines_and (take (taken + (i + 1)) bytes))
-  lines_more c second = subst (λ (z : List ℕ). Takes a c (lines_and z)) all (takes_both a b c (take taken bytes) ended first (λ ring marks front said so. (
-      let t = second ring marks front said so in
-      (t.0, t.1, λ more. ap (read_by ring b said) (ends more) ∙ t.2 more))))
+  lines_more c second = subst (λ (z : List ℕ). Takes a c (lines_and z)) all (takes_both a b c (take taken bytes) ended first (λ ring gone said so. (
+      let t = second ring gone said so in
+      (t.0, t.1, (λ more. ap (read_by ring b said) (ends more) ∙ t.2 more), t.3))))
 
   rest : bytes ≡ take taken bytes ++ (ended ++ drop (i + 1) h)
   rest = sym (take-append-drop taken bytes) ∙ ap (λ (z : List ℕ). take taken bytes ++ z) (sym h_is ∙ sym (take-append-drop (i + 1) h))
 
-  stops_here : (e : Refusal) → RefusesLine b line e → Refuses b (ended ++ drop (i + 1) h) e
-  stops_here e bad = λ ring marks front said so more. by ring marks said more (bad ring marks front said so)
-    where
-      tail : (more : List ℕ) → (ended ++ drop (i + 1) h) ++ more ≡ ended ++ (drop (i + 1) h ++ more)
-      tail more = append_assoc ended (drop (i + 1) h) more
+  -- the next line is refused, whatever follows
+  stops_here : (e : Refusal) (ring : RingValue) (said : List SaidEntry) (more : List ℕ)
+      → ((u : List ℕ) → read_by ring b said (line_and line u) ≡ Err e)
+      ⊎ ((x : SaidEntry) × (e ≡ TooLarge b.line) × (b.stage ≡ Entries) × IsTooMany said x
+      × ((u : List ℕ) → read_by ring b said (line_and line u) ≡ read_from ring (record { stage = Entries; said = said ++ x ∷ []; line = next_number b.line }) u))
+      → Stops ring (point_of b said) ((ended ++ drop (i + 1) h) ++ more) e
+  stops_here e ring said more (inl f) = inl (ap (read_from ring (point_of b said)) (append_assoc ended (drop (i + 1) h) more) ∙ ap (read_by ring b said) (ends (drop (i + 1) h ++ more)) ∙ f (drop (i + 1) h ++ more))
+  stops_here e ring said more (inr (x, large, was, many, f)) = inr (
+    b.line,
+    large,
+    inr (record {
+      before = [];
+      line = ended;
+      behind = drop (i + 1) h ++ more;
+      whole = append_assoc ended (drop (i + 1) h) more;
+      said = said;
+      last = x;
+      read = λ u. resumed ring b.stage Entries said b.line b.line (lines_of u) was refl;
+      one_more = λ u. ap (read_by ring b said) (ends u) ∙ f u;
+      many = many;
+    }),
+  )
 
-      by : (ring : RingValue) (marks : List Bool) (said : List SaidEntry) (more : List ℕ)
-          → ((u : List ℕ) → read_by ring b said (line_and line u) ≡ Err e)
-          ⊎ ((x : SaidEntry) × (e ≡ TooLarge b.line) × (b.stage ≡ Entries) × IsTooMany ring (is_marked marks) said x
-          × ((u : List ℕ) → read_by ring b said (line_and line u) ≡ read_from ring (record { stage = Entries; said = said ++ x ∷ []; line = next_number b.line }) u))
-          → Stops ring (is_marked marks) (point_of b said) ((ended ++ drop (i + 1) h) ++ more) e
-      by ring marks said more (inl f) = inl (ap (read_from ring (point_of b said)) (tail more) ∙ ap (read_by ring b said) (ends (drop (i + 1) h ++ more)) ∙ f (drop (i + 1) h ++ more))
-      by ring marks said more (inr (x, large, was, many, f)) = inr (
-        b.line,
-        large,
-        inr (record {
-          before = [];
-          line = ended;
-          behind = drop (i + 1) h ++ more;
-          whole = tail more;
-          said = said;
-          last = x;
-          read = λ u. resumed ring b.stage Entries said b.line b.line (lines_of u) was refl;
-          one_more = λ u. ap (read_by ring b said) (ends u) ∙ f u;
-          many = many;
-        }),
-      )
-
-  pub lines_stop : (e : Refusal) → RefusesLine b line e → Refuses a bytes e
-  lines_stop e bad = subst (λ (z : List ℕ). Refuses a z e) (sym rest) (refuses_both a b (take taken bytes) (ended ++ drop (i + 1) h) e first (stops_here e bad))
+  pub lines_stop : (c : Reader) (e : Refusal) → IsHeld b c → RefusesLine b line e → Refuses a c bytes e
+  lines_stop c e kept bad = λ ring gone said so. (
+      let t = first ring gone said so in
+      record {
+        done = take taken bytes;
+        rest = ended ++ drop (i + 1) h;
+        whole = rest;
+        to = point_of b t.0;
+        read = t.2;
+        stage_is = sym kept.stage;
+        entries_are = t.1.entries_are ∙ ap (λ (es : List Entry). gone ++ es) (sym kept.entries);
+        stops = λ more. stops_here e ring t.0 more (bad ring gone t.0 t.1);
+      })

@@ -10,20 +10,19 @@ use Rattle.texts.specs.Left.{◌>>=◌}
 use Rattle.ring_table.specs.Value.{RingValue, names_of}
 use Rattle.ring_table.specs.Valid.{IsRing}
 use Rattle.plan_runs.specs.declared.event.Entry.{Entry}
-use Rattle.script_text.specs.Valid.{AreWriters}
 use Rattle.history_text.specs.Said.{SaidEntry}
 use Rattle.history_text.specs.Spelling.{entry_line}
 use Rattle.ring_names.specs.declared.choice.Choice.{Choice}
 use Rattle.history_parts.specs.Choices.{is_chosen}
-use Rattle.history_parts.specs.Cuts.{first_cut}
-use Rattle.history_parts.specs.Parts.{all_gets, all_puts, is_marked, part_of}
-use Rattle.history_parts.proofs.Cutting.{chosen_same, part_same}
+use Rattle.history_parts.specs.Cuts.{CutValue, first_cut}
+use Rattle.history_parts.specs.Parts.{is_marked, part_of}
+use Rattle.history_parts.proofs.Cutting.{part_same}
 use Rattle.history_stream.specs.declared.cutting.Part.{Part}
 use Rattle.history_stream.specs.declared.cutting.NoPart.{NoPart}
 use Rattle.history_stream.specs.declared.cutting.NoPart.TheVariants.{Refused, Large}
 use Rattle.history_stream.specs.declared.front.FrontText.{FrontText}
 use Rattle.history_stream.specs.declared.input.Head.{Head}
-use Rattle.history_stream.specs.declared.reader.Reader.{Reader}
+use Rattle.history_stream.specs.declared.cutter.Cutter.{Cutter}
 use Rattle.history_stream.specs.declared.reader.Stage.TheVariants.{First}
 use Rattle.history_stream.specs.declared.cutting.Unended.{Unended}
 use Rattle.history_stream.specs.Input.{Tells, IsHead, max_input}
@@ -33,16 +32,15 @@ use Rattle.history_stream.specs.Front.{front_text, IsFront}
 use Rattle.history_stream.specs.Reading.{Point, entries_behind, long_reading, read_from, resume_at, writers_behind}
 use Rattle.history_stream.specs.Place.{Finds, IsPlaceOf}
 use Rattle.history_stream.specs.Room.{Holds}
-use Rattle.history_stream.specs.State.{Begun, IsReading, IsTooMuch, Stops, point_of, started}
+use Rattle.history_stream.specs.State.{IsFirst, IsTooMuch, Stops, point_of}
+use Rattle.history_stream.specs.Cutter.{Begun, HasRoom, IsCutting}
+use Rattle.history_stream.proofs.Readings.{first_reading}
 use Rattle.history_stream.proofs.Pieces.{told_all, told_any, told_rest}
 use Rattle.history_stream.specs.Cutting.{HasNoFront, start_at, ReadsAll, CutsRest, CutsAll, HasNone, IsNoFront, IsPartOf, IsStart, chosen, part_text, begun_text, IsCut, IsCutOf}
 
 -- ---- the partitions that are marked are those that are chosen
 
 module _ (ring : RingValue) (choice : Choice) (marks : List Bool) (same : (p : ℕ) → p < ring.q → is_marked marks p ≡ is_chosen choice p) where
-  pub started_same : (es : List Entry) → started ring (is_marked marks) es ≡ started ring (is_chosen choice) es
-  started_same es = ap (λ t. length (all_puts ring t [] es) + length (all_gets ring t [] es)) (chosen_same ring choice marks same)
-
   pub place_same : (es : List Entry) (n : ℕ) (o : Option ℕ) → IsPlaceOf ring (is_marked marks) es n o → IsPlaceOf ring (is_chosen choice) es n o
   place_same es n None few = subst (λ (k : ℕ). k ≤ n) (ap (λ (l : List Entry). length l) (part_same ring choice marks same es)) few
   place_same es n (Some k) (p, is, at) =
@@ -51,68 +49,53 @@ module _ (ring : RingValue) (choice : Choice) (marks : List Bool) (same : (p : �
 
 -- ---- at the start
 
-no_writers : AreWriters []
-no_writers = record { few = omega arith; names = refl; different = λ n name e. absurd cc }
+pub starts : (ring : RingValue) (marks : List Bool) (front : Begun) (line : ℕ) (c : Cutter) → IsRing ring → IsFirst ring line c.reader → c.kept.cut ≡ first_cut ring marks → Holds c.kept.part front.text 0 → Finds ring (is_marked marks) [] front.wanted c.kept.place
+    → IsCutting ring marks front [] c
+starts ring marks front line c valid first cut held found = record {
+  reading = first_reading ring line c.reader valid first;
+  cut = record {
+    cut_is = cut;
+    part_is = λ more. subst (λ (t : List ℕ). Holds c.kept.part t 0) (sym (append-nil front.text)) held;
+    place_is = found;
+  };
+}
 
-pub starts : (ring : RingValue) (marks : List Bool) (front : Begun) (r : Reader) → IsRing ring → r.ring.now ≡ ring → r.writers ≡ [] → r.cut ≡ first_cut ring marks → Holds r.part front.text 0 → Finds ring (is_marked marks) [] front.wanted r.place
-    → IsReading ring marks front [] r
-starts ring marks front r valid ring_is writers cut held found = record {
-  valid = valid;
-  ring_is = ring_is;
-  writers_are = writers;
-  names = subst AreWriters (sym writers) no_writers;
-  cut_is = cut;
-  part_is = λ more. subst (λ (t : List ℕ). Holds r.part t 0) (sym (append-nil front.text)) held;
-  place_is = found;
+-- there is room at the start
+pub start_room : (ring : RingValue) (marks : List Bool) (line : ℕ) (c : Cutter) → IsFirst ring line c.reader → c.kept.cut ≡ first_cut ring marks → HasRoom c
+start_room ring marks line c first cut = record {
+  none = first.no_entries;
+  same = (let p = ap (λ (v : CutValue). length v.puts) cut in let g = ap (λ (v : CutValue). length v.gets) cut in let s = first.none_started in omega arith);
+  few = (let s = first.none_started in omega arith);
 }
 
 -- ---- after the front
 
-module _ (choice : Choice) (front : FrontText) (marks : List Bool) (same : (p : ℕ) → p < front.ring.q → is_marked marks p ≡ is_chosen choice p) (wanted : ℕ) (text : List ℕ) (old new : Reader)
-    (start : IsReading front.ring marks (record { text = text; wanted = wanted }) [] old) (text_is : text ≡ front.text.items ++ codes "history 1\n") (stage : old.stage ≡ First) (line : old.line ≡ front.line) (bytes : List ℕ) where
-  from_is : point_of old [] ≡ start_at front.line
+module _ (choice : Choice) (front : FrontText) (marks : List Bool) (same : (p : ℕ) → p < front.ring.q → is_marked marks p ≡ is_chosen choice p) (wanted : ℕ) (text : List ℕ) (old new : Cutter)
+    (start : IsCutting front.ring marks (record { text = text; wanted = wanted }) [] old) (text_is : text ≡ front.text.items ++ codes "history 1\n") (stage : old.reader.stage ≡ First) (line : old.reader.line ≡ front.line) (bytes : List ℕ) where
+  from_is : point_of old.reader [] ≡ start_at front.line
   from_is = λ i. record { stage = stage i; said = []; line = line i }
 
   abbrev begun : Begun
   begun = record { text = text; wanted = wanted }
 
-  pub rest_ok : (u : Unit {0}) → ReadsAll old new bytes (Ok u) → CutsRest choice wanted front bytes (Ok (record { text = new.part; place = new.place.found }))
+  pub rest_ok : (u : Unit {0}) → ReadsAll old new bytes (Ok u) → CutsRest choice wanted front bytes (Ok (record { text = new.kept.part; place = new.kept.place.found }))
   rest_ok u all =
       let a = all front.ring marks begun [] start in
       let es = entries_behind [] a.0 in
       let line_of : List (List ℕ) → Entry → List ℕ = λ ns. entry_line (names_of front.ring) ns in
-      let held = a.1.part_is [] in
-      let names : new.writers ++ [] ≡ writers_behind [] a.0 = append-nil new.writers ∙ a.1.writers_are in
+      let held = a.1.cut.part_is [] in
+      let names : new.reader.writers ++ [] ≡ writers_behind [] a.0 = append-nil new.reader.writers ∙ a.1.reading.writers_are in
       let parts = part_same front.ring choice marks same es in
-      let place = place_same front.ring choice marks same es wanted new.place.found a.1.place_is.found in
-      let now : Holds new.part (text ++ flat_map (entry_line (names_of front.ring) (writers_behind [] a.0)) (part_of front.ring (is_chosen choice) es)) (length (part_of front.ring (is_chosen choice) es)) =
-      subst (λ (l : List Entry). Holds new.part (text ++ flat_map (entry_line (names_of front.ring) (writers_behind [] a.0)) l) (length l)) parts
-      (subst (λ (ns : List (List ℕ)). Holds new.part (text ++ flat_map (entry_line (names_of front.ring) ns) (part_of front.ring (is_marked marks) es)) (length (part_of front.ring (is_marked marks) es))) names held) in
+      let place = place_same front.ring choice marks same es wanted new.kept.place.found a.1.cut.place_is.found in
+      let now : Holds new.kept.part (text ++ flat_map (entry_line (names_of front.ring) (writers_behind [] a.0)) (part_of front.ring (is_chosen choice) es)) (length (part_of front.ring (is_chosen choice) es)) =
+      subst (λ (l : List Entry). Holds new.kept.part (text ++ flat_map (entry_line (names_of front.ring) (writers_behind [] a.0)) l) (length l)) parts
+      (subst (λ (ns : List (List ℕ)). Holds new.kept.part (text ++ flat_map (entry_line (names_of front.ring) ns) (part_of front.ring (is_marked marks) es)) (length (part_of front.ring (is_marked marks) es))) names held) in
       let body = flat_map (entry_line (names_of front.ring) (writers_behind [] a.0)) (part_of front.ring (is_chosen choice) es) in
       let whole : text ++ body ≡ front.text.items ++ (codes "history 1\n" ++ body) = ap (λ (t : List ℕ). t ++ body) text_is ∙ append_assoc front.text.items (codes "history 1\n") body in
-      (a.0, ap (λ (p : Point). read_from front.ring p bytes) (sym from_is) ∙ a.2, subst (λ (t : List ℕ). Holds new.part t (length (part_of front.ring (is_chosen choice) es))) whole now, place)
-
-  chosen_stops : (from : Point) (e : Refusal) → Stops front.ring (is_marked marks) from bytes e → Stops front.ring (is_chosen choice) from bytes e
-  chosen_stops from e (inl f) = inl f
-  chosen_stops from e (inr (k, large, inl h)) = inr (k, large, inl h)
-  chosen_stops from e (inr (k, large, inr h)) = inr (
-    k,
-    large,
-    inr (record {
-      before = h.before;
-      line = h.line;
-      behind = h.behind;
-      whole = h.whole;
-      said = h.said;
-      last = h.last;
-      read = h.read;
-      one_more = h.one_more;
-      many = (sym (started_same front.ring choice marks same (entries_behind [] h.said)) ∙ h.many.0, sym (started_same front.ring choice marks same (entries_behind [] (h.said ++ h.last ∷ []))) ∙ h.many.1);
-    }),
-  )
+      (a.0, ap (λ (p : Point). read_from front.ring p bytes) (sym from_is) ∙ a.2, subst (λ (t : List ℕ). Holds new.kept.part t (length (part_of front.ring (is_chosen choice) es))) whole now, place)
 
   pub rest_err : (e : Refusal) → ReadsAll old new bytes (Err e) → CutsRest choice wanted front bytes (Err e)
-  rest_err e all = λ ne nr. chosen_stops (start_at front.line) e (subst (λ (p : Point). Stops front.ring (is_marked marks) p bytes e) from_is (all ne nr front.ring marks begun [] start))
+  rest_err e all = λ ne nr. subst (λ (p : Point). Stops front.ring p bytes e) from_is (all ne nr front.ring marks begun [] start)
 
 -- ---- from the first byte
 
@@ -145,11 +128,11 @@ module _ (head : List ℕ) (front : FrontText) (value : Front) (rest more : List
         place,
       )
 
-  pub all_err : (choice : Choice) (wanted : ℕ) (e : Refusal) → Stops front.ring (is_chosen choice) (start_at front.line) (rest ++ more) e → IsCutOf choice wanted head (head ++ more) (Err (Refused e))
+  pub all_err : (choice : Choice) (wanted : ℕ) (e : Refusal) → Stops front.ring (start_at front.line) (rest ++ more) e → IsCutOf choice wanted head (head ++ more) (Err (Refused e))
   all_err choice wanted e (inl f) = inl (reads_on ∙ ap (λ (r : Result (List SaidEntry) Refusal). r >>= λ said. Ok (value, said)) f)
   all_err choice wanted e (inr (k, large, much)) =
-      let after = subst (λ (z : List ℕ). IsTooMuch front.ring (is_chosen choice) (start_at front.line) z k) (sym behind_is) much in
-      inr (k, large, (value, _, is.read, subst (λ (r : RingValue). IsTooMuch r (is_chosen choice) (start_at front.line) (drop (length (front_text value)) (head ++ more)) k) is.ring_is after))
+      let after = subst (λ (z : List ℕ). IsTooMuch front.ring (start_at front.line) z k) (sym behind_is) much in
+      inr (k, large, (value, _, is.read, subst (λ (r : RingValue). IsTooMuch r (start_at front.line) (drop (length (front_text value)) (head ++ more)) k) is.ring_is after))
 
 -- ---- the last line
 

@@ -11,12 +11,12 @@ use Rattle.history_text.specs.Said.{SaidEntry}
 use Rattle.history_text.specs.Spelling.{entry_line, history_text}
 use Rattle.ring_names.specs.declared.choice.Choice.{Choice}
 use Rattle.history_parts.specs.Choices.{is_chosen}
-use Rattle.history_parts.specs.Parts.{is_marked, part_of}
+use Rattle.history_parts.specs.Parts.{part_of}
 use Rattle.history_stream.specs.declared.cutting.Part.{Part}
 use Rattle.history_stream.specs.declared.cutting.NoPart.{NoPart}
 use Rattle.history_stream.specs.declared.cutting.NoPart.TheVariants.{Refused, Large}
 use Rattle.history_stream.specs.declared.input.Head.{Head}
-use Rattle.history_stream.specs.declared.reader.Reader.{Reader}
+use Rattle.history_stream.specs.declared.cutter.Cutter.{Cutter}
 use Rattle.history_stream.specs.Input.{IsHead, max_input}
 use Rattle.history_stream.specs.declared.front.FrontText.{FrontText}
 use Rattle.history_stream.specs.declared.reader.Stage.TheVariants.{First}
@@ -30,30 +30,20 @@ use Rattle.history_stream.specs.Front.{IsFront, front_text}
 use Rattle.history_stream.specs.Reading.{Point, entries_behind, long_reading, read_from, writers_behind}
 use Rattle.history_stream.specs.Place.{IsPlaceOf}
 use Rattle.history_stream.specs.Room.{Holds, most}
-use Rattle.history_stream.specs.State.{Begun, IsReading, IsRun, IsTooMuch, Refuses, Stops, Takes, lines_and, point_of}
+use Rattle.history_stream.specs.State.{IsTooMuch, Stops, point_of}
+use Rattle.history_stream.specs.Cutter.{Begun, IsCutting}
 
 -- the refusal that it is
 abbrev pub refusal_of : NoPart → Refusal
 refusal_of (Refused e) = e
 refusal_of (Large entries bytes) = TooLarge 0
 
--- lines were read, and what is left has none that is ended
-pub record TakesSome (old new : Reader) (bytes left : List ℕ) : Type 0 where
-  pub done : List ℕ
-  pub whole : bytes ≡ done ++ left
-  pub run : IsRun left
-  pub takes : Takes old new (lines_and done)
-
--- lines were refused, or one is too long
-abbrev pub StopsSome : Reader → List ℕ → Refusal → Type 0
-StopsSome old bytes e = Refuses old bytes e ⊎ ((e ≡ TooLarge old.line) × IsRun bytes × (max_input < length bytes))
-
--- all lines were read to the end of the text, or refused
-abbrev pub ReadsAll : Reader → Reader → List ℕ → Result (Unit {0}) Refusal → Type 0
-ReadsAll old new bytes (Ok u) = (ring : RingValue) (marks : List Bool) (front : Begun) (said : List SaidEntry) → IsReading ring marks front said old
-    → (next : List SaidEntry) × IsReading ring marks front next new × (read_from ring (point_of old said) bytes ≡ Ok next)
-ReadsAll old new bytes (Err e) = e ≢ OutOfMemory → e ≢ ReadFailed → (ring : RingValue) (marks : List Bool) (front : Begun) (said : List SaidEntry) → IsReading ring marks front said old
-    → Stops ring (is_marked marks) (point_of old said) bytes e
+-- all lines were read to the end of the text and cut, or one was refused
+abbrev pub ReadsAll : Cutter → Cutter → List ℕ → Result (Unit {0}) Refusal → Type 0
+ReadsAll old new bytes (Ok u) = (ring : RingValue) (marks : List Bool) (front : Begun) (said : List SaidEntry) → IsCutting ring marks front said old
+    → (next : List SaidEntry) × IsCutting ring marks front next new × (read_from ring (point_of old.reader said) bytes ≡ Ok next)
+ReadsAll old new bytes (Err e) = e ≢ OutOfMemory → e ≢ ReadFailed → (ring : RingValue) (marks : List Bool) (front : Begun) (said : List SaidEntry) → IsCutting ring marks front said old
+    → Stops ring (point_of old.reader said) bytes e
 
 -- the first bytes hold no front: they are all, or there are more
 abbrev pub IsNoFront : Head → Refusal → Type 0
@@ -107,9 +97,9 @@ abbrev pub start_at : ℕ → Point
 start_at line = record { stage = First; said = []; line = line }
 
 -- line k, after the front, is more than can be read
-abbrev pub IsTooMuchOf : Choice → List ℕ → List ℕ → ℕ → Type 0
-IsTooMuchOf choice head bytes k = (front : Front) × (left : Left) × (front_at (record { line = 1; lines = lines_of head }) ≡ Ok (front, left))
-    × IsTooMuch front.ring (is_chosen choice) (start_at left.line) (drop (length (front_text front)) bytes) k
+abbrev pub IsTooMuchOf : List ℕ → List ℕ → ℕ → Type 0
+IsTooMuchOf head bytes k = (front : Front) × (left : Left) × (front_at (record { line = 1; lines = lines_of head }) ≡ Ok (front, left))
+    × IsTooMuch front.ring (start_at left.line) (drop (length (front_text front)) bytes) k
 
 -- the part of a history after its front, up to its last line
 abbrev pub begun_text : Choice → Front → List SaidEntry → List ℕ
@@ -123,7 +113,7 @@ IsCutOf choice wanted head bytes (Ok part) = (front : Front) × (said : List Sai
     × IsPlaceOf front.ring (is_chosen choice) (entries_behind [] said) wanted part.place
 IsCutOf choice wanted head bytes (Err (Large entries size)) = (front : Front) × (said : List SaidEntry) × (long_reading head bytes ≡ Ok (front, said))
     × IsPartOf (part_text choice front said) (length (chosen choice front said)) (Err (Large entries size))
-IsCutOf choice wanted head bytes (Err (Refused e)) = (long_reading head bytes ≡ Err e) ⊎ ((k : ℕ) × (e ≡ TooLarge k) × IsTooMuchOf choice head bytes k)
+IsCutOf choice wanted head bytes (Err (Refused e)) = (long_reading head bytes ≡ Err e) ⊎ ((k : ℕ) × (e ≡ TooLarge k) × IsTooMuchOf head bytes k)
 
 -- the same, unless memory ran out or reading failed
 abbrev pub IsCut : Choice → ℕ → List ℕ → Result Part NoPart → Type 0
@@ -138,7 +128,7 @@ CutsRest choice wanted front bytes (Ok part) = (said : List SaidEntry) × (read_
     × Holds part.text (front.text.items ++ (codes "history 1\n" ++ flat_map (entry_line (names_of front.ring) (writers_behind [] said)) (part_of front.ring (is_chosen choice) (entries_behind [] said))))
     (length (part_of front.ring (is_chosen choice) (entries_behind [] said)))
     × IsPlaceOf front.ring (is_chosen choice) (entries_behind [] said) wanted part.place
-CutsRest choice wanted front bytes (Err e) = e ≢ OutOfMemory → e ≢ ReadFailed → Stops front.ring (is_chosen choice) (start_at front.line) bytes e
+CutsRest choice wanted front bytes (Err e) = e ≢ OutOfMemory → e ≢ ReadFailed → Stops front.ring (start_at front.line) bytes e
 
 -- the same of a bundle
 abbrev pub CutsAll : Choice → ℕ → List ℕ → Result Unended Refusal → Type 0

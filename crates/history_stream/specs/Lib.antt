@@ -4,4 +4,5 @@ pub mod Reading
 pub mod Room
 pub mod Place
 pub mod State
+pub mod Cutter
 pub mod Cutting

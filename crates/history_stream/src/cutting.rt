@@ -1,25 +1,23 @@
 //! Cutting a bundle while it is read.
 
-ghost use Rattle.std.specs.Prelude.{◌≡◌, ◌≢◌, ◌++◌, ℕ, List, codes, IfOk, IfErr, OnOk};
-ghost use Rattle.ring_names.specs.declared.refusal.Refusal.TheVariants.{OutOfMemory};
+ghost use Rattle.std.specs.Prelude.{◌≡◌, ◌++◌, ℕ, List, codes, IfOk};
 ghost use Rattle.ring_table.specs.Valid.{IsRing};
 ghost use Rattle.history_parts.specs.Choices.{IsChoice};
 ghost use Rattle.history_stream.specs.Input.{Tells};
 ghost use Rattle.history_stream.specs.Room.{Holds};
-ghost use Rattle.history_stream.specs.State.{Counted, IsRun};
-ghost use Rattle.history_stream.specs.Cutting.{refusal_of, TakesSome, StopsSome, ReadsAll, CutsRest, CutsAll};
+ghost use Rattle.history_stream.specs.Cutter.{HasRoom};
+ghost use Rattle.history_stream.specs.Cutting.{refusal_of, ReadsAll, CutsRest, CutsAll};
 ghost use Rattle.history_stream.specs.Cutting.{IsPartOf, IsCut};
 
+use crate::cutter::{Cutter, Kept};
 use crate::front::FrontText;
 use crate::input::{CHUNK, read_some};
 use crate::opening::{Opened, open};
 use crate::place::Place;
-use crate::reader::{Reader, Stage};
+use crate::reader::Reader;
 use crate::room::PartText;
-use bundle_text::MAX_INPUT;
 use history_parts::{Cut, mark_chosen};
-use memchr::memchr;
-use ring_names::{Choice, Names, Refusal};
+use ring_names::{Choice, Refusal};
 use std::alloc::Global;
 use std::io::Read;
 
@@ -55,62 +53,25 @@ impl NoPart {
     }
 }
 
-// Reads all lines that are ended, and leaves what is not.
-fn take_left(alloc: Global, reader: &mut Reader, left: &mut Vec<u8>) -> Result<(), Refusal>
-    requires { Counted reader.old }
-    ensures counted { OnOk result (Counted reader.new) }
-    ensures ok { OnOk result (TakesSome reader.old reader.new left.old.items left.new.items) }
-    ensures err { IfErr result (λ e. e ≢ OutOfMemory → StopsSome reader.old left.old.items e) }
-{
-    let taken = reader.take_lines(alloc, left.as_slice())?;
-    *left = Vec::from_slice(alloc, &left.as_slice()[taken..])?;
-    Ok(())
-}
-
-// Reads the lines that are ended in what is left and what follows it.
-fn take_some(
-    alloc: Global,
-    reader: &mut Reader,
-    left: &mut Vec<u8>,
-    more: &[u8],
-) -> Result<(), Refusal>
-    requires counted { Counted reader.old }
-    requires run { IsRun left.old.items }
-    ensures counted { OnOk result (Counted reader.new) }
-    ensures ok { OnOk result (TakesSome reader.old reader.new (left.old.items ++ more.now) left.new.items) }
-    ensures err { IfErr result (λ e. e ≢ OutOfMemory → StopsSome reader.old (left.old.items ++ more.now) e) }
-{
-    left.extend_from_slice(more)?;
-    match memchr(b'\n', more) {
-        Some(_) => take_left(alloc, reader, left),
-        None => {
-            if left.len() > MAX_INPUT {
-                return Err(Refusal::TooLarge(reader.line));
-            }
-            Ok(())
-        }
-    }
-}
-
 // Reads the input to its end, after the bytes that were read. A line of more than `MAX_INPUT` bytes is `TooLarge`.
 fn read_history<R: Read + Drop>(
     alloc: Global,
-    reader: &mut Reader,
+    cutter: &mut Cutter,
     first: Vec<u8>,
     input: &mut R,
 ) -> Result<(), Refusal>
-    requires { Counted reader.old }
-    ensures { (more : List ℕ) × Tells (R.remaining input.old) more × ReadsAll reader.old reader.new (first.items ++ more) result }
+    requires { HasRoom cutter.old }
+    ensures { (more : List ℕ) × Tells (R.remaining input.old) more × ReadsAll cutter.old cutter.new (first.items ++ more) result }
 {
     let mut left = Vec::new(alloc);
-    take_some(alloc, reader, &mut left, first.as_slice())?;
+    cutter.cut_some(alloc, &mut left, first.as_slice())?;
     drop(first);
     'reads: for turn in 0..u64::MAX {
         let more = read_some(alloc, input, CHUNK)?;
         if more.is_empty() {
-            return reader.end(left.as_slice());
+            return cutter.reader.end(left.as_slice());
         }
-        take_some(alloc, reader, &mut left, more.as_slice())?;
+        cutter.cut_some(alloc, &mut left, more.as_slice())?;
     }
     Err(Refusal::ReadFailed)
 }
@@ -139,20 +100,19 @@ fn cut_history<R: Read + Drop>(
     let marks = mark_chosen(alloc, choice, ring.q())?;
     let mut part = PartText::of(text);
     part.push_text(b"history 1\n")?;
-    let mut reader = Reader {
-        ring: &ring,
-        cut: Cut::new(alloc, &ring, marks.as_slice()),
-        writers: Names::new(alloc),
-        line,
-        stage: Stage::First,
-        started: 0,
-        part,
-        place: Place::of(wanted),
+    let mut cutter = Cutter {
+        reader: Reader::of(alloc, &ring, line),
+        kept: Kept {
+            cut: Cut::new(alloc, &ring, marks.as_slice()),
+            part,
+            place: Place::of(wanted),
+        },
     };
-    read_history(alloc, &mut reader, first, input)?;
+    read_history(alloc, &mut cutter, first, input)?;
+    let Cutter { kept, .. } = cutter;
     Ok(Unended {
-        text: reader.part,
-        place: reader.place.found,
+        text: kept.part,
+        place: kept.place.found,
     })
 }
 

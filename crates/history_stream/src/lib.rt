@@ -1,6 +1,7 @@
 //! The part of a bundle that some partitions see, cut while the bundle is read: its history may have any number of entries.
 #![tactic(auto)]
 
+mod cutter;
 mod cutting;
 mod front;
 mod input;
@@ -10,4 +11,5 @@ mod reader;
 mod room;
 
 pub use cutting::{NoPart, Part, cut_stream};
-pub use input::MOST_ENTRIES;
+pub use input::{CHUNK, MOST_ENTRIES, read_some};
+pub use reader::{Reader, Stage};

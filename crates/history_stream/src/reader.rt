@@ -1,7 +1,7 @@
-//! A history that is read line by line, and cut.
+//! A history that is read line by line.
 
-ghost use Rattle.std.specs.Prelude.{◌≡◌, ◌≢◌, ◌≤◌, ◌<◌, List, codes, length, take, drop, IfOk, IfErr, OnOk};
-ghost use Rattle.ring_names.specs.declared.refusal.Refusal.TheVariants.{OutOfMemory};
+ghost use Rattle.std.specs.Prelude.{◌≡◌, ◌≢◌, ◌≤◌, ◌++◌, ℕ, true, List, codes, length, take, drop, IfOk, IfErr, OnOk, OnErr};
+ghost use Rattle.ring_names.specs.declared.refusal.Refusal.TheVariants.{OutOfMemory, TooLarge};
 ghost use Rattle.texts.specs.Parts.{lines_of};
 ghost use Rattle.texts.specs.Judging.{end_at, map_ok};
 ghost use Rattle.ring_table.specs.Value.{RingValue};
@@ -10,11 +10,9 @@ ghost use Rattle.history_stream.specs.Reading.{resume_at};
 ghost use Rattle.texts.specs.Left.{next_number};
 ghost use Rattle.texts.specs.Frames.{header_at};
 ghost use Rattle.history_stream.specs.declared.reader.Stage.TheVariants.{First, Entries, Over};
-ghost use Rattle.history_stream.specs.State.{is_start, Counted, IsRun, Keeps, TakesEntry, RefusesEntry, Takes, Refuses, RefusesLine, line_and, lines_and};
+ghost use Rattle.history_stream.specs.State.{is_start, Counted, Counts, IsFirst, IsHeld, IsRun, TakesEntry, RefusesEntry, Takes, TakesSome, Refuses, RefusesLine, line_and, lines_and};
 
-use crate::place::Place;
-use crate::room::PartText;
-use history_parts::Cut;
+use bundle_text::MAX_INPUT;
 use history_text::{entry_line, keep_entry};
 use memchr::memchr;
 use plan_runs::{Entry, Event};
@@ -34,19 +32,18 @@ pub enum Stage {
     Over,
 }
 
-/// A history of which some lines are read, and its part so far. The entries are not kept.
+/// A history of which some lines are read. The reader keeps the entries of these lines until they are taken.
 #[derive(Drop)]
 pub struct Reader<'a> {
     pub ring: &'a Ring,
-    pub cut: Cut<'a>,
     pub writers: Names,
     /// The number of the next line.
     pub line: u32,
     pub stage: Stage,
     /// How many puts and gets were started.
     pub started: u32,
-    pub part: PartText,
-    pub place: Place,
+    /// The entries that were read and not taken.
+    pub entries: Vec<Entry>,
 }
 
 // Reads the line `history 1`.
@@ -79,49 +76,59 @@ fn is_start(event: &Event) -> bool
 }
 
 impl<'a> Reader<'a> {
-    // Cuts an entry, and keeps it if it is of the part.
-    fn keep(&mut self, alloc: Global, entry: &Entry) -> Result<(), Refusal>
-        requires puts { length self.old.cut.puts < 4294967295 }
-        requires gets { length self.old.cut.gets < 4294967295 }
-        ensures ok { OnOk result (Keeps self.old self.new entry.now) }
-        ensures memory { IfErr result (λ e. e ≡ OutOfMemory) }
+    /// A reader of a history whose first line has that number.
+    pub fn of(alloc: Global, ring: &'a Ring, line: u32) -> Reader<'a>
+        ensures { IsFirst ring.now line result }
     {
-        let kept = self.cut.entry(alloc, entry)?;
-        self.place.count(kept.is_some(), self.part.entries);
-        if let Some(kept) = kept {
-            self.part.push_entry(self.ring, &self.writers, &kept)?;
+        Reader {
+            ring,
+            writers: Names::new(alloc),
+            line,
+            stage: Stage::First,
+            started: 0,
+            entries: Vec::new(alloc),
+        }
+    }
+
+    // Counts an event that starts a put or a get. The 4,294,967,295th is `TooLarge`.
+    fn count(&mut self, line: u32, event: &Event) -> Result<(), Refusal>
+        ensures ok { OnOk result (Counts self.old self.new event.now) }
+        ensures err { IfErr result (λ e. (e ≡ TooLarge line) × (4294967294 ≤ self.old.started) × (is_start event.now ≡ true)) }
+        ensures held { OnErr result (IsHeld self.old self.new) }
+    {
+        if is_start(event) {
+            if self.started >= u32::MAX - 1 {
+                return Err(Refusal::TooLarge(line));
+            }
+            self.started += 1;
         }
         Ok(())
     }
 
     // Reads the line of an entry, given as its fields.
     fn take_entry(&mut self, alloc: Global, fields: Fields) -> Result<(), Refusal>
-        requires { Counted self.old }
-        ensures counted { OnOk result (Counted self.new) }
+        ensures counted { OnOk result ((taken : ℕ) → Counted taken self.old → Counted taken self.new) }
         ensures line { OnOk result (self.new.line ≡ self.old.line) }
         ensures stage { OnOk result (self.new.stage ≡ self.old.stage) }
         ensures ok { OnOk result (TakesEntry self.old self.new fields.entry.number fields.entry.fields) }
         ensures err { IfErr result (λ e. e ≢ OutOfMemory → RefusesEntry self.old fields.entry.number fields.entry.fields e) }
+        ensures held { OnErr result (IsHeld self.old self.new) }
     {
         let line = fields.line();
         let said = entry_line(self.ring, &self.writers, &[], fields)?;
         let entry = keep_entry(alloc, &mut self.writers, said)?;
-        if is_start(&entry.event) {
-            if self.started == u32::MAX - 1 {
-                return Err(Refusal::TooLarge(line));
-            }
-            self.started += 1;
-        }
-        self.keep(alloc, &entry)
+        self.count(line, &entry.event)?;
+        self.entries.push(entry)?;
+        Ok(())
     }
 
     // Reads the first line of the history.
     fn take_first(&mut self, text: &[u8]) -> Result<(), Refusal>
-        requires counted { Counted self.old }
         requires stage { self.old.stage ≡ First }
-        ensures counted { OnOk result (Counted self.new) }
+        ensures counted { OnOk result ((taken : ℕ) → Counted taken self.old → Counted taken self.new) }
         ensures ok { OnOk result (Takes self.old self.new (line_and text.now)) }
         ensures err { IfErr result (λ e. RefusesLine self.old text.now e) }
+        ensures held { OnErr result (IsHeld self.old self.new) }
     {
         first_line(Fields::of(self.line, text))?;
         self.stage = Stage::Entries;
@@ -133,6 +140,7 @@ impl<'a> Reader<'a> {
     fn take_end(&mut self, mut fields: Fields) -> Result<(), Refusal>
         ensures ok { OnOk result (self.new ≡ record self.old { stage = Over; line = next_number self.old.line }) }
         ensures end { result ≡ (end_at fields.entry.number fields.entry.fields).0 }
+        ensures held { OnErr result (IsHeld self.old self.new) }
     {
         fields.ended()?;
         self.stage = Stage::Over;
@@ -142,11 +150,11 @@ impl<'a> Reader<'a> {
 
     // Reads an entry, or the last line of the history.
     fn take_next(&mut self, alloc: Global, text: &[u8]) -> Result<(), Refusal>
-        requires counted { Counted self.old }
         requires stage { self.old.stage ≡ Entries }
-        ensures counted { OnOk result (Counted self.new) }
+        ensures counted { OnOk result ((taken : ℕ) → Counted taken self.old → Counted taken self.new) }
         ensures ok { OnOk result (Takes self.old self.new (line_and text.now)) }
         ensures err { IfErr result (λ e. e ≢ OutOfMemory → RefusesLine self.old text.now e) }
+        ensures held { OnErr result (IsHeld self.old self.new) }
     {
         let mut fields = Fields::of(self.line, text);
         if fields.takes(b"end") {
@@ -159,10 +167,10 @@ impl<'a> Reader<'a> {
 
     // Reads a line, given without its last byte 0A.
     fn take_line(&mut self, alloc: Global, text: &[u8]) -> Result<(), Refusal>
-        requires { Counted self.old }
-        ensures counted { OnOk result (Counted self.new) }
+        ensures counted { OnOk result ((taken : ℕ) → Counted taken self.old → Counted taken self.new) }
         ensures ok { OnOk result (Takes self.old self.new (line_and text.now)) }
         ensures err { IfErr result (λ e. e ≢ OutOfMemory → RefusesLine self.old text.now e) }
+        ensures held { OnErr result (IsHeld self.old self.new) }
     {
         match self.stage {
             Stage::First => self.take_first(text),
@@ -173,12 +181,11 @@ impl<'a> Reader<'a> {
 
     /// Reads all lines that are ended, and returns how many bytes they have.
     pub fn take_lines(&mut self, alloc: Global, bytes: &[u8]) -> Result<usize, Refusal>
-        requires { Counted self.old }
-        ensures counted { OnOk result (Counted self.new) }
+        ensures counted { OnOk result ((taken : ℕ) → Counted taken self.old → Counted taken self.new) }
         ensures within { IfOk result (λ taken. taken ≤ length bytes.now) }
         ensures run { IfOk result (λ taken. IsRun (drop taken bytes.now)) }
         ensures ok { IfOk result (λ taken. Takes self.old self.new (lines_and (take taken bytes.now))) }
-        ensures err { IfErr result (λ e. e ≢ OutOfMemory → Refuses self.old bytes.now e) }
+        ensures err { IfErr result (λ e. e ≢ OutOfMemory → Refuses self.old self.new bytes.now e) }
     {
         let mut taken = 0;
         'lines: loop {
@@ -188,6 +195,42 @@ impl<'a> Reader<'a> {
                     self.take_line(alloc, &bytes[taken..taken + at])?;
                     taken += at + 1;
                 }
+            }
+        }
+    }
+
+    // Reads all lines that are ended, and leaves what is not.
+    fn take_left(&mut self, alloc: Global, left: &mut Vec<u8>) -> Result<(), Refusal>
+        ensures counted { OnOk result ((taken : ℕ) → Counted taken self.old → Counted taken self.new) }
+        ensures ok { OnOk result (TakesSome self.old self.new left.old.items left.new.items) }
+        ensures err { IfErr result (λ e. e ≢ OutOfMemory → Refuses self.old self.new left.old.items e) }
+    {
+        let taken = self.take_lines(alloc, left.as_slice())?;
+        *left = Vec::from_slice(alloc, &left.as_slice()[taken..])?;
+        Ok(())
+    }
+
+    /// Reads the lines that are ended in what is left and what follows it. A line of more than `MAX_INPUT` bytes is `TooLarge`. If a line is refused,
+    /// the entries before it are kept.
+    pub fn take_some(
+        &mut self,
+        alloc: Global,
+        left: &mut Vec<u8>,
+        more: &[u8],
+    ) -> Result<(), Refusal>
+        requires { IsRun left.old.items }
+        ensures counted { OnOk result ((taken : ℕ) → Counted taken self.old → Counted taken self.new) }
+        ensures ok { OnOk result (TakesSome self.old self.new (left.old.items ++ more.now) left.new.items) }
+        ensures err { IfErr result (λ e. e ≢ OutOfMemory → Refuses self.old self.new (left.old.items ++ more.now) e) }
+    {
+        left.extend_from_slice(more)?;
+        match memchr(b'\n', more) {
+            Some(_) => self.take_left(alloc, left),
+            None => {
+                if left.len() > MAX_INPUT {
+                    return Err(Refusal::TooLarge(self.line));
+                }
+                Ok(())
             }
         }
     }

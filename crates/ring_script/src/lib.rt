@@ -7,4 +7,4 @@ mod replaying;
 
 pub use bundle::{Bundle, Kind, read_bundle};
 pub use playing::{play, play_whole};
-pub use replaying::replay_history;
+pub use replaying::{replay_history, write_ending};

@@ -27,8 +27,8 @@ fn write_owners(alloc: Global, ring: &Ring, rows: &[Listed<NodeId>]) -> Result<V
     Ok(out)
 }
 
-// `yes`, and the owners now.
-fn ending(alloc: Global, ring: &Ring, world: &World) -> Result<Vec<u8>, Refusal>
+/// What a replay prints of a history that led the store here: `yes`, the line of owners of each partition, and `end`.
+pub fn write_ending(alloc: Global, ring: &Ring, world: &World) -> Result<Vec<u8>, Refusal>
     requires { ring_of world.now ≡ ring.now }
     ensures text { IfOk result
         (λ v. (w : TheWorld) → Meets world.now w → v.items ≡ ending_text ring.now (plan_of world.now) w) }
@@ -56,7 +56,7 @@ fn replayed(
         → IsFirstFault approved.now.ring approved.now.plan (opening_world approved.now.ring) 0 history.old e) }
 {
     follow_queue(world, history)?;
-    ending(alloc, approved.ring(), world)
+    write_ending(alloc, approved.ring(), world)
 }
 
 /// What a replay of the history prints, where it is a run of the plan with those replies: `yes`, the line of owners of each partition behind the last

@@ -6,8 +6,8 @@ use Rattle.ring_core.specs.Faults.{IsFirstFault}
 use Rattle.ring_script.proofs.Replayed.{is_replayed}
 use Rattle.ring_script.proofs.replaying.replayed.Goals as goal
 
-pub ending-requires : goal.ending-requires
-ending-requires c = c.in_ok-follow_queue.ensures.ok.ring ∙ c.requires.ring ∙ sym c.ring.ensures.value
+pub write_ending-requires : goal.write_ending-requires
+write_ending-requires c = c.in_ok-follow_queue.ensures.ok.ring ∙ c.requires.ring ∙ sym c.ring.ensures.value
 
 pub returns-clause-text : goal.returns-clause-text
 returns-clause-text c =
@@ -15,8 +15,8 @@ returns-clause-text c =
     let start = c.args.world.now in
     let new = c.follow_queue.new.world in
     let f = c.in_ok-follow_queue.ensures.ok in
-    is_replayed there.ring c.ring.result.now there.plan new c.args.history.now c.ending.result
-    (replays_all start new there.ring there.plan c.args.history.now c.requires.ring c.requires.plan c.requires.opening f) c.ring.ensures.value (f.plan ∙ c.requires.plan) c.ending.ensures.text
+    is_replayed there.ring c.ring.result.now there.plan new c.args.history.now c.write_ending.result
+    (replays_all start new there.ring there.plan c.args.history.now c.requires.ring c.requires.plan c.requires.opening f) c.ring.ensures.value (f.plan ∙ c.requires.plan) c.write_ending.ensures.text
 
 pub returns-in_err-follow_queue-clause-err : goal.returns-in_err-follow_queue-clause-err
 returns-in_err-follow_queue-clause-err c =

@@ -14,5 +14,5 @@ returns-in_err-first_line-clause-err c =
 
 pub returns-clause-ok : goal.returns-clause-ok
 returns-clause-ok c =
-    takes_first c.args.self.now _ c.args.text.now c.next_line-self.ensures tt c.requires.stage refl (record { ring = refl; cut = refl; writers = refl; part = refl; place = refl })
+    takes_first c.args.self.now _ c.args.text.now c.next_line-self.ensures tt c.requires.stage refl (record { ring = refl; writers = refl; started = refl; entries = refl })
     (sym (c.in_ok-first_line.ensures ∙ ap (λ (l : Line). header_at (codes "history") (codes "1") l.number l.fields) c.of.ensures))

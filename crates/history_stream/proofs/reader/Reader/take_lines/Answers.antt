@@ -15,9 +15,9 @@ returns-in_err-take_line-in-Some-clause-err c =
     let taken = c.lines.taken in
     let same : taken + c.in-Some.at - taken ≡ c.in-Some.at = omega arith in
     let e = c.in_err-take_line-in-Some.field-0.0 in
-    if_err c.from_residual.result e (λ (x : Refusal). x ≢ OutOfMemory → Refuses c.args.self.now bytes x) c.from_residual.ensures.1
+    if_err c.from_residual.result e (λ (x : Refusal). x ≢ OutOfMemory → Refuses c.args.self.now c.take_line.new.self bytes x) c.from_residual.ensures.1
     (λ ne. lines_stop c.args.self.now c.lines.self bytes (take (length bytes - taken) (drop taken bytes)) (take (taken + c.in-Some.at - taken) (drop taken bytes)) taken c.in-Some.at (taken + c.in-Some.at - taken) (take_rest bytes taken)
-    f.0.high (λ k h. false_from_ne_true _ (f.0.before k (omega arith) h)) f.1 same refl c.lines.invariant.takes e (c.in_err-take_line-in-Some.ensures.err ne))
+    f.0.high (λ k h. false_from_ne_true _ (f.0.before k (omega arith) h)) f.1 same refl c.lines.invariant.takes c.take_line.new.self e c.in_err-take_line-in-Some.ensures.held (c.in_err-take_line-in-Some.ensures.err ne))
 
 pub lines-preserved : goal.lines-preserved
 lines-preserved c =
@@ -28,7 +28,7 @@ lines-preserved c =
     let size = ap (λ (l : List ℕ). length l) (take_rest bytes taken) ∙ length-drop taken bytes in
     let high = f.0.high in
     record {
-      counted = c.in_ok-take_line-in-Some.ensures.counted;
+      counted = λ taken k. c.in_ok-take_line-in-Some.ensures.counted taken (c.lines.invariant.counted taken k);
       within = omega arith;
       takes = lines_more c.args.self.now c.lines.self bytes (take (length bytes - taken) (drop taken bytes)) (take (taken + c.in-Some.at - taken) (drop taken bytes)) taken c.in-Some.at (taken + c.in-Some.at - taken) (take_rest bytes taken)
           f.0.high (λ k h. false_from_ne_true _ (f.0.before k (omega arith) h)) f.1 same refl c.lines.invariant.takes c.take_line.new.self c.in_ok-take_line-in-Some.ensures.ok;

@@ -1,10 +1,10 @@
-use Rattle.std.proofs.Common.{◌-◌, ◌≤◌, length, take}
+use Rattle.std.proofs.Common.{ℕ, ◌-◌, ◌≤◌, length, take}
 use Rattle.history_stream.specs.State.{Counted, Takes, lines_and}
 use Rattle.history_stream.proofs.reader.Reader.take_lines.Given as goal
 
 abbrev pub invariant-lines : goal.invariant-lines
 invariant-lines l = record {
-  counted : Counted l.self;
+  counted : (taken : ℕ) → Counted taken l.fn.self → Counted taken l.self;
   within : l.taken ≤ length l.fn.bytes;
   takes : Takes l.fn.self l.self (lines_and (take l.taken l.fn.bytes));
 }

@@ -45,4 +45,7 @@ returns-clause-ok c =
     (c.takes.ensures.left c.if-takes.false ∙ ap (λ (l : Line). l.fields) c.of-fields.ensures) c.requires.stage
     (goes text (λ x xs h. c.takes.ensures.other c.if-takes.false x xs (ap (λ (l : Line). l.fields) c.of-fields.ensures ∙ h)))
     c.take_entry.new.self _ (c.next_line-self.ensures ∙ ap next_number c.in_ok-take_entry.ensures.line) (c.in_ok-take_entry.ensures.stage ∙ c.requires.stage)
-    (record { ring = refl; cut = refl; writers = refl; part = refl; place = refl }) c.in_ok-take_entry.ensures.ok
+    (record { ring = refl; writers = refl; started = refl; entries = refl }) c.in_ok-take_entry.ensures.ok
+
+pub returns-clause-counted : goal.returns-clause-counted
+returns-clause-counted c = λ taken k. (let d = c.in_ok-take_entry.ensures.counted taken k in record { same = d.same; few = d.few })

@@ -6,7 +6,7 @@ use Rattle.history_text.specs.Spelling.{entry_line}
 use Rattle.history_parts.specs.Cuts.{entry_next}
 use Rattle.history_stream.specs.Place.{FindsMore}
 use Rattle.history_stream.specs.Room.{Holds}
-use Rattle.history_stream.proofs.reader.Reader.keep.Goals as goal
+use Rattle.history_stream.proofs.cutter.Kept.keep.Goals as goal
 
 pub returns-in_ok-push_entry-clause-ok : goal.returns-in_ok-push_entry-clause-ok
 returns-in_ok-push_entry-clause-ok c =
@@ -16,12 +16,7 @@ returns-in_ok-push_entry-clause-ok c =
     let some : entry_next old.cut c.args.entry.now ≡ Some c.in-Some.kept = sym next ∙ c.in-Some.is in
     record {
       cut_is = c.in_ok-kept.ensures.after;
-      ring_same = refl;
-      writers_same = refl;
-      line_same = refl;
-      stage_same = refl;
-      started_same = refl;
-      part_is = subst (λ (o : Option Entry). MatchOption o (part ≡ old.part) (λ y. (t : List ℕ) (n : ℕ) → Holds old.part t n → Holds part (t ++ entry_line (names_of old.ring.now) old.writers y) (n + 1))) (sym some) c.in_ok-push_entry.ensures;
+      part_is = subst (λ (o : Option Entry). MatchOption o (part ≡ old.part) (λ y. (t : List ℕ) (n : ℕ) → Holds old.part t n → Holds part (t ++ entry_line (names_of c.args.ring.now) c.args.writers.now y) (n + 1))) (sym some) c.in_ok-push_entry.ensures;
       place_is = subst (λ (b : Bool). FindsMore old.place c.count.new.self b old.part.entries) (c.is_some.ensures ∙ ap (λ (o : Option Entry). is_some o) next) c.count.ensures;
     }
 
@@ -32,11 +27,6 @@ returns-in_default-clause-ok c =
     let none : entry_next old.cut c.args.entry.now ≡ None = sym next ∙ c.in_default.is in
     record {
       cut_is = c.in_ok-kept.ensures.after;
-      ring_same = refl;
-      writers_same = refl;
-      line_same = refl;
-      stage_same = refl;
-      started_same = refl;
-      part_is = subst (λ (o : Option Entry). MatchOption o (old.part ≡ old.part) (λ y. (t : List ℕ) (n : ℕ) → Holds old.part t n → Holds old.part (t ++ entry_line (names_of old.ring.now) old.writers y) (n + 1))) (sym none) refl;
+      part_is = subst (λ (o : Option Entry). MatchOption o (old.part ≡ old.part) (λ y. (t : List ℕ) (n : ℕ) → Holds old.part t n → Holds old.part (t ++ entry_line (names_of c.args.ring.now) c.args.writers.now y) (n + 1))) (sym none) refl;
       place_is = subst (λ (b : Bool). FindsMore old.place c.count.new.self b old.part.entries) (c.is_some.ensures ∙ ap (λ (o : Option Entry). is_some o) next) c.count.ensures;
     }

@@ -4,7 +4,7 @@ use Rattle.ring_names.specs.declared.ids.NodeId.{NodeId}
 use Rattle.ring_table.specs.Value.{RingValue}
 use Rattle.ring_script.specs.Replay.{rows_text}
 use Rattle.ring_script.proofs.Played.{owners_met}
-use Rattle.ring_script.proofs.replaying.ending.Goals as goal
+use Rattle.ring_script.proofs.replaying.write_ending.Goals as goal
 
 pub write_owners-requires : goal.write_owners-requires
 write_owners-requires c = ap (λ (rows : List (List NodeId)). length rows) c.as_slice.ensures.value ∙ (c.in_ok-rows.ensures.size ∙ ap (λ (r : RingValue). r.q) c.requires)
