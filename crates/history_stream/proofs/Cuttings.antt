@@ -1,6 +1,6 @@
 -- A history that is cut grows by an entry.
-use Rattle.std.proofs.Common.{◌≡◌, ℕ, ◌+◌, ◌<◌, Bool, true, false, cond, List, [], ◌∷◌, ◌++◌, length, length-append, Option, Some, None, refl, sym, ap, subst, ◌∙◌, append_assoc, append-nil, arith}
-use Rattle.std.specs.Prelude.{MatchOption, is_some, min, option_to_list, codes}
+use Rattle.std.proofs.Common.{◌≡◌, ℕ, ◌+◌, Bool, true, false, cond, List, [], ◌∷◌, ◌++◌, length, length-append, Option, Some, None, refl, sym, ap, subst, ◌∙◌, append_assoc, append-nil, arith}
+use Rattle.std.specs.Prelude.{MatchOption, is_some, option_to_list, codes}
 use Rattle.std.specs.List.{AllByRecursion, flat_map, join_with_byte}
 use Rattle.std.proofs.lemmas.Grind.{flat_map-append}
 use Rattle.std.proofs.lemmas.List.Concat.{flat_map-cons}
@@ -9,8 +9,7 @@ use Rattle.plan_runs.specs.declared.event.Event.{Event}
 use Rattle.plan_runs.specs.declared.event.Event.TheVariants.{StartPut, StartGet}
 use Rattle.plan_runs.specs.declared.event.Entry.{Entry}
 use Rattle.plan_runs.specs.Replies.{reply_text}
-use Rattle.script_text.specs.Valid.{AreWriters, IsKnown}
-use Rattle.history_text.specs.Said.{SaidEntry}
+use Rattle.script_text.specs.Valid.{IsKnown}
 use Rattle.script_text.proofs.SightLaws.{fields-more}
 use Rattle.history_text.specs.Spelling.{entry_line}
 use Rattle.history_parts.specs.Parts.{puts_after, gets_after, event_in, reply_in, is_kept, entry_in, all_puts, all_gets, part_of, or_none, is_marked}
@@ -19,11 +18,11 @@ use Rattle.history_parts.proofs.Cutting.{gets_more, part_more, puts_more}
 use Rattle.history_stream.specs.declared.cutter.Kept.{Kept}
 use Rattle.history_stream.specs.declared.room.PartText.{PartText}
 use Rattle.history_stream.specs.Place.{Finds, FindsMore}
-use Rattle.history_stream.specs.Room.{Holds, most}
+use Rattle.history_stream.specs.Room.{Holds}
 use Rattle.history_stream.specs.declared.cutter.Cutter.{Cutter}
 use Rattle.history_stream.specs.declared.reader.Reader.{Reader}
 use Rattle.history_stream.specs.Reading.{entries_behind, read_from}
-use Rattle.history_stream.specs.State.{Counted, is_start, started, IsEmptied, IsKnownIn, IsReading, TakesSome}
+use Rattle.history_stream.specs.State.{Counted, is_start, started, IsEmptied, IsKnownIn, TakesSome}
 use Rattle.history_stream.specs.Cutter.{Begun, IsKept, CutsOne, CutsMany, CutsSome, HasRoom}
 use Rattle.history_stream.proofs.Readings.{emptied_reading, started_more}
 

@@ -21,7 +21,7 @@ use Rattle.history_stream.specs.declared.reader.Reader.{Reader}
 use Rattle.history_stream.specs.declared.reader.Stage.TheVariants.{First, Entries, Over}
 use Rattle.history_stream.specs.Input.{Tells, IsOutside, IsNext, max_input}
 use Rattle.history_stream.specs.Reading.{IsReadTo, Point, goes_on, read_from, rest_at, resume_at}
-use Rattle.history_stream.specs.State.{IsReading, IsRun, Refuses, Stops, StopsAfter, Takes, TakesSome, lines_and, point_of}
+use Rattle.history_stream.specs.State.{IsRun, Refuses, Stops, StopsAfter, Takes, TakesSome, lines_and, point_of}
 use Rattle.history_stream.specs.Cutter.{Begun, Cuts, CutsSome, IsCutting}
 use Rattle.history_stream.proofs.Inputs.{same_end}
 use Rattle.history_stream.specs.Cutting.{ReadsAll}

@@ -20,7 +20,7 @@ use Rattle.history_text.specs.Reading.{said_at}
 use Rattle.history_stream.specs.declared.reader.Reader.{Reader}
 use Rattle.history_stream.specs.declared.reader.Stage.{Stage}
 use Rattle.history_stream.specs.declared.reader.Stage.TheVariants.{First, Entries, Over}
-use Rattle.history_stream.specs.Reading.{entries_behind, goes_on, read_from, resume_at}
+use Rattle.history_stream.specs.Reading.{goes_on, read_from, resume_at}
 use Rattle.history_stream.specs.State.{IsHeld, IsKnownIn, IsReading, IsTooMany, Stops, TakesEntry, RefusesEntry, RefusesLine, Takes, Refuses, read_by, line_and, lines_and, point_of, started}
 use Rattle.history_stream.proofs.Resumes.{entry_step, entry_bad, end_step, header_step, over_bad}
 use Rattle.history_stream.proofs.Pieces.{takes_both}

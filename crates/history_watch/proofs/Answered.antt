@@ -1,5 +1,5 @@
 -- What is answered at the end of a history.
-use Rattle.std.proofs.Common.{◌≡◌, ◌≢◌, ◌⊎◌, ℕ, Bool, true, false, eqb-true, List, [], ◌∷◌, ◌++◌, length, Ok, Err, refl, sym, ap, subst, ◌∙◌, append-nil, inl, inr, arith}
+use Rattle.std.proofs.Common.{◌≡◌, ◌≢◌, ℕ, true, false, eqb-true, List, [], ◌∷◌, ◌++◌, length, Ok, Err, refl, sym, ap, ◌∙◌, append-nil, arith}
 use Rattle.std.specs.Prelude.{codes, IfOk, Result}
 use Rattle.std.specs.Global.{Vec}
 use Rattle.ring_names.specs.declared.refusal.Refusal.{Refusal}
@@ -12,14 +12,14 @@ use Rattle.plan_runs.specs.World.{World as TheWorld}
 use Rattle.history_text.specs.Said.{SaidEntry}
 use Rattle.history_stream.specs.declared.reader.Stage.{Stage}
 use Rattle.history_stream.specs.declared.reader.Stage.TheVariants.{First, Entries, Over}
-use Rattle.history_stream.specs.Reading.{Point, read_from, resume_at}
+use Rattle.history_stream.specs.Reading.{read_from, resume_at}
 use Rattle.history_stream.specs.State.{IsRun as HasNoEnd, point_of}
 use Rattle.history_stream.proofs.Pieces.{end_entries, end_first, end_over}
 use Rattle.history_stream.proofs.Resumes.{end_is, end_step}
 use Rattle.ring_core.specs.World.{ring_of, plan_of, Meets}
-use Rattle.ring_script.specs.Replay.{ending_text, IsReplayed}
+use Rattle.ring_script.specs.Replay.{ending_text}
 use Rattle.history_watch.specs.declared.watch.Watch.{Watch}
-use Rattle.history_watch.specs.Watching.{HasEnded, IsAnswer, IsCutOff, IsWatching, entries_of, history_at, is_whole, start}
+use Rattle.history_watch.specs.Watching.{IsAnswer, IsCutOff, IsWatching, history_at, is_whole, start}
 
 nothing_left : (xs : List ℕ) → length xs ≡ 0 → xs ≡ []
 nothing_left [] e = refl
@@ -31,19 +31,19 @@ ended ring said line = end_step ring said line (codes "end" ∷ []) [] (Ok tt) r
 
 module _ (ring : RingValue) (plan : List Planned) (bytes : List ℕ) (w : Watch) (iw : IsWatching ring plan bytes w) where
   -- what a history says that may stop
-  says : (s : Stage) → w.reader.stage ≡ s → is_whole s w.left.items ≡ true → HasEnded ring bytes iw.said ⊎ (history_at ring (bytes ++ codes "end\n") ≡ Ok iw.said)
-  says First is whole = absurd cc
-  says Over is whole = inl (iw.over is)
-  says Entries is whole =
-      let g = iw.going (λ o. (let same : Entries ≡ Over = sym is ∙ o in absurd cc)) in
+  says : (s : Stage) → w.reader.stage ≡ s → is_whole s w.left.items ≡ true → w.reader.stage ≢ Over → history_at ring (bytes ++ codes "end\n") ≡ Ok iw.said
+  says First is whole still = absurd cc
+  says Over is whole still = absurd (still is)
+  says Entries is whole still =
+      let g = iw.going still in
       let none : w.left.items ≡ [] = nothing_left w.left.items (eqb-true (length w.left.items) 0 whole) in
       let all : bytes ≡ g.done = g.whole ∙ ap (λ (z : List ℕ). g.done ++ z) none ∙ append-nil g.done in
-      inr (ap (λ (z : List ℕ). read_from ring start (z ++ codes "end\n")) all ∙ g.read (codes "end\n") ∙ (λ i. read_from ring (record { stage = is i; said = iw.said; line = w.reader.line }) (codes "end\n")) ∙ ended ring iw.said w.reader.line)
+      ap (λ (z : List ℕ). read_from ring start (z ++ codes "end\n")) all ∙ g.read (codes "end\n") ∙ (λ i. read_from ring (record { stage = is i; said = iw.said; line = w.reader.line }) (codes "end\n")) ∙ ended ring iw.said w.reader.line
 
-  pub answered : (r : RingValue) → ring_of w.world ≡ r → is_whole w.reader.stage w.left.items ≡ true → (text : List ℕ) → ((u : TheWorld) → Meets w.world u → text ≡ ending_text r (plan_of w.world) u) → IsAnswer ring plan bytes text
+  pub answered : (r : RingValue) → ring_of w.world ≡ r → is_whole w.reader.stage w.left.items ≡ true → (text : List ℕ) → ((u : TheWorld) → Meets w.world u → text ≡ ending_text r (plan_of w.world) u) → IsAnswer ring plan bytes w iw.said text
   answered r r_is whole text shown =
       let is = shown iw.world iw.meets ∙ (λ i. ending_text ((sym r_is ∙ iw.ring_is) i) (iw.plan_is i) iw.world) in
-      (iw.said, says w.reader.stage refl whole, ∣ (iw.world, iw.run, is) ∣₁)
+      record { replayed = ∣ (iw.world, iw.run, is) ∣₁; ends = says w.reader.stage refl whole }
 
   stopped : (s : Stage) → w.reader.stage ≡ s → w.reader.stage ≢ Over → (HasNoEnd w.left.items → resume_at ring s iw.said (record { line = w.reader.line; lines = lines_of w.left.items }) ≡ Err (BadLine w.reader.line)) → IsCutOff ring plan bytes (BadLine w.reader.line)
   stopped s is still bad =
@@ -64,6 +64,6 @@ module _ (ring : RingValue) (plan : List Planned) (bytes : List ℕ) (w : Watch)
 -- ---- as the code has them
 
 pub answer_text : (w : Watch) → ring_of w.world ≡ w.ring.now → is_whole w.reader.stage w.left.items ≡ true → (r : Result (Vec ℕ) Refusal) → IfOk r (λ v. (u : TheWorld) → Meets w.world u → v.items ≡ ending_text w.ring.now (plan_of w.world) u)
-    → IfOk r (λ text. (ring : RingValue) (plan : List Planned) (bytes : List ℕ) → IsWatching ring plan bytes w → IsAnswer ring plan bytes text.items)
+    → IfOk r (λ text. (ring : RingValue) (plan : List Planned) (bytes : List ℕ) (so : IsWatching ring plan bytes w) → IsAnswer ring plan bytes w so.said text.items)
 answer_text w same whole (Ok v) shown = λ ring plan bytes iw. answered ring plan bytes w iw w.ring.now same whole v.items shown
 answer_text w same whole (Err e) shown = tt

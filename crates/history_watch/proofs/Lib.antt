@@ -1,3 +1,4 @@
 pub mod Following
 pub mod Watched
 pub mod Answered
+pub mod Looped

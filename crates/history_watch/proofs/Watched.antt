@@ -1,5 +1,5 @@
 -- A watch takes bytes.
-use Rattle.std.proofs.Common.{◌≡◌, ◌≢◌, ◌⊎◌, ℕ, suc, ◌+◌, ◌<◌, ◌≤◌, true, List, [], ◌∷◌, ◌++◌, length, take, length-append, Ok, Err, Result, refl, sym, ap, subst, ◌∙◌, append_assoc, append-nil, arith, inl, inr}
+use Rattle.std.proofs.Common.{◌≡◌, ◌≢◌, ℕ, suc, ◌+◌, true, List, [], ◌∷◌, ◌++◌, length, take, length-append, Ok, Err, Result, refl, sym, ap, subst, ◌∙◌, append_assoc, append-nil, arith, inl, inr}
 use Rattle.std.specs.Global.{Vec}
 use Rattle.std.proofs.Math.Seq.{take-length}
 use Rattle.std.specs.Prelude.{IfErr, OnOk}
@@ -15,18 +15,17 @@ use Rattle.plan_runs.proofs.Split.{joined}
 use Rattle.script_text.specs.Said.{names_after}
 use Rattle.history_text.specs.Said.{SaidEntry}
 use Rattle.history_stream.specs.declared.reader.Reader.{Reader}
-use Rattle.history_stream.specs.declared.reader.Stage.TheVariants.{First, Entries, Over}
+use Rattle.history_stream.specs.declared.reader.Stage.TheVariants.{First, Over}
 use Rattle.history_stream.specs.Reading.{Point, IsReadTo, entries_behind, read_from}
-use Rattle.history_stream.specs.State.{IsEmptied, IsFirst, IsReading, IsRun as HasNoEnd, Refuses, Stops, TakesSome, point_of}
+use Rattle.history_stream.specs.State.{IsFirst, IsReading, IsRun as HasNoEnd, Refuses, Stops, TakesSome, point_of}
 use Rattle.history_stream.proofs.Pieces.{end_over, read_on}
 use Rattle.history_stream.proofs.Readings.{emptied_reading, first_reading}
 use Rattle.ring_core.specs.declared.world.World.{World}
 use Rattle.ring_core.specs.World.{ring_of, plan_of, Meets}
-use Rattle.ring_core.specs.Replays.{IsHistory}
 use Rattle.ring_core.specs.Faults.{IsFirstFault}
 use Rattle.history_watch.specs.declared.watch.Watch.{Watch}
-use Rattle.history_watch.specs.Following.{FailsIn, FollowsAll, Reaches, most}
-use Rattle.history_watch.specs.Watching.{Begins, FollowsKept, HasEnded, HasFault, HasTooMany, IsGoing, IsJudged, IsRefused, IsWatching, entries_of, history_at, start}
+use Rattle.history_watch.specs.Following.{FailsIn, FollowsAll, Reaches}
+use Rattle.history_watch.specs.Watching.{Begins, FollowsKept, HasEnded, IsGoing, IsJudged, IsRefused, IsWatching, entries_of, history_at, start}
 use Rattle.history_watch.proofs.Following.{fault_joined, fault_more}
 
 entries_length : (names : List (List ℕ)) (said : List SaidEntry) → length (entries_behind names said) ≡ length said

@@ -111,9 +111,10 @@ is_whole First left = false
 is_whole Entries left = length left == 0
 is_whole Over left = true
 
--- the bytes are a history, with its last line or without it, and the text is what a replay of it prints
-abbrev pub IsAnswer : RingValue → List Planned → List ℕ → List ℕ → Type 0
-IsAnswer ring plan bytes text = (said : List SaidEntry) × (HasEnded ring bytes said ⊎ (history_at ring (bytes ++ codes "end\n") ≡ Ok said)) × IsReplayed ring plan (entries_of said) text
+-- the text is what a replay of the entries so far prints, and if the last line has not come, they are a history with it
+pub record IsAnswer (ring : RingValue) (plan : List Planned) (bytes : List ℕ) (w : Watch) (said : List SaidEntry) (text : List ℕ) : Type 0 where
+  pub replayed : IsReplayed ring plan (entries_of said) text
+  pub ends : w.reader.stage ≢ Over → history_at ring (bytes ++ codes "end\n") ≡ Ok said
 
 -- the bytes are not a history, with or without a last line, and the entries that they say are a run
 pub record IsCutOff (ring : RingValue) (plan : List Planned) (bytes : List ℕ) (e : Refusal) : Type 0 where

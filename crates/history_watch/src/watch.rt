@@ -4,7 +4,7 @@ ghost use Rattle.std.specs.Prelude.{◌≡◌, ◌≢◌, ◌≤◌, ◌+◌, �
 ghost use Rattle.ring_names.specs.declared.refusal.Refusal.TheVariants.{OutOfMemory};
 ghost use Rattle.ring_table.specs.Value.{RingValue};
 ghost use Rattle.plan_text.specs.declared.step.Planned.{Planned};
-ghost use Rattle.history_stream.specs.declared.reader.Stage.TheVariants.{Over};
+ghost use Rattle.history_stream.specs.declared.reader.Stage.TheVariants.{First, Over};
 ghost use Rattle.ring_core.specs.World.{ring_of, plan_of, put_count, get_count};
 ghost use Rattle.history_watch.specs.Watching.{HasRoom, IsWatching, IsRefused, IsJudged, IsAnswer, IsCutOff};
 ghost use Rattle.history_watch.specs.Following.{FollowsAll, FailsIn, Reaches};
@@ -73,6 +73,7 @@ impl<'a> Watch<'a> {
     pub fn start(alloc: Global, approved: &'a Approved) -> Result<Watch<'a>, Refusal>
         ensures ok { IfOk result (λ w. IsWatching approved.now.ring approved.now.plan [] w) }
         ensures room { IfOk result HasRoom }
+        ensures first { IfOk result (λ w. (w.reader.stage ≡ First) × (w.count ≡ 0)) }
         ensures memory { IfErr result (λ e. e ≡ OutOfMemory) }
     {
         Ok(Watch {
@@ -108,6 +109,7 @@ impl<'a> Watch<'a> {
         ensures ok { OnOk result (FollowsKept self.old self.new) }
         ensures err { IfErr result (λ e. e ≢ OutOfMemory → FailsIn self.old.world self.old.count self.old.reader.line self.old.reader.entries.items e) }
         ensures reaches { Reaches self.old.world self.old.count self.new.count self.old.reader.entries.items }
+        ensures counts { self.old.count ≤ self.new.count }
     {
         let reader = &self.reader;
         follow_all(&mut self.world, &mut self.count, reader.line, reader.entries.as_slice())?;
@@ -122,6 +124,7 @@ impl<'a> Watch<'a> {
         ensures ok { OnOk result ((ring : RingValue) (plan : List Planned) (before : List ℕ) → IsWatching ring plan before self.old → IsWatching ring plan (before ++ bytes.now) self.new) }
         ensures err { IfErr result (λ e. e ≢ OutOfMemory → (ring : RingValue) (plan : List Planned) (before : List ℕ) → IsWatching ring plan before self.old → IsRefused ring plan (before ++ bytes.now) e) }
         ensures judged { (ring : RingValue) (plan : List Planned) (before : List ℕ) → IsWatching ring plan before self.old → IsJudged ring plan (before ++ bytes.now) self.new.count }
+        ensures counts { self.old.count ≤ self.new.count }
     {
         if self.is_over() {
             return Ok(());
@@ -149,8 +152,9 @@ impl<'a> Watch<'a> {
     /// What a replay of the history prints, if no more bytes come. A history may stop after any whole line but the first.
     pub fn end(&self, alloc: Global) -> Result<Vec<u8>, Refusal>
         requires { HasRoom self.now }
-        ensures ok { IfOk result (λ text. (ring : RingValue) (plan : List Planned) (bytes : List ℕ) → IsWatching ring plan bytes self.now → IsAnswer ring plan bytes text.items) }
+        ensures ok { IfOk result (λ text. (ring : RingValue) (plan : List Planned) (bytes : List ℕ) (so : IsWatching ring plan bytes self.now) → IsAnswer ring plan bytes self.now so.said text.items) }
         ensures err { IfErr result (λ e. e ≢ OutOfMemory → (ring : RingValue) (plan : List Planned) (bytes : List ℕ) → IsWatching ring plan bytes self.now → IsCutOff ring plan bytes e) }
+        ensures over { IfErr result (λ e. self.now.reader.stage ≡ Over → e ≡ OutOfMemory) }
     {
         if self.is_whole() {
             return write_ending(alloc, self.ring, &self.world);

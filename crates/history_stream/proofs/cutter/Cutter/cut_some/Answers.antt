@@ -1,6 +1,6 @@
-use Rattle.std.proofs.Common.{◌≡◌, ℕ, ◌+◌, List, length, refl, sym, ap, subst, arith}
+use Rattle.std.proofs.Common.{◌+◌, List, length, refl, ap, subst, arith}
 use Rattle.plan_runs.specs.declared.event.Entry.{Entry}
-use Rattle.history_stream.specs.State.{Counted, started}
+use Rattle.history_stream.specs.State.{started}
 use Rattle.history_stream.specs.Cutter.{CutsMany}
 use Rattle.history_stream.proofs.Cuttings.{counted_first, cut_lines}
 use Rattle.history_stream.proofs.cutter.Cutter.cut_some.Goals as goal

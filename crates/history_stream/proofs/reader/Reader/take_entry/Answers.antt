@@ -1,4 +1,4 @@
-use Rattle.std.proofs.Common.{◌≡◌, ◌≢◌, [], ◌∷◌, ◌++◌, inr, sym, ap, ◌∙◌}
+use Rattle.std.proofs.Common.{◌≢◌, [], ◌∷◌, ◌++◌, inr, sym, ap, ◌∙◌}
 use Rattle.ring_table.specs.Value.{RingValue}
 use Rattle.ring_names.specs.declared.refusal.Refusal.{Refusal}
 use Rattle.ring_names.specs.declared.refusal.Refusal.TheVariants.{OutOfMemory, TooLarge}

@@ -4,7 +4,7 @@ use Rattle.std.proofs.lemmas.Bool.{false_from_ne_true}
 use Rattle.ring_names.specs.declared.refusal.Refusal.{Refusal}
 use Rattle.ring_names.specs.declared.refusal.Refusal.TheVariants.{OutOfMemory}
 use Rattle.history_stream.specs.Input.{max_input}
-use Rattle.history_stream.specs.State.{IsRun, Refuses}
+use Rattle.history_stream.specs.State.{Refuses}
 use Rattle.history_stream.proofs.Pieces.{none_taken, run_is, runs_on, too_long}
 use Rattle.history_stream.proofs.reader.Reader.take_some.Goals as goal
 

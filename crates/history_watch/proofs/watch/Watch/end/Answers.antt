@@ -1,5 +1,4 @@
 use Rattle.std.proofs.Common.{refl, sym, ◌∙◌}
-use Rattle.std.proofs.lemmas.Bool.{false_from_ne_true}
 use Rattle.history_watch.proofs.Answered.{answer_text, cut_off}
 use Rattle.history_watch.proofs.watch.Watch.end.Goals as goal
 

@@ -1,5 +1,4 @@
 use Rattle.std.proofs.Common.{◌≡◌, ◌∙◌, true, false, refl, sym}
-use Rattle.history_stream.specs.declared.reader.Stage.TheVariants.{Over}
 use Rattle.history_watch.proofs.Watched.{going_judged, on_err, on_ok, over_judged, over_on, some_fails, some_judged, some_on, stop_fails, stop_judged, stop_over, stop_refused}
 use Rattle.history_watch.proofs.watch.Watch.take.Goals as goal
 
@@ -37,6 +36,7 @@ returns-then-is_over-2 c =
       ok = λ ring plan before iw. stop_over ring plan before c.args.bytes.now c.args.self.now (record c.args.self.now { reader = c.take_some.new.self; left = c.take_some.new.left }) refl refl (λ o. (let bad : true ≡ false = sym (c.is_over.ensures.1 o) ∙ c.if-is_over.false in absurd cc)) c.in-Err.refusal (c.in-Err.ensures.err (λ o. (let bad : true ≡ false = sym (c.is_memory.ensures.1 o) ∙ c.if-is_memory.false in absurd cc))) iw new kept over;
       err = tt;
       judged = λ ring plan before iw. stop_judged ring plan before c.args.bytes.now c.args.self.now (record c.args.self.now { reader = c.take_some.new.self; left = c.take_some.new.left }) refl refl (λ o. (let bad : true ≡ false = sym (c.is_over.ensures.1 o) ∙ c.if-is_over.false in absurd cc)) c.in-Err.refusal (c.in-Err.ensures.err (λ o. (let bad : true ≡ false = sym (c.is_memory.ensures.1 o) ∙ c.if-is_memory.false in absurd cc))) iw new new.count c.follow_kept-in-Err.ensures.reaches;
+      counts = c.follow_kept-in-Err.ensures.counts;
     }
 
 pub returns-else-is_over-2 : goal.returns-else-is_over-2
@@ -48,6 +48,7 @@ returns-else-is_over-2 c =
       ok = tt;
       err = λ ne ring plan before iw. stop_refused ring plan before c.args.bytes.now c.args.self.now (record c.args.self.now { reader = c.take_some.new.self; left = c.take_some.new.left }) refl refl (λ o. (let bad : true ≡ false = sym (c.is_over.ensures.1 o) ∙ c.if-is_over.false in absurd cc)) c.in-Err.refusal (c.in-Err.ensures.err (λ o. (let bad : true ≡ false = sym (c.is_memory.ensures.1 o) ∙ c.if-is_memory.false in absurd cc))) iw new kept;
       judged = λ ring plan before iw. stop_judged ring plan before c.args.bytes.now c.args.self.now (record c.args.self.now { reader = c.take_some.new.self; left = c.take_some.new.left }) refl refl (λ o. (let bad : true ≡ false = sym (c.is_over.ensures.1 o) ∙ c.if-is_over.false in absurd cc)) c.in-Err.refusal (c.in-Err.ensures.err (λ o. (let bad : true ≡ false = sym (c.is_memory.ensures.1 o) ∙ c.if-is_memory.false in absurd cc))) iw new new.count c.follow_kept-in-Err.ensures.reaches;
+      counts = c.follow_kept-in-Err.ensures.counts;
     }
 
 pub returns-in-Err-follow_kept : goal.returns-in-Err-follow_kept
@@ -58,4 +59,5 @@ returns-in-Err-follow_kept c =
       ok = tt;
       err = λ ne ring plan before iw. stop_fails ring plan before c.args.bytes.now c.args.self.now (record c.args.self.now { reader = c.take_some.new.self; left = c.take_some.new.left }) refl refl (λ o. (let bad : true ≡ false = sym (c.is_over.ensures.1 o) ∙ c.if-is_over.false in absurd cc)) c.in-Err.refusal (c.in-Err.ensures.err (λ o. (let bad : true ≡ false = sym (c.is_memory.ensures.1 o) ∙ c.if-is_memory.false in absurd cc))) iw new _ c.in-Err-follow_kept.fault (c.in-Err-follow_kept.ensures.err ne);
       judged = λ ring plan before iw. stop_judged ring plan before c.args.bytes.now c.args.self.now (record c.args.self.now { reader = c.take_some.new.self; left = c.take_some.new.left }) refl refl (λ o. (let bad : true ≡ false = sym (c.is_over.ensures.1 o) ∙ c.if-is_over.false in absurd cc)) c.in-Err.refusal (c.in-Err.ensures.err (λ o. (let bad : true ≡ false = sym (c.is_memory.ensures.1 o) ∙ c.if-is_memory.false in absurd cc))) iw new new.count c.follow_kept-in-Err.ensures.reaches;
+      counts = c.follow_kept-in-Err.ensures.counts;
     }

@@ -1,0 +1,112 @@
+//! Judging a history while it is read.
+
+ghost use Rattle.std.specs.Prelude.{◌≡◌, ◌≤◌, ◌++◌, ℕ, List, IfOk, IfErr, OnOk};
+ghost use Rattle.std.specs.Io.KnownBytes.{Appends};
+ghost use Rattle.ring_table.specs.Value.{RingValue};
+ghost use Rattle.plan_text.specs.declared.step.Planned.{Planned};
+ghost use Rattle.history_watch.specs.Watching.{HasRoom, IsWatching, IsRefused, IsJudged};
+ghost use Rattle.history_watch.specs.Loops.{is_shown, shown_at, so_far_line, IsOutside, Shows, Watches};
+
+use crate::watch::Watch;
+use history_stream::{CHUNK, read_some};
+use plan_check::Approved;
+use ring_names::{Refusal, push_decimal};
+use ringplan_jobs::write_all;
+use std::alloc::{AllocError, Global};
+use std::io::{Read, Write};
+
+// Whether a line is printed after so many entries.
+fn is_shown(every: u32, count: u32) -> bool
+    ensures { result ≡ is_shown every count }
+{
+    every > 0 && count % every == 0
+}
+
+// The line that is printed after so many entries.
+fn so_far_line(alloc: Global, count: u32) -> Result<Vec<u8>, AllocError>
+    ensures { IfOk result (λ line. line.items ≡ so_far_line count) }
+{
+    let mut line = Vec::from_slice(alloc, b"so far ")?;
+    push_decimal(&mut line, count)?;
+    line.extend_from_slice(b" entries\n")?;
+    Ok(line)
+}
+
+// Prints the line after so many entries, if there is one.
+fn show<W: Write>(alloc: Global, output: &mut W, every: u32, count: u32) -> Result<(), Refusal>
+    ensures ok { OnOk result (Appends (W.contents output.old) (W.contents output.new) (shown_at every count)) }
+    ensures err { IfErr result IsOutside }
+{
+    if is_shown(every, count) {
+        let line = so_far_line(alloc, count)?;
+        write_all(output, line.as_slice())?;
+    }
+    Ok(())
+}
+
+// Prints the lines after each of the entries that were judged since there were `before`.
+fn show_all<W: Write>(
+    alloc: Global,
+    output: &mut W,
+    every: u32,
+    before: u32,
+    after: u32,
+) -> Result<(), Refusal>
+    requires { before ≤ after }
+    ensures ok { OnOk result (Shows every before after (W.contents output.old) (W.contents output.new)) }
+    ensures err { IfErr result IsOutside }
+{
+    let mut count = before;
+    'counts: while count < after {
+        count += 1;
+        show(alloc, output, every, count)?;
+    }
+    Ok(())
+}
+
+// Takes the next bytes, and prints how many entries were judged.
+fn watch_some<W: Write>(
+    alloc: Global,
+    watch: &mut Watch,
+    every: u32,
+    more: &[u8],
+    output: &mut W,
+) -> Result<(), Refusal>
+    requires { HasRoom watch.old }
+    ensures room { OnOk result (HasRoom watch.new) }
+    ensures ok { OnOk result ((ring : RingValue) (plan : List Planned) (before : List ℕ) → IsWatching ring plan before watch.old → IsWatching ring plan (before ++ more.now) watch.new) }
+    ensures err { IfErr result (λ e. (IsOutside e → ⊥) → (ring : RingValue) (plan : List Planned) (before : List ℕ) → IsWatching ring plan before watch.old → IsRefused ring plan (before ++ more.now) e) }
+    ensures judged { (ring : RingValue) (plan : List Planned) (before : List ℕ) → IsWatching ring plan before watch.old → IsJudged ring plan (before ++ more.now) watch.new.count }
+    ensures shown { OnOk result (Shows every watch.old.count watch.new.count (W.contents output.old) (W.contents output.new)) }
+    ensures told { IfErr result (λ e. (IsOutside e → ⊥) → Shows every watch.old.count watch.new.count (W.contents output.old) (W.contents output.new)) }
+{
+    let before = watch.count();
+    let taken = watch.take(alloc, more);
+    show_all(alloc, output, every, before, watch.count())?;
+    taken
+}
+
+/// Judges a history while it is read, to its line `end`, to the first entry or line that is refused, or to the input's end. The text is what a replay of
+/// the history prints. After each `every` entries, unless that is 0, a line of their number is printed at once. No byte is read once the answer is known.
+pub fn watch_history<R: Read + Drop, W: Write>(
+    alloc: Global,
+    approved: &Approved,
+    every: u32,
+    input: &mut R,
+    output: &mut W,
+) -> Result<Vec<u8>, Refusal>
+    ensures { Watches approved.now.ring approved.now.plan every (R.remaining input.old) (R.remaining input.new) (W.contents output.old) (W.contents output.new) result }
+{
+    let mut watch = Watch::start(alloc, approved)?;
+    'reads: for turn in 0..u64::MAX {
+        let more = read_some(alloc, input, CHUNK)?;
+        if more.is_empty() {
+            return watch.end(alloc);
+        }
+        watch_some(alloc, &mut watch, every, more.as_slice(), output)?;
+        if watch.is_over() {
+            return watch.end(alloc);
+        }
+    }
+    Err(Refusal::ReadFailed)
+}
