@@ -24,11 +24,11 @@ use Rattle.ringplan_command.specs.declared.word.Word.{Word}
 use Rattle.ringplan_command.specs.declared.command.Format.{Format}
 use Rattle.ringplan_command.specs.declared.command.Format.TheVariants as form
 use Rattle.ringplan_command.specs.declared.command.Request.{Request}
-use Rattle.ringplan_command.specs.declared.command.Request.TheVariants.{Do, CheckBy, State, StateBy, Part, Drive, Make, Describe, Help, Mistaken, OutOfMemory}
+use Rattle.ringplan_command.specs.declared.command.Request.TheVariants.{Do, CheckBy, State, StateBy, Part, Watch, Drive, Make, Describe, Help, Mistaken, OutOfMemory}
 use Rattle.ringplan_job.specs.declared.job.Job.{Job}
 use Rattle.ringplan_job.specs.declared.job.Job.TheVariants.{Check, Migrate, Plan, Play, Replay}
 use Rattle.ringplan_command.specs.Command.{Answers, Asked, IsMistaken, IsRefused, AsksGuide, AsksWord, IsInFormat, IsOfGuide, IsOfWord, IsTurnedAway, MeansFormat, TakesValues, WantsHelp}
-use Rattle.ringplan_command.specs.Command.{Task, asked, asked_by, by_drive, by_workers, format_named, in_json, only, option_named, part_texts, rows_named, json_named, task_named, to_describe, to_do, to_drive, to_make, to_part, word_of_making, asks_just}
+use Rattle.ringplan_command.specs.Command.{Task, asked, asked_by, by_drive, by_workers, format_named, in_json, only, option_named, part_texts, rows_named, json_named, task_named, to_describe, to_do, to_drive, to_make, to_part, to_watch, word_of_making, asks_just}
 use Rattle.ringplan_job.specs.declared.making.Color.{Color}
 use Rattle.ringplan_job.specs.declared.making.Color.TheVariants.{Auto, Always, Never}
 use Rattle.ringplan_command.specs.Makings.{MeansColor, but_text}
@@ -187,6 +187,7 @@ turned_away asked (CheckBy _) h is = absurd is
 turned_away asked (State _) h is = absurd is
 turned_away asked (StateBy _) h is = absurd is
 turned_away asked (Part _) h is = absurd is
+turned_away asked (Watch _) h is = absurd is
 turned_away asked (Drive _ _) h is = absurd is
 turned_away asked (Make _ _) h is = absurd is
 turned_away asked (Describe _) h is = absurd is
@@ -226,6 +227,7 @@ of_word asked w rows (Ok (CheckBy _)) e h = absurd h
 of_word asked w rows (Ok (State _)) e h = absurd h
 of_word asked w rows (Ok (StateBy _)) e h = absurd h
 of_word asked w rows (Ok (Part _)) e h = absurd h
+of_word asked w rows (Ok (Watch _)) e h = absurd h
 of_word asked w rows (Ok (Drive _ _)) e h = absurd h
 of_word asked w rows (Ok (Describe _)) e h = absurd h
 of_word asked w rows (Ok (Help _)) e h = absurd h
@@ -258,6 +260,7 @@ of_guide asked guide (Ok (CheckBy _)) e h = absurd h
 of_guide asked guide (Ok (State _)) e h = absurd h
 of_guide asked guide (Ok (StateBy _)) e h = absurd h
 of_guide asked guide (Ok (Part _)) e h = absurd h
+of_guide asked guide (Ok (Watch _)) e h = absurd h
 of_guide asked guide (Ok (Drive _ _)) e h = absurd h
 of_guide asked guide (Ok (Help _)) e h = absurd h
 of_guide asked guide (Ok OutOfMemory) e h = absurd h
@@ -291,6 +294,10 @@ texts_same sub found rows =
 pub part_asked : (sub : Option (List ℕ × List Row)) → task_named sub ≡ to_part (part_texts sub) → asked_by [] sub ≡ asks_just (to_part (part_texts sub))
 part_asked sub is = rw is refl
 
+-- the words of `watch` ask for that
+pub watch_asked : (sub : Option (List ℕ × List Row)) (text : Option (List ℕ)) → task_named sub ≡ to_watch text → asked_by [] sub ≡ asks_just (to_watch text)
+watch_asked sub text is = rw is refl
+
 -- a line that is turned away asks for no job
 pub no_job : (r : Request) → IsTurnedAway r → IsJob r → ⊥
 no_job (Mistaken text) is job = job
@@ -299,6 +306,7 @@ no_job (CheckBy _) is job = is
 no_job (State _) is job = is
 no_job (StateBy _) is job = is
 no_job (Part _) is job = is
+no_job (Watch _) is job = is
 no_job (Drive _ _) is job = is
 no_job (Make _ _) is job = is
 no_job (Describe _) is job = is
@@ -316,6 +324,7 @@ job_asked job asked (CheckBy k) e (text, is, h) = let same : by_workers text ≡
 job_asked job asked (State other) e h = let none : Some (codes "json") ≡ None = ap (λ x. x.json) (sym h ∙ e) in absurd cc
 job_asked job asked (StateBy k) e (text, is, h) = let none : Some (codes "json") ≡ None = ap (λ x. x.json) (sym is ∙ e) in absurd cc
 job_asked job asked (Part wish) e (texts, is, h) = let task : to_part texts ≡ to_do job = ap (λ x. x.task) (sym is ∙ e) in absurd cc
+job_asked job asked (Watch every) e (text, is, h) = let task : to_watch text ≡ to_do job = ap (λ x. x.task) (sym is ∙ e) in absurd cc
 job_asked job asked (Drive k form) e h =
     let same : by_drive h.0 h.1 ≡ only job = sym h.2 ∙ e in
     let task : to_drive ≡ to_do job = ap (λ x. x.task) same in

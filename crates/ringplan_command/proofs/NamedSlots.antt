@@ -1,12 +1,10 @@
 -- Slots that are named one after the other, and lines that name nothing.
-use Rattle.std.proofs.Common.{◌≡◌, ◌∙◌, ◌⊎◌, inl, inr, ◌<◌, ◌+◌, ℕ, zero, suc, List, get_or, length, map, take, [], ◌∷◌, ◌++◌, IfOk, Result, Ok, Err, Option, None, Some, refl, sym, subst, codes}
-use Rattle.std.specs.Prelude.{slice_get, option_map, string_bytes}
+use Rattle.std.proofs.Common.{◌≡◌, ◌<◌, ◌+◌, ℕ, zero, suc, List, get_or, length, map, take, [], ◌∷◌, ◌++◌, IfOk, Result, Ok, Err, Some, refl, sym, subst}
+use Rattle.std.specs.Prelude.{slice_get}
 use Rattle.std.proofs.lemmas.List.{map_more}
 use Rattle.clap.specs.Words.{Row}
-use Rattle.change_text.specs.declared.options.Options.{Options}
 use Rattle.ring_names.specs.declared.ids.Slot.{Slot}
-use Rattle.ringplan_command.specs.Command.{IsOfWord, IsTurnedAway, TakesValues, to_make}
-use Rattle.ringplan_command.specs.Makings.{MeansKnown, NamesNoDetour, left_texts}
+use Rattle.ringplan_command.specs.Command.{IsOfWord, TakesValues, to_make}
 use Rattle.ringplan_command.specs.Slots.{AreSlots, IsSlot}
 use Rattle.ringplan_command.specs.declared.command.Request.{Request}
 use Rattle.ringplan_command.specs.declared.command.Request.TheVariants.{Mistaken}

@@ -11,9 +11,9 @@ use Rattle.ringplan_command.specs.Makings.{HasNoRacks, MeansMaking, NamesNoDetou
 use Rattle.ringplan_command.specs.Numbers.{HasNoNumber, IsCount, IsNumberTo}
 use Rattle.ringplan_command.specs.Parts.{MeansPart, PartTexts}
 use Rattle.ringplan_command.specs.Slots.{HasNoSlot}
-use Rattle.ringplan_command.specs.Tree.{drive_word, part_word, ringplan, word_of}
+use Rattle.ringplan_command.specs.Tree.{drive_word, part_word, ringplan, watch_word, word_of}
 use Rattle.ringplan_command.specs.declared.command.Request.{Request}
-use Rattle.ringplan_command.specs.declared.command.Request.TheVariants.{Do, CheckBy, State, StateBy, Part, Drive, Make, Describe, Help, Mistaken, OutOfMemory}
+use Rattle.ringplan_command.specs.declared.command.Request.TheVariants.{Do, CheckBy, State, StateBy, Part, Watch, Drive, Make, Describe, Help, Mistaken, OutOfMemory}
 use Rattle.ringplan_command.specs.declared.word.Guide.{Guide}
 use Rattle.ringplan_command.specs.declared.word.Guide.TheVariants.{Completions, Manual}
 use Rattle.ringplan_command.specs.declared.word.Word.{Word}
@@ -50,10 +50,11 @@ word_of_making (Windows cut) = people.Windows
 word_of_making Cert = people.Cert
 word_of_making After = people.After
 
--- what is to be done: a job, a part, a drive, what a command for people makes by the rows of its options, or a text about the program
+-- what is to be done: a job, a part, a watch with the text of the number of entries after which it says how far it is, a drive, what a command for people makes by the rows of its options, or a text about the program
 pub data Task : Type 0 where
   to_do : Job → Task
   to_part : PartTexts → Task
+  to_watch : Option (List ℕ) → Task
   to_drive : Task
   to_make : Word → List Row → Task
   to_describe : Guide → Task
@@ -112,7 +113,7 @@ rows_named subcommand = option_map_or (λ x. x.1) subcommand []
 -- what it asks to be done
 abbrev pub task_named : Option (List ℕ × List Row) → Task
 task_named subcommand = if is_word drive_word subcommand then to_drive else (if is_word part_word subcommand then to_part (part_texts subcommand)
-    else option_map_or to_describe (guide_named subcommand) (option_map_or (λ w. to_make w (rows_named subcommand)) (word_named subcommand) (to_do (job_named subcommand))))
+    else (if is_word watch_word subcommand then to_watch (option_named (codes "every") subcommand) else option_map_or to_describe (guide_named subcommand) (option_map_or (λ w. to_make w (rows_named subcommand)) (word_named subcommand) (to_do (job_named subcommand)))))
 
 -- the text of the workers; but for `check` and `drive`, no subcommand names them
 abbrev pub workers_named : Task → Option (List ℕ × List Row) → Option (List ℕ)
@@ -225,6 +226,10 @@ AsksGuide asked guide = asked ≡ asks_just (to_describe guide)
 abbrev pub AsksPart : Asked → PartWish → Type 0
 AsksPart asked wish = (texts : PartTexts) × (asked ≡ asks_just (to_part texts)) × MeansPart texts wish
 
+-- what is asked is a watch that says how far it is after each so many entries, or never, which is 0
+abbrev pub AsksWatch : Asked → ℕ → Type 0
+AsksWatch asked every = (text : Option (List ℕ)) × (asked ≡ asks_just (to_watch text)) × IsCount 4294967295 0 text every
+
 -- the subcommand has an argument with a value that may be refused beside the words of the line; of a part its words mean none
 abbrev pub TakesValues : Task → Type 0
 TakesValues (to_make people.Why rows) = ⊤
@@ -236,6 +241,7 @@ TakesValues (to_make people.Around rows) = HasNoRacks rows ⊎ (HasNoSlot (left_
 TakesValues (to_make people.Windows rows) = HasNoRacks rows ⊎ (HasNoNumber 1000000 (one_of (codes "rounds") rows) ⊎ HasNoNumber 1000000 (one_of (codes "only") rows))
 TakesValues (to_describe Completions) = ⊤
 TakesValues (to_part texts) = (wish : PartWish) → MeansPart texts wish → ⊥
+TakesValues (to_watch text) = HasNoNumber 4294967295 text
 TakesValues task = ⊥
 
 -- the line is refused: for its words, for its workers, for the form of its answer, or for such a value
@@ -249,6 +255,7 @@ Answers asked (CheckBy workers) = AsksBy asked workers
 Answers asked (State job) = asked ≡ in_json (only job)
 Answers asked (StateBy workers) = AsksJsonBy asked workers
 Answers asked (Part wish) = AsksPart asked wish
+Answers asked (Watch every) = AsksWatch asked every
 Answers asked (Drive workers form) = AsksDrive asked workers form
 Answers asked (Make making options) = AsksMaking asked making options
 Answers asked (Describe text) = (guide : Guide) × AsksGuide asked guide

@@ -5,7 +5,7 @@ use Rattle.std.specs.Str.{bytes_eq}
 use Rattle.clap.specs.Words.{Row, all_of, first_of, subcommand_of}
 use Rattle.ringplan_command.specs.Tree.{ringplan}
 use Rattle.ringplan_command.specs.declared.command.Request.{Request}
-use Rattle.ringplan_command.specs.declared.command.Request.TheVariants.{Do, CheckBy, State, StateBy, Part, Drive, Make, Describe}
+use Rattle.ringplan_command.specs.declared.command.Request.TheVariants.{Do, CheckBy, State, StateBy, Part, Watch, Drive, Make, Describe}
 use Rattle.ringplan_command.specs.declared.files.Files.{Files}
 
 -- the names of the files that are read one after the other, and of the one that is written; none if only the standard streams are
@@ -56,6 +56,7 @@ IsJob (CheckBy workers) = ⊤
 IsJob (State job) = ⊤
 IsJob (StateBy workers) = ⊤
 IsJob (Part wish) = ⊤
+IsJob (Watch every) = ⊤
 IsJob (Drive workers form) = ⊤
 IsJob (Make making options) = ⊤
 IsJob (Describe text) = ⊤

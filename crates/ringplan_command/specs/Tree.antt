@@ -24,6 +24,10 @@ drive_word = codes "drive"
 abbrev pub part_word : List ℕ
 part_word = codes "part"
 
+-- the word that asks for a watch
+abbrev pub watch_word : List ℕ
+watch_word = codes "watch"
+
 -- the command is read by these rules, none of which goes for its subcommands too
 abbrev pub IsApp : App → Command → Type 0
 IsApp app command = (app_of command ≡ app) × ((out-Command command).has_globals ≡ false)
@@ -69,12 +73,12 @@ job_app word = with_rule (with_rule (new_app word) file_argument) output_option
 abbrev pub guide_app : List ℕ → App
 guide_app word = with_rule (new_app word) output_option
 
--- the shell whose completions are asked for
-abbrev pub shell_argument : Rule
-shell_argument = record (new_rule (codes "shell")) { value_names = 1; required = true }
+-- an argument that must be given
+abbrev pub needed_argument : List ℕ → Rule
+needed_argument word = record (new_rule word) { value_names = 1; required = true }
 
 abbrev pub completions_app : App
-completions_app = with_rule (guide_app (codes "completions")) shell_argument
+completions_app = with_rule (guide_app (codes "completions")) (needed_argument (codes "shell"))
 
 abbrev pub check_app : App
 check_app = with_rule (with_rule (job_app (codes "check")) workers_option) (text_option (codes "format"))
@@ -85,6 +89,10 @@ replay_app = with_rule (job_app (codes "replay")) (text_option (codes "format"))
 abbrev pub part_app : App
 part_app = with_rule (with_rule (with_rule (with_rule (job_app part_word) (number_option (codes "of") 1 4096)) (number_option (codes "part") 0 4095)) (text_option (codes "partitions")))
     (number_option (codes "map") 0 999999)
+
+-- a subcommand that names a file with a bundle, and never a file that is written
+abbrev pub watch_app : App
+watch_app = with_rule (with_rule (new_app watch_word) (needed_argument (codes "file"))) (number_option (codes "every") 1 4294967295)
 
 abbrev pub drive_app : App
 drive_app = with_rule (with_rule (job_app drive_word) workers_option) (text_option (codes "format"))
@@ -135,7 +143,7 @@ abbrev pub first_commands : App
 first_commands = with (with (with (with (with (with (with (with top_app goal_app) around_app) show_app) draw_app) check_app) why_app) steps_app) windows_app
 
 abbrev pub bundle_commands : App
-bundle_commands = with (with (with (with (with (with (with (with first_commands drive_app) (job_app (codes "play"))) replay_app) part_app) (job_app (codes "after")))
+bundle_commands = with (with (with (with (with (with (with (with (with first_commands drive_app) (job_app (codes "play"))) replay_app) part_app) watch_app) (job_app (codes "after")))
     (job_app (codes "cert"))) (job_app (codes "plan"))) (job_app (codes "migrate"))
 
 abbrev pub ringplan : App

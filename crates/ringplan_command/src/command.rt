@@ -4,7 +4,7 @@ ghost use Rattle.std.specs.Prelude.{◌≡◌, List, ◌⊎◌, ◌↔◌, ◌�
 ghost use Rattle.clap.specs.Words.{Row, first_of, found_of, rows_of, subcommand_rows_of};
 ghost use Rattle.ringplan_command.specs.Command.{Answers, Asked, word_of_making, IsInFormat, asked, asked_by, job_named, task_named};
 ghost use Rattle.ringplan_command.specs.Makings.{MeansMaking, but_text};
-ghost use Rattle.ringplan_command.specs.Command.{IsTurnedAway, MeansFormat, part_texts, rows_named, to_describe, to_do, to_drive, to_make, to_part};
+ghost use Rattle.ringplan_command.specs.Command.{IsTurnedAway, MeansFormat, option_named, part_texts, rows_named, to_describe, to_do, to_drive, to_make, to_part, to_watch};
 ghost use Rattle.ringplan_command.specs.Tree.{word_of};
 ghost use Rattle.ringplan_command.specs.Files.{IsJob, files_in, files_named, files_of, no_files};
 ghost use Rattle.ringplan_job.specs.declared.job.Job.{Job};
@@ -14,10 +14,10 @@ use crate::counts::{Count, MOST_WORKERS, count_of};
 use crate::files::Files;
 use crate::form::Form;
 use crate::guides::write_guide;
-use crate::help::{NO_FORMAT, NO_PART, NO_WORKERS, SUCCESSORS};
+use crate::help::{NO_EVERY, NO_FORMAT, NO_PART, NO_WORKERS, SUCCESSORS};
 use crate::line::{make_line, mistaken};
 use crate::parts::{PartWish, part_of};
-use crate::reading::text_of;
+use crate::reading::{number_of, text_of};
 use crate::tree::command;
 use crate::word::{Guide, Word, guide_of, people_word};
 use change_text::Options;
@@ -47,6 +47,9 @@ pub enum Request {
     StateBy(u32),
     /// To cut a bundle's history, of any length, to a part.
     Part(PartWish),
+    /// To judge a history while it is read, by the bundle in the file that is named, and to print how far it is after each so many entries, unless that
+    /// number is 0.
+    Watch(u32),
     /// To run a bundle's plan by that many workers, 1 to 64, with a client for each script, and to print its outcome in that form.
     Drive(u32, Form),
     /// To make something of a bundle for people, by what is known of nodes and partitions.
@@ -91,7 +94,8 @@ impl Request {
         match self {
             Request::Do(_) | Request::CheckBy(_) | Request::Drive(_, _) => true,
             Request::State(_) | Request::StateBy(_) => true,
-            Request::Part(_) | Request::Make(_, _) | Request::Describe(_) => true,
+            Request::Part(_) | Request::Watch(_) => true,
+            Request::Make(_, _) | Request::Describe(_) => true,
             Request::Help(_) | Request::Mistaken(_) | Request::OutOfMemory => false,
         }
     }
@@ -179,6 +183,9 @@ fn request_of(alloc: Global, matches: &ArgMatches) -> Result<Request, AllocError
     if matches.subcommand_matches("part").is_some() {
         return part_line(alloc, matches);
     }
+    if matches.subcommand_matches("watch").is_some() {
+        return watch_line(alloc, matches);
+    }
     if let Some(guide) = guide_of(matches) {
         return guide_line(alloc, matches, guide);
     }
@@ -246,6 +253,21 @@ fn part_line(alloc: Global, matches: &ArgMatches) -> Result<Request, AllocError>
     match part_of(options) {
         Some(wish) => Ok(Request::Part(wish)),
         None => mistaken(alloc, NO_PART),
+    }
+}
+
+// What a line that asks for a watch asks for.
+fn watch_line(alloc: Global, matches: &ArgMatches) -> Result<Request, AllocError>
+    requires { task_named (subcommand_rows_of matches.now) ≡ to_watch (option_named (codes "every") (subcommand_rows_of matches.now)) }
+    ensures { IfOk result (Answers (asked_by [] (subcommand_rows_of matches.now))) }
+{
+    let Some((_, options)) = matches.subcommand() else {
+        unreachable!()
+    };
+    match number_of(options, "every", u32::MAX) {
+        Count::Unnamed => Ok(Request::Watch(0)),
+        Count::Many(every) => Ok(Request::Watch(every)),
+        Count::NoNumber => mistaken(alloc, NO_EVERY),
     }
 }
 

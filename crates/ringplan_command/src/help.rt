@@ -65,6 +65,13 @@ pub(crate) const PARTITIONS: &str =
 pub(crate) const ENTRY: &str =
     "Prints which entry of the whole history is entry N of the part, both counted from 0, in place of the part";
 
+pub(crate) const WATCH: &str =
+    "Judges a history while it is written, from standard input, and ends at the first entry that cannot have happened";
+
+pub(crate) const BUNDLE: &str = "The file of the bundle: a ring, a plan and its certificate";
+
+pub(crate) const EVERY: &str = "Prints `so far N entries` after each K entries, 1 to 4294967295";
+
 pub(crate) const PLAN: &str =
     "Prints a plan for a change, with its certificate, without regard to racks, weights and dead nodes";
 
@@ -139,6 +146,9 @@ pub(crate) const ONLY: &str = "Prints the window of that number alone, counted f
 
 pub(crate) const NO_WORKERS: &[u8; 105] =
     b"error: invalid value for '--workers <K>': not a number from 1 to 64\n\nFor more information, try '--help'.\n";
+
+pub(crate) const NO_EVERY: &[u8; 111] =
+    b"error: invalid value for '--every <K>': not a number from 1 to 4294967295\n\nFor more information, try '--help'.\n";
 
 pub(crate) const NO_PART: &[u8; 153] =
     b"error: a part is named by '--of <K>' and '--part <I>' with I below K, or by '--partitions <A-B>' with A not above B\n\nFor more information, try '--help'.\n";
@@ -287,6 +297,21 @@ number in place of that: the least of these for the faults of all parts is the f
 part of more than 1,000,000 entries or 67,108,864 bytes, with the number of parts that may do.
 
 Exit status: 0 printed, 2 a text or the command line is refused, or the part is too large or has no entry N, 3 memory, input or output";
+
+pub(crate) const WATCH_STREAMS: &str = "\
+Example: ringplan watch planned.bundle --every 1000 < log
+
+Input: in FILE the texts of a ring, a plan and its certificate; on standard input a history of up to 4294967294 entries, whose lines count from 1.
+Standard output: at the line `end`, or at the input's end after a whole line, what `replay` prints. At the first entry that cannot have happened
+`no 70`, its place, counted from 0, and its number or 0, as `replay` says. At a line that is refused one line of `no`. An answer ends the command:
+nothing more is read. If a line is refused after an entry that cannot have happened, the entry decides; `replay` reads all lines first.
+A plan or a text in FILE that is refused is refused as by `check`, before any entry is read.
+
+Exit status:
+  0  the history is a run of the plan
+  1  the plan is refused, or the history is no run of it (`no 70`)
+  2  a text or the command line is refused
+  3  out of memory (at an entry too), or an input or output failed";
 
 pub(crate) const MIGRATE_STREAMS: &str = "\
 Example: ringplan migrate examples/move_one_slot.bundle

@@ -4,16 +4,16 @@ ghost use Rattle.std.specs.Prelude.{◌≡◌, false, codes, IfOk};
 ghost use Rattle.clap.specs.Words.{App, rule_of, with_rule, with_subcommand};
 ghost use Rattle.ringplan_command.specs.Tree.{IsApp, cut_option, draw_app, drive_app, flag_option, goal_app, job_app, known_app, ringplan, show_app};
 ghost use Rattle.ringplan_command.specs.Tree.{around_app, changed_app, check_app, file_argument, list_option, output_option, rate_option, steps_app, text_option, top_app};
-ghost use Rattle.ringplan_command.specs.Tree.{completions_app, guide_app, number_option, part_app, replay_app, shell_argument, why_app, windows_app, words_app, workers_option};
+ghost use Rattle.ringplan_command.specs.Tree.{completions_app, guide_app, needed_argument, number_option, part_app, replay_app, watch_app, why_app, windows_app, words_app, workers_option};
 
 use crate::help::{
-    ABOUT, AFTER, AFTER_STREAMS, ALL, ALL_SLOTS, AROUND, AROUND_STREAMS, BACK, CERT, CERT_STREAMS,
+    ABOUT, AFTER, AFTER_STREAMS, ALL, ALL_SLOTS, AROUND, AROUND_STREAMS, BACK, BUNDLE, CERT, CERT_STREAMS,
     CHECK, CHECK_STREAMS, COLOR, COMPLETIONS, COMPLETIONS_STREAMS, DEAD, DRAW, DRAW_STREAMS, DRIVE,
-    DRIVE_STREAMS, DRIVERS, ENTRY, EXIT_CODE, FILE, FORMAT, GOAL, GOAL_STREAMS, GONE, LAYOUT,
+    DRIVE_STREAMS, DRIVERS, ENTRY, EVERY, EXIT_CODE, FILE, FORMAT, GOAL, GOAL_STREAMS, GONE, LAYOUT,
     LEAVE, MANUAL, MANUAL_STREAMS, MAP, MIGRATE, MIGRATE_STREAMS, MORE, MOVES, OF, ONLY, OUTPUT,
     PART, PART_NUMBER, PART_STREAMS, PARTIAL, PARTITIONS, PLAN, PLAN_STREAMS, PLAY, PLAY_STREAMS,
     RACKS, RATE, REPLAY, REPLAY_STREAMS, REPORT, REST, ROUNDS, SHELL, SHOW, SHOW_STREAMS, STEPS,
-    STEPS_STREAMS, STREAMS, VERSION, WHY, WHY_STREAMS, WINDOWS, WINDOWS_STREAMS, WORKERS,
+    STEPS_STREAMS, STREAMS, VERSION, WATCH, WATCH_STREAMS, WHY, WHY_STREAMS, WINDOWS, WINDOWS_STREAMS, WORKERS,
 };
 use clap::{Arg, ArgAction, Command, value_parser};
 use std::alloc::{AllocError, Global};
@@ -164,14 +164,14 @@ fn guide<'a>(alloc: Global, word: &'a str, about: &'a str, streams: &'a str) -> 
     with_arg(Ok(command), output(alloc))
 }
 
-// The shell, by its name.
-fn shell<'a>(alloc: Global) -> Arg<'a>
-    ensures rule { rule_of result ≡ shell_argument }
+// An argument that must be given, with a value of that name.
+fn needed<'a>(alloc: Global, word: &'a str, value: &'a str, help: &'a str) -> Arg<'a>
+    ensures rule { rule_of result ≡ needed_argument word.entry.now }
     ensures local { result.global ≡ false }
 {
-    Arg::new(alloc, "shell")
-        .value_name("SHELL")
-        .help(SHELL)
+    Arg::new(alloc, word)
+        .value_name(value)
+        .help(help)
         .required(true)
 }
 
@@ -179,7 +179,7 @@ fn completions<'a>(alloc: Global) -> Made<'a>
     ensures { IfOk result (IsApp completions_app) }
 {
     let command = guide(alloc, "completions", COMPLETIONS, COMPLETIONS_STREAMS);
-    with_arg(command, shell(alloc))
+    with_arg(command, needed(alloc, "shell", "SHELL", SHELL))
 }
 
 fn check<'a>(alloc: Global) -> Made<'a>
@@ -204,6 +204,25 @@ fn part<'a>(alloc: Global) -> Made<'a>
     let command = with_arg(with_arg(command, of(alloc)), part_number(alloc));
     let command = with_arg(command, option(alloc, "partitions", "A-B", PARTITIONS));
     with_arg(command, entry(alloc))
+}
+
+// `--every K`, with K from 1 to 4,294,967,295.
+fn every<'a>(alloc: Global) -> Arg<'a>
+    ensures rule { rule_of result ≡ number_option (codes "every") 1 4294967295 }
+    ensures local { result.global ≡ false }
+{
+    option(alloc, "every", "K", EVERY).value_parser(value_parser!(u32).range(1..=4_294_967_295))
+}
+
+fn watch<'a>(alloc: Global) -> Made<'a>
+    ensures { IfOk result (IsApp watch_app) }
+{
+    let command = Command::new(alloc, "watch")
+        .about(WATCH)
+        .after_help(MORE)
+        .after_long_help(WATCH_STREAMS);
+    let command = with_arg(Ok(command), needed(alloc, "file", "FILE", BUNDLE));
+    with_arg(command, every(alloc))
 }
 
 fn drive<'a>(alloc: Global) -> Made<'a>
@@ -321,6 +340,7 @@ pub(crate) fn command<'a>(alloc: Global) -> Result<Command<'a>, AllocError>
     let line = with(line, job(alloc, "play", PLAY, PLAY_STREAMS));
     let line = with(line, replay(alloc));
     let line = with(line, part(alloc));
+    let line = with(line, watch(alloc));
     let line = with(line, job(alloc, "after", AFTER, AFTER_STREAMS));
     let line = with(line, job(alloc, "cert", CERT, CERT_STREAMS));
     let line = with(line, job(alloc, "plan", PLAN, PLAN_STREAMS));

@@ -1,4 +1,4 @@
-use Rattle.std.proofs.Common.{[], List, ◌∙◌, ap, sym}
+use Rattle.std.proofs.Common.{[], List, ◌∙◌, ap}
 use Rattle.clap.specs.Words.{Row, found_of, rows_of, subcommand_rows_of}
 use Rattle.ringplan_command.specs.Command.{asked_by, to_make}
 use Rattle.ringplan_command.proofs.Commands.{of_word, rows_there, word_asked}

@@ -1,7 +1,6 @@
-use Rattle.std.proofs.Common.{◌∙◌, [], ℕ, List, Option, None, codes, inr, map, option_map, string_bytes, subst, sym, ap}
+use Rattle.std.proofs.Common.{◌∙◌, ℕ, inr, map, option_map, string_bytes, subst, sym, ap}
 use Rattle.std.specs.Global.{Vec}
 use Rattle.clap.specs.Words.{found_of, rows_of}
-use Rattle.ringplan_job.specs.declared.making.Extent.{Extent}
 use Rattle.ringplan_command.specs.Makings.{MeansExtent, left_texts}
 use Rattle.ringplan_command.specs.declared.word.Word.TheVariants.{Around}
 use Rattle.ringplan_command.proofs.NamedSlots.{no_texts, of_word}

@@ -1,5 +1,4 @@
-use Rattle.std.proofs.Common.{◌∙◌, List, MatchOption, Option, Some, ℕ, codes, option_map, ap, subst, sym}
-use Rattle.clap.specs.Words.{first_of, found_of, rows_of}
+use Rattle.std.proofs.Common.{◌∙◌, List, MatchOption, Option, ℕ, option_map, ap, subst, sym}
 use Rattle.change_text.specs.declared.options.RackRule.{RackRule}
 use Rattle.ringplan_command.specs.Makings.{MeansRacks}
 use Rattle.ringplan_command.proofs.line.racks_of.Goals as goal
