@@ -180,8 +180,7 @@ cut_lines old new mid bytes left some many same = record {
       let here = subst (λ (ns : List (List ℕ)). IsKept ring marks front (entries_behind [] said) ns old.kept) (sym t.3.1) here in
       let many = subst (λ (r : RingValue). CutsMany old.kept new.kept r mid.writers mid.entries.items) t.1.ring_is many in
       let next = many.cuts marks front (entries_behind [] said) t.1.known here in
-      let next = subst (λ (es : List Entry). IsKept ring marks front es mid.writers new.kept) (sym t.1.entries_are) next in
-      (
+      let next = subst (λ (es : List Entry). IsKept ring marks front es mid.writers new.kept) (sym t.1.entries_are) next in (
         t.0,
         record { reading = emptied_reading ring (entries_behind [] said) t.0 mid new.reader same t.1; cut = subst (λ (ns : List (List ℕ)). IsKept ring marks front (entries_behind [] t.0) ns new.kept) (sym same.writers) next },
         λ more. t.2 more ∙ (λ i. read_from ring (record { stage = sym same.stage i; said = t.0; line = sym same.line i }) more),

@@ -86,7 +86,12 @@ impl<'a> Cutter<'a> {
     {
         self.reader.take_some(alloc, left, more)?;
         let reader = &mut self.reader;
-        self.kept.keep_all(alloc, reader.ring, &reader.writers, reader.entries.as_slice())?;
+        self.kept.keep_all(
+            alloc,
+            reader.ring,
+            &reader.writers,
+            reader.entries.as_slice(),
+        )?;
         reader.entries.clear();
         Ok(())
     }

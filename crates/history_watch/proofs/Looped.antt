@@ -1,5 +1,5 @@
 -- A watch of an input goes on, and ends.
-use Rattle.std.proofs.Common.{◌≡◌, ◌≢◌, ℕ, suc, ◌+◌, ◌≤◌, List, ◌++◌, length, Option, Ok, Err, Result, IsErrAnd, refl, sym, ap, subst, ◌∙◌, inl, inr, arith}
+use Rattle.std.proofs.Common.{◌≡◌, ◌≢◌, ℕ, suc, ◌+◌, ◌≤◌, List, ◌++◌, length, Option, None, Ok, Err, Result, IsErrAnd, refl, sym, ap, subst, ◌∙◌, inl, inr, arith}
 use Rattle.std.specs.Prelude.{IfOk, IfErr, codes}
 use Rattle.std.specs.Global.{Vec}
 use Rattle.std.specs.Io.KnownBytes.{Appends, Consumes}
@@ -16,6 +16,12 @@ use Rattle.history_stream.proofs.Inputs.{same_end}
 use Rattle.history_watch.specs.declared.watch.Watch.{Watch}
 use Rattle.history_watch.specs.Watching.{IsAnswer, IsCutOff, IsJudged, IsRefused, IsWatching, history_at}
 use Rattle.history_watch.proofs.Watched.{going_judged}
+use Rattle.texts.specs.Left.{whole_text}
+use Rattle.plan_check.specs.First.{first_refusal}
+use Rattle.ring_script.specs.Bundles.{bundle_at}
+use Rattle.ring_script.specs.declared.bundle.Bundle.{Bundle}
+use Rattle.ring_script.specs.declared.bundle.Kind.TheVariants.{Check}
+use Rattle.history_watch.specs.Bundles.{WatchesBundle}
 use Rattle.history_watch.specs.Loops.{IsOutside, IsPrompt, IsUndecided, Shows, Watches, shown_at, so_far}
 
 pub on_inside : (r : Result (Unit {0}) Refusal) (P : Refusal → Type 0) → IfErr r (λ e. e ≢ OutOfMemory → P e) → IfErr r (λ e. (IsOutside e → ⊥) → P e)
@@ -112,3 +118,12 @@ unread e (inr r) = inr (inl r)
 -- before the first byte
 pub shown_first : (every n : ℕ) (a : Option (List ℕ)) → n ≡ 0 → Appends a a (so_far every n)
 shown_first every n a none = subst (λ (k : ℕ). Appends a a (so_far every k)) (sym none) (Appends-nil a)
+
+rewritten : (every : ℕ) (a b c d : Option (List ℕ)) (r : Result (Vec ℕ) Refusal) (x : Bundle) (ring : RingValue) (plan : List Planned) → ring ≡ x.ring → plan ≡ x.plan → Watches ring plan every a b c d r → Watches x.ring x.plan every a b c d r
+rewritten every a b c d r x ring plan e f watches = subst (λ (q : RingValue). Watches q x.plan every a b c d r) e (subst (λ (p : List Planned). Watches ring p every a b c d r) f watches)
+
+-- a watch by a bundle that is accepted
+pub watched_by : (bytes : List ℕ) (every : ℕ) (a b c d : Option (List ℕ)) (r : Result (Vec ℕ) Refusal) (x : Bundle) → whole_text (bundle_at Check) bytes ≡ Ok x → first_refusal x.ring x.plan x.cert ≡ None
+    → (ring : RingValue) (plan : List Planned) → ring ≡ x.ring → plan ≡ x.plan → Watches ring plan every a b c d r → WatchesBundle bytes every a b c d r
+watched_by bytes every a b c d (Ok v) x read accepted ring plan e f watches = record { bundle = x; read = read; accepted = accepted; watches = rewritten every a b c d (Ok v) x ring plan e f watches }
+watched_by bytes every a b c d (Err u) x read accepted ring plan e f watches = λ inside. inr (record { bundle = x; read = read; accepted = accepted; watches = rewritten every a b c d (Err u) x ring plan e f watches })

@@ -1,3 +1,4 @@
 pub mod Following
 pub mod Watching
 pub mod Loops
+pub mod Bundles

@@ -112,7 +112,12 @@ impl<'a> Watch<'a> {
         ensures counts { self.old.count ≤ self.new.count }
     {
         let reader = &self.reader;
-        follow_all(&mut self.world, &mut self.count, reader.line, reader.entries.as_slice())?;
+        follow_all(
+            &mut self.world,
+            &mut self.count,
+            reader.line,
+            reader.entries.as_slice(),
+        )?;
         self.reader.entries.clear();
         Ok(())
     }
@@ -136,13 +141,7 @@ impl<'a> Watch<'a> {
                     return Err(refusal);
                 }
                 match self.follow_kept() {
-                    Ok(()) => {
-                        if self.is_over() {
-                            Ok(())
-                        } else {
-                            Err(refusal)
-                        }
-                    }
+                    Ok(()) => { if self.is_over() { Ok(()) } else { Err(refusal) } }
                     Err(fault) => Err(fault),
                 }
             }

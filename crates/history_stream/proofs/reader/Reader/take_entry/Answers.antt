@@ -37,8 +37,7 @@ returns-clause-ok c = λ ring taken said so. (
     let x = said_of c.in_ok-said.said in
     let pushed = c.in_ok-push.ensures.items ∙ ap (λ (r : Reader). r.entries.items ++ entry ∷ []) n.same in
     let counted = count_on old _ entry pushed (ap (λ (r : Reader). r.started) n.same) n.few (started taken) so.counted in
-    let read = ap (λ (r : RingValue). said_at r [] old.writers c.args.fields.number c.args.fields.fields) (sym so.ring_is) ∙ sym c.in_ok-said.ensures.value in
-    (
+    let read = ap (λ (r : RingValue). said_at r [] old.writers c.args.fields.number c.args.fields.fields) (sym so.ring_is) ∙ sym c.in_ok-said.ensures.value in (
       x,
       read,
       reading_on ring taken said old _ x entry c.args.fields.number c.args.fields.fields so read c.in_ok-entry.ensures.ok (ap (λ (r : Reader). r.writers) n.same ∙ c.in_ok-entry.ensures.names) (ap (λ (r : Reader). r.ring.now) n.same) pushed counted,

@@ -1,0 +1,23 @@
+-- What a watch by a bundle answers.
+use Rattle.std.specs.Prelude.{◌≡◌, ◌⊎◌, ℕ, List, None, Option, Result, Ok, Err}
+use Rattle.std.specs.Global.{Vec}
+use Rattle.ring_names.specs.declared.refusal.Refusal.{Refusal}
+use Rattle.texts.specs.Left.{whole_text}
+use Rattle.plan_check.specs.First.{first_refusal}
+use Rattle.ring_script.specs.Bundles.{bundle_at}
+use Rattle.ring_script.specs.declared.bundle.Bundle.{Bundle}
+use Rattle.ring_script.specs.declared.bundle.Kind.TheVariants.{Check}
+use Rattle.ringplan_jobs.specs.Verdict.{verdict}
+use Rattle.history_watch.specs.Loops.{IsOutside, Watches}
+
+-- the bytes are a bundle whose plan the checker accepts, and a watch by it answers so
+pub record WatchesBy (bytes : List ℕ) (every : ℕ) (input left old new : Option (List ℕ)) (r : Result (Vec ℕ) Refusal) : Type 0 where
+  pub bundle : Bundle
+  pub read : whole_text (bundle_at Check) bytes ≡ Ok bundle
+  pub accepted : first_refusal bundle.ring bundle.plan bundle.cert ≡ None
+  pub watches : Watches bundle.ring bundle.plan every input left old new r
+
+-- a watch by the bytes answers so: their bundle is refused as by `check`, and nothing was read or printed; or a history was watched
+abbrev pub WatchesBundle : List ℕ → ℕ → Option (List ℕ) → Option (List ℕ) → Option (List ℕ) → Option (List ℕ) → Result (Vec ℕ) Refusal → Type 0
+WatchesBundle bytes every input left old new (Ok text) = WatchesBy bytes every input left old new (Ok text)
+WatchesBundle bytes every input left old new (Err e) = (IsOutside e → ⊥) → ((verdict bytes ≡ Err e) × (left ≡ input) × (new ≡ old)) ⊎ WatchesBy bytes every input left old new (Err e)
