@@ -1,3 +1,4 @@
 pub mod Drives
 pub mod Run
 pub mod Part
+pub mod Watch

@@ -1,10 +1,9 @@
 //! What is said at a terminal after a refusal in one line.
 
-ghost use Rattle.std.specs.Prelude.{List, ℕ, map};
+ghost use Rattle.std.specs.Prelude.{map};
 ghost use Rattle.ringplan_command.specs.Command.{asked};
 ghost use Rattle.ringplan_command.specs.Files.{files_of};
-ghost use Rattle.ringplan_jobs.specs.Io.{Tells};
-ghost use Rattle.ringplan_run.specs.Run.{Runs, told_by};
+ghost use Rattle.ringplan_run.specs.Watch.{RunsLine};
 
 use crate::files::say;
 use crate::program::run;
@@ -39,8 +38,8 @@ pub fn run_advised<
     R: Read + Drop,
     W: Write,
 >(rt: &RT, screen: Screen, words: &[S], input: &mut R, output: &mut W) -> u8
-    ensures line { (bytes : List ℕ) × Tells (told_by (files_of (map S.text words.now)) (R.remaining input.old)) bytes
-        × Runs (asked (map S.text words.now)) (files_of (map S.text words.now)) bytes (W.contents output.old) (W.contents output.new) result }
+    ensures line { RunsLine (asked (map S.text words.now)) (files_of (map S.text words.now)) (R.remaining input.old) (R.remaining input.new)
+        (W.contents output.old) (W.contents output.new) result }
 {
     let status = run(rt, screen, words, input, output);
     let is_refused = status == 1 || status == 2;

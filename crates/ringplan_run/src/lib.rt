@@ -9,6 +9,7 @@ mod layouts;
 mod parting;
 mod program;
 mod several;
+mod watching;
 
 pub use advice::run_advised;
 pub use driving::drive_bundle;

@@ -8,7 +8,9 @@ ghost use Rattle.ringplan_command.specs.Files.{files_of, no_files};
 ghost use Rattle.ringplan_command.specs.Tree.{word_of};
 ghost use Rattle.ringplan_jobs.specs.Io.{Prints, Tells};
 ghost use Rattle.ringplan_jobs.specs.Outcomes.{Finds};
-ghost use Rattle.ringplan_run.specs.Run.{FindsDrive, HasLayout, IsWritten, PrintsFound, PrintsStated, Reports, Runs, RunsTo, Shows, ShowsReport, told_by, unlaid};
+ghost use Rattle.ringplan_run.specs.Run.{FindsDrive, HasLayout, IsWritten, PrintsFound, PrintsStated, Reports, Runs, RunsTo, Shows, ShowsReport, unlaid};
+ghost use Rattle.ringplan_run.specs.Watch.{RunsLine};
+ghost use Rattle.ringplan_command.specs.declared.command.Request.{Request};
 ghost use Rattle.change_text.specs.declared.options.Options.{Options as OptionsValue};
 ghost use Rattle.ringplan_job.specs.declared.job.Job.{Job};
 ghost use Rattle.ringplan_job.specs.declared.making.Making.{Making};
@@ -19,6 +21,7 @@ use crate::files::{Limit, save, say};
 use crate::layouts::with_layout;
 use crate::parting::print_part;
 use crate::several::open_all;
+use crate::watching::print_watch;
 use change_text::Options;
 use ring_names::Refusal;
 use ringplan_command::{CommandLine, Files as Named, Form, NO_WORDS, Request, parse};
@@ -57,8 +60,8 @@ pub fn run<
     R: Read + Drop,
     W: Write,
 >(rt: &RT, screen: Screen, words: &[S], input: &mut R, output: &mut W) -> u8
-    ensures line { (bytes : List ℕ) × Tells (told_by (files_of (map S.text words.now)) (R.remaining input.old)) bytes
-        × Runs (asked (map S.text words.now)) (files_of (map S.text words.now)) bytes (W.contents output.old) (W.contents output.new) result }
+    ensures line { RunsLine (asked (map S.text words.now)) (files_of (map S.text words.now)) (R.remaining input.old) (R.remaining input.new)
+        (W.contents output.old) (W.contents output.new) result }
     // `check` alone asks for the check, and `migrate` alone for the migration.
     ensures job { (job : Job) → drop 1 (map S.text words.now) ≡ word_of job ∷ []
         → (bytes : List ℕ) × Tells (R.remaining input.old) bytes
@@ -70,6 +73,9 @@ pub fn run<
         output: target,
     } = files;
     let request = request.on(seen_on(screen, &target));
+    if let Request::Watch(every) = request {
+        return print_watch(rt, inputs.as_slice(), every, input, output);
+    }
     if inputs.is_empty() {
         return run_to(rt, request, target, input, output);
     }
@@ -103,7 +109,8 @@ fn run_to<RT: AllocGlobal + Files + Eprint + Threads + Wait + Sync, R: Read + Dr
     input: &mut R,
     output: &mut W,
 ) -> u8
-    requires { (asked : Asked) × Answers asked request }
+    requires asks { (asked : Asked) × Answers asked request }
+    requires not_watch { (every : ℕ) → request ≡ Request.Watch every → ⊥ }
     ensures { (asked : Asked) → Answers asked request → (bytes : List ℕ) × Tells (R.remaining input.old) bytes
         × RunsTo asked (option_map string_bytes target) bytes (W.contents output.old) (W.contents output.new) result }
 {
@@ -133,7 +140,8 @@ fn run_request<RT: AllocGlobal + Files + Eprint + Threads + Wait + Sync, R: Read
     input: &mut R,
     output: &mut W,
 ) -> u8
-    requires { (asked : Asked) × Answers asked request }
+    requires asks { (asked : Asked) × Answers asked request }
+    requires not_watch { (every : ℕ) → request ≡ Request.Watch every → ⊥ }
     ensures { (asked : Asked) → Answers asked request → (bytes : List ℕ) × Tells (R.remaining input.old) bytes
         × Shows asked bytes (W.contents output.old) (W.contents output.new) result }
 {
@@ -153,6 +161,7 @@ fn run_request<RT: AllocGlobal + Files + Eprint + Threads + Wait + Sync, R: Read
             state(alloc, found, output)
         }
         Request::Part(wish) => print_part(rt, wish, input, output),
+        Request::Watch(_) => unreachable!(),
         Request::Drive(workers, form) => {
             let found = drive_of(rt, alloc, workers, form, input);
             tell(alloc, found, output)
@@ -254,8 +263,8 @@ pub fn end_without_words<W: Write>(output: &mut W) -> u8
     finish(output, NO_WORDS, REFUSED)
 }
 
-// Prints what was found, and returns the exit status of that.
-fn tell<W: Write>(alloc: Global, found: Result<Vec<u8>, Refusal>, output: &mut W) -> u8
+/// Prints what was found, and returns the exit status of that.
+pub(crate) fn tell<W: Write>(alloc: Global, found: Result<Vec<u8>, Refusal>, output: &mut W) -> u8
     ensures { PrintsFound (W.contents output.old) (W.contents output.new) (texts_of found) result }
 {
     match answer_of(alloc, found) {

@@ -30,14 +30,14 @@ returns-in-StateBy g c = λ asked h.
     c.answer_input_by-found-in-StateBy.ensures c.state-in-StateBy.ensures
 
 pub print_part-requires : goal.print_part-requires
-print_part-requires g c = asked_choice c.requires.0 c.in-Part.wish (subst (λ (r : Request). Answers c.requires.0 r) c.in-Part.is c.requires.1)
+print_part-requires g c = asked_choice c.requires.asks.0 c.in-Part.wish (subst (λ (r : Request). Answers c.requires.asks.0 r) c.in-Part.is c.requires.asks.1)
 
 pub returns-in-Part : goal.returns-in-Part
 returns-in-Part g c = λ asked h. ran_part asked c.in-Part.wish (g.R.Read.remaining c.args.input.now) _ _ c.print_part.result (subst (λ (r : Request). Answers asked r) c.in-Part.is h) c.print_part.ensures
 
 pub drive_of-found-requires : goal.drive_of-found-requires
 drive_of-found-requires g c =
-    let asks = subst (λ (r : Request). Answers c.requires.0 r) c.in-Drive.is c.requires.1 in
+    let asks = subst (λ (r : Request). Answers c.requires.asks.0 r) c.in-Drive.is c.requires.asks.1 in
     (search rules, many_few asks.0 c.in-Drive.workers asks.3)
 
 pub returns-in-Drive : goal.returns-in-Drive
