@@ -146,14 +146,14 @@ def try_python_completions(usr: pathlib.Path) -> None:
         skip("the completions of ringplan-run are not tried, as python3-argcomplete is not installed")
         return
     by_bash = '. "$0"; COMP_LINE=$1; COMP_POINT=${#1}; COMP_TYPE=9; _python_argcomplete "${1%% *}"; echo "${COMPREPLY[@]}"'
-    by_zsh = 'fpath=("$1" $fpath); autoload -U compinit; compinit -u -D; print $_comps[ringplan-run] $_comps[ringplan-import] $_comps[ringplan-merge]'
+    by_zsh = 'fpath=("$1" $fpath); autoload -U compinit; compinit -u -D; print $_comps[ringplan-run] $_comps[ringplan-import] $_comps[ringplan-merge] $_comps[ringplan-break]'
     env = {"PATH": f"{usr}/bin:{PLAIN['PATH']}", "HOME": usr.parent}
-    for line, wanted in {"ringplan-run st": "status", "ringplan-run apply --gi": "--give-up", "ringplan-import descr": "describering", "ringplan-merge --ou": "--output"}.items():
+    for line, wanted in {"ringplan-run st": "status", "ringplan-run apply --gi": "--give-up", "ringplan-import descr": "describering", "ringplan-merge --ou": "--output", "ringplan-break --sc": "--script"}.items():
         script = usr / "share/bash-completion/completions" / line.split()[0]
         found = does(f"bash on {line}", "bash", "--norc", "-c", by_bash, script, line, env=env)
         owes(f"bash on {line}", found.strip() == wanted, found)
     calls: dict[str, tuple[tuple[object, ...], str]] = {
-        "zsh": (("-fc", by_zsh, "zsh", usr / "share/zsh/vendor-completions"), "_ringplan-run _ringplan-run _ringplan-run"),
+        "zsh": (("-fc", by_zsh, "zsh", usr / "share/zsh/vendor-completions"), "_ringplan-run _ringplan-run _ringplan-run _ringplan-run"),
         "fish": (("-c", "source $argv[1]; complete -C 'ringplan-run st' | cut -f 1", usr / "share/fish/vendor_completions.d/ringplan-run.fish"), "status"),
     }
     for shell, (words, wanted) in calls.items():
@@ -265,7 +265,7 @@ def try_all(scratch: pathlib.Path) -> None:
     try_program(root / "usr")
     try_shells(root / "usr")
     try_python_completions(root / "usr")
-    for name, headings in {"ringplan": ("COMMANDS",), "ringplan-run": ("COMMANDS", "SEE ALSO"), "ringplan-import": ("OPTIONS",), "ringplan-merge": ("OPTIONS",)}.items():
+    for name, headings in {"ringplan": ("COMMANDS",), "ringplan-run": ("COMMANDS", "SEE ALSO"), "ringplan-import": ("OPTIONS",), "ringplan-merge": ("OPTIONS",), "ringplan-break": ("OPTIONS",)}.items():
         try_manual(root / f"usr/share/man/man1/{name}.1.gz", *headings)
     if LIBRARY:
         try_library(root / "usr", scratch)

@@ -14,9 +14,11 @@ from ringplan.breaks.harms import Event, Harm, Lost, harm_words, in_words
 from ringplan.breaks.machine import Frame, shows
 from ringplan.breaks.order import Order
 from ringplan.breaks.search import Hunt
+from ringplan.options import complete
 from ringplan.texts import Plan, Ring, Script, read_plan, read_texts, write_texts
 
 NO_FILE = 3
+ENDS = "Exit status: 0 the plan is accepted, 1 it is refused, 2 there is no plan to run, 3 a file or the program is missing"
 # A longer script is not made shorter.
 LONGEST = 2_000
 NO_PLAN = "ringplan-break: there is no plan to run; `ringplan why` says what is wrong\n"
@@ -67,10 +69,16 @@ def answer(data: bytes) -> tuple[str, str, int]:
     return words, write_texts([*read_texts(data.decode())[:3], Script(tuple(script))]), status
 
 
-def main() -> int:
-    parser = argparse.ArgumentParser(prog="ringplan-break", description=(__doc__ or "").split("\n")[0])
+def command_line() -> argparse.ArgumentParser:
+    parser = argparse.ArgumentParser(prog="ringplan-break", description="Looks for a run in which a refused plan does harm.", epilog=ENDS)
     parser.add_argument("file", metavar="FILE", help="a ring, a plan and its certificate; `-` is standard input")
     parser.add_argument("--script", action="store_true", help="print the bundle with the run as a script that `ringplan play` reads")
+    return parser
+
+
+def main() -> int:
+    parser = command_line()
+    complete(parser)
     words = parser.parse_args()
     try:
         text, bundle, status = answer(sys.stdin.buffer.read() if words.file == "-" else pathlib.Path(words.file).read_bytes())
