@@ -67,9 +67,9 @@ set -- {' '.join(map(str, SIZES))}
 shift $((place * 7919 % 11))
 case $line in
     *again*) ;;
-    *) [ $((place % 10)) != 0 ] || {{ sleep "$(printf 0.%03d $(($1 * 2)))"; exit 1; }} ;;
+    *) [ $((place % 10)) != 0 ] || {{ sleep "$(printf 0.%03d "$1")"; exit 1; }} ;;
 esac
-sleep "$(printf 0.%03d $(($1 * 4)))"
+sleep "$(printf 0.%03d $(($1 * 2)))"
 """
 FILE_FAULTS = ["kill", "kill both", "stop", "storm", "link", "supervisor", "disk"]
 ETCD_FAULTS = ["kill", "kill both", "stop", "freeze", "storm", "member", "supervisor"]

@@ -11,12 +11,16 @@ from typing import Any, NamedTuple
 from ringplan.run.board import CHUNKS, Name, State
 
 
+# A shorter time in which no step runs, such as a pause after a failure, counts as one in which steps run, in seconds. In a longer one they rest.
+REST = 60.0
+
+
 class Pace:
-    """How much copies have given, and how much a second while any of them ran: in the unit of the sizes, or in copies if no partition has a size."""
+    """How much copies have given, and how much a second while any steps ran: in the unit of the sizes, or in copies if no partition has a size."""
 
     def __init__(self, names: Iterable[Name], sizes: Mapping[str, int]) -> None:
-        # How much was given while copies were seen to run, and for how many seconds; how many run, and since when.
-        self.seen, self.busy, self.count, self.since = 0.0, 0.0, 0, 0.0
+        # How much was given while steps were seen to run, and for how many seconds; how many run, and since when; when the last one ended.
+        self.seen, self.busy, self.count, self.since, self.last = 0.0, 0.0, 0, 0.0, -math.inf
         self.load(names, sizes)
 
     def load(self, names: Iterable[Name], sizes: Mapping[str, int]) -> None:
@@ -33,12 +37,15 @@ class Pace:
         self.seen += amount * is_seen
 
     def begin(self, moment: float) -> None:
-        self.since = self.since if self.count else moment
+        if not self.count:
+            self.since = self.last if moment - self.last < REST else moment
         self.count += 1
 
     def end(self, moment: float) -> None:
         self.count -= 1
-        self.busy += 0.0 if self.count else moment - self.since
+        if not self.count:
+            self.busy += moment - self.since
+            self.last = moment
 
     def rate(self, moment: float) -> float:
         busy = self.busy + (moment - self.since if self.count else 0.0)
@@ -60,17 +67,16 @@ class Pace:
 
 
 def pace_of(states: Sequence[State], sizes: Mapping[str, int], now: float) -> Pace:
-    """The pace by when each copy began and ended."""
+    """The pace by when each step began and ended."""
     pace, spans = Pace((state.name for state in states), sizes), list[tuple[float, float]]()
     for state in states:
+        is_seen = bool(state.since and (state.is_done or state.worker))
+        spans += [(state.since, state.ended if state.is_done else now)] if is_seen else []
         if state.name.kind == "copy":
-            is_seen = bool(state.since and (state.is_done or state.worker))
             pace.give(state.name, CHUNKS if state.is_done else state.chunks, is_seen)
-            spans += [(state.since, state.ended if state.is_done else now)] if is_seen else []
-    last = -math.inf
     for begin, end in sorted(spans):
-        pace.busy += max(0.0, end - max(begin, last))
-        last = max(last, end)
+        pace.begin(begin)
+        pace.end(max(begin, end, pace.last))
     return pace
 
 

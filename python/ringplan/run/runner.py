@@ -189,19 +189,10 @@ class Runner:
                 self.pace.give(claim.name, self.pace.parts.get(claim.name, 0) + 1)
         return Result(Outcome.DONE)
 
-    def measure(self, claim: Claim, one: Supervisor) -> Result:
-        """Copies, and measures how long that takes."""
-        with self.lock:
-            self.pace.give(claim.name, len(claim.marks), is_seen=False)
-            self.pace.begin(time.time())
-        try:
-            return self.copy(claim, one)
-        finally:
-            with self.lock:
-                self.pace.end(time.time())
-
     def copy(self, claim: Claim, one: Supervisor) -> Result:
         """Copies the chunks that are left, by one hook or by one for each chunk. An `open` of a worker that died gets its `abort` first."""
+        with self.lock:
+            self.pace.give(claim.name, len(claim.marks), is_seen=False)
         self.note(claim, [*([Note("abort")] if claim.is_open else []), Note("open")])
         left = [chunk for chunk in range(CHUNKS) if chunk not in claim.marks]
         if self.hooks.has("chunk"):
@@ -224,13 +215,17 @@ class Runner:
             self.board.give_back(claim, claim.tries.later(LOOK))
             self.say(claim, "a process of an earlier hook still does it")
             return
+        with self.lock:
+            self.pace.begin(time.time())
         try:
             if claim.name.kind == "copy":
-                result = self.measure(claim, one)
+                result = self.copy(claim, one)
             elif (result := self.call(claim.name.kind, claim, one)).outcome is Outcome.DONE:
                 self.note(claim, [Note("do")], is_done=True)
         finally:
             self.hooks.free(one)
+            with self.lock:
+                self.pace.end(time.time())
         if result.outcome is not Outcome.DONE:
             self.give_back(claim, result)
 
