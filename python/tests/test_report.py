@@ -28,13 +28,16 @@ def state(number: int, since: float, ended: float, chunks: int = 0, worker: str 
 
 def test_time_left_by_sizes_and_spans() -> None:
     # Two copies ran together for 10 of 30 seconds, and a third one has run for 20 with half its chunks.
-    states = [state(0, 100.0, 120.0), state(1, 110.0, 130.0), state(2, 180.0, 0.0, 8, "worker 0")]
-    pace = pace_of(states, {"0": 1000, "1": 2000, "2": 8000}, 200.0)
+    states = [state(0, 100.0, 120.0), state(1, 110.0, 130.0), state(2, 280.0, 0.0, 8, "worker 0")]
+    pace = pace_of(states, {"0": 1000, "1": 2000, "2": 8000}, 300.0)
     assert (pace.done, pace.whole, pace.busy) == (7000.0, 11000, 50.0)
-    assert pace.rate(200.0) == 140.0 and pace.left(200.0) == pytest.approx(4000 / 140)
-    assert pace.words(200.0) == "7 k of 11 k are copied, 140 a second, 29 s left"
+    assert pace.rate(300.0) == 140.0 and pace.left(300.0) == pytest.approx(4000 / 140)
+    assert pace.words(300.0) == "7 k of 11 k are copied, 140 a second, 29 s left"
     # Without sizes each copy counts as one.
-    assert pace_of(states, {}, 200.0).words(200.0) == "2 of 3 copies are done, 10 s left"
+    assert pace_of(states, {}, 300.0).words(300.0) == "2 of 3 copies are done, 10 s left"
+    # A short time between steps counts.
+    states[2] = state(2, 180.0, 0.0, 8, "worker 0")
+    assert pace_of(states, {}, 200.0).busy == 100.0
     assert (span(119), span(600), span(7500)) == ("119 s", "10 min", "2 h 05 min")
 
 
