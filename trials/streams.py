@@ -377,7 +377,7 @@ def streams():
     commands = re.findall(r"^  (\w+) ", run("help")[0].decode().split("Commands:\n")[1].split("\n\n")[0], re.MULTILINE)
     for word in commands:
         owes(f"a wrong option of {word}", run(word, "--ded"), b"", contains(b"unrecognized subcommand" if word == "help" else b"unexpected argument"), 2)
-    owes("commands", (b"", b"", len(commands)), b"", b"", 19)
+    owes("commands", (b"", b"", len(commands)), b"", b"", 20)
     owes("a wrong command", run("gaol"), b"", lambda it: b"unrecognized subcommand" in it and b"there is no" not in it, 2)
     for gone, instead in (
         ("judge --workers 2", "there is no `judge`: use `replay`, or `part` for histories of more than 1,000,000 entries"),
