@@ -142,7 +142,7 @@ impl<'a> Search<'a> {
             task.ring.nodes().len(),
         );
         let found = Begun::of(&task)?;
-        let Begun { begun, hints } = found;
+        let Begun { begun, hints, .. } = found;
         let moves = Moves::of(alloc, task.ring, task.plan)?;
         let crowd = Crowd::of(&task, &moves)?;
         Ok(Search {

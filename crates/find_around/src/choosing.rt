@@ -149,6 +149,40 @@ impl Kept {
         matches!(self.numbers.get(step as usize), Some(Some(_)))
     }
 
+    // Whether the step of the chosen plan with the number of this one waits for a step that is not done.
+    fn waits(&self, chosen: &Plan, step: u32, done: &[bool]) -> bool {
+        let Some(Some(number)) = self.numbers.get(step as usize) else {
+            return false;
+        };
+        if *number >= chosen.len() {
+            return false;
+        }
+        for before in chosen.deps(*number).iter() {
+            if !is_set(done, at(self.olds.as_slice(), *before as usize)) {
+                return true;
+            }
+        }
+        false
+    }
+
+    // Takes the numbers of copies away that are not done, if the chosen plan lets them wait for a step that is not done: their entries go.
+    fn forget_waiting(&mut self, task: &Task, chosen: &Plan, done: &[bool]) {
+        for step in 0..task.plan.len() {
+            let is_copy = matches!(task.plan.step(step), Step::Copy(_, _));
+            if is_copy && !is_set(done, step) && self.waits(chosen, step, done) {
+                self.forget_copy(step);
+            }
+        }
+    }
+
+    // Takes the number of a copy away, and its place in the chosen plan.
+    fn forget_copy(&mut self, step: u32) {
+        if let Some(Some(number)) = self.numbers.get(step as usize) {
+            set(self.olds.as_mut_slice(), *number as usize, u32::MAX);
+        }
+        self.forget(Some(step));
+    }
+
     // Takes the number of a step away, if there is one.
     fn forget(&mut self, step: Option<u32>) {
         if let Some(step) = step {
@@ -194,10 +228,10 @@ impl Keeping {
     }
 }
 
-/// What the steps of the task's plan are called in the chosen plan: a step that has begun has the number of the first equal step that no earlier one has. If mirrors may be
-/// taken back, those are that are ahead of their slots' owners, and whose copies the chosen plan changes. Costs a pass over both plans and over the history, and sorting.
+/// What the steps of the task's plan are called in the chosen plan: a step that has begun has the number of the first equal step that no earlier one has. A copy that is not done has
+/// none if the chosen plan lets it wait for a step that is not done. If mirrors may be taken back, those are that are ahead of their slots' owners, and whose copies the chosen plan changes. Costs a pass over both plans and over the history, and sorting.
 pub fn find_kept(task: &Task, chosen: &Plan) -> Result<Kept, Refusal> {
-    let Begun { begun, .. } = Begun::of(task)?;
+    let Begun { begun, done, .. } = Begun::of(task)?;
     let mut it = Keeping {
         left: ByKey::of(task.alloc, chosen)?,
         mirrors: BTreeMap::new(task.alloc),
@@ -216,6 +250,7 @@ pub fn find_kept(task: &Task, chosen: &Plan) -> Result<Kept, Refusal> {
     }
     let Keeping { kept, .. } = it;
     let mut kept = kept;
+    kept.forget_waiting(task, chosen, done.as_slice());
     if task.back == Back::Allowed {
         take_back(task, chosen, &mut kept, begun.as_slice())?;
     }

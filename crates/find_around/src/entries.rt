@@ -6,10 +6,11 @@ use plan_runs::{Entry, Event, Reply};
 use ring_names::{Refusal, Slot};
 use std::collections::BTreeSet;
 
-/// By step whether it has begun, and the hints that are kept, by slot.
+/// By step whether it has begun and whether it is done, and the hints that are kept, by slot.
 #[derive(Drop)]
 pub(crate) struct Begun {
     pub(crate) begun: Vec<bool>,
+    pub(crate) done: Vec<bool>,
     pub(crate) hints: BTreeSet<(Slot, u32)>,
 }
 
@@ -18,6 +19,7 @@ impl Begun {
     pub(crate) fn of(task: &Task) -> Result<Begun, Refusal> {
         let mut found = Begun {
             begun: vec![in task.alloc; false; task.plan.len() as usize]?,
+            done: vec![in task.alloc; false; task.plan.len() as usize]?,
             hints: BTreeSet::new(task.alloc),
         };
         for entry in task.history {
@@ -29,7 +31,12 @@ impl Begun {
     // An entry more.
     fn note(&mut self, entry: &Entry) -> Result<(), Refusal> {
         match &entry.event {
-            Event::Do(step) | Event::OpenCopy(step) => put(self.begun.as_mut_slice(), *step, true),
+            Event::Do(step) => {
+                put(self.begun.as_mut_slice(), *step, true);
+                put(self.done.as_mut_slice(), *step, true);
+            }
+            Event::OpenCopy(step) => put(self.begun.as_mut_slice(), *step, true),
+            Event::CloseCopy(step) => put(self.done.as_mut_slice(), *step, true),
             Event::Hint(_, _, node) => {
                 if let Reply::Ticket(slot, _) = &entry.reply {
                     self.hints.insert((*slot, node.0))?;
