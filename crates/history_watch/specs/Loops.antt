@@ -5,6 +5,7 @@ use Rattle.std.specs.Global.{Vec}
 use Rattle.std.specs.Io.KnownBytes.{Appends, Consumes, IsAtEnd}
 use Rattle.ring_names.specs.declared.refusal.Refusal.{Refusal}
 use Rattle.ring_names.specs.declared.refusal.Refusal.TheVariants.{OutOfMemory, ReadFailed, WriteFailed}
+use Rattle.ringplan_jobs.specs.Io.{AppendsPart}
 use Rattle.ring_table.specs.Value.{RingValue}
 use Rattle.plan_text.specs.declared.step.Planned.{Planned}
 use Rattle.history_text.specs.Said.{SaidEntry}
@@ -40,6 +41,10 @@ IsOutside e = (e ≡ OutOfMemory) ⊎ ((e ≡ ReadFailed) ⊎ (e ≡ WriteFailed
 abbrev pub Shows : ℕ → ℕ → ℕ → Option (List ℕ) → Option (List ℕ) → Type 0
 Shows every before after old new = (start : Option (List ℕ)) → Appends start old (so_far every before) → Appends start new (so_far every after)
 
+-- whatever was printed before: if it was the lines after so many entries, it is now a first part of those after as many as there are now
+abbrev pub ShowsPart : ℕ → ℕ → ℕ → Option (List ℕ) → Option (List ℕ) → Type 0
+ShowsPart every before after old new = (start : Option (List ℕ)) → Appends start old (so_far every before) → AppendsPart start new (so_far every after)
+
 -- the bytes do not decide an answer: their whole lines say entries that are a run, and not the last line
 pub record IsUndecided (ring : RingValue) (plan : List Planned) (bytes : List ℕ) : Type 0 where
   pub to : Point
@@ -60,9 +65,18 @@ pub record IsPrompt (ring : RingValue) (plan : List Planned) (bytes : List ℕ) 
 abbrev pub IsWhole : RingValue → List ℕ → List SaidEntry → Option (List ℕ) → Type 0
 IsWhole ring bytes said left = HasEnded ring bytes said ⊎ (IsAtEnd left × (history_at ring (bytes ++ codes "end\n") ≡ Ok said))
 
--- what a watch of an input answers, and what it printed before; nothing is said if memory, reading or writing failed
+-- some first bytes of the input were read, and a first part of the lines was printed that these entries have, which are a run
+pub record PrintsPart (ring : RingValue) (plan : List Planned) (every : ℕ) (input old new : Option (List ℕ)) : Type 0 where
+  pub bytes : List ℕ
+  pub left : Option (List ℕ)
+  pub taken : Consumes input left bytes
+  pub count : ℕ
+  pub judged : IsJudged ring plan bytes count
+  pub part : AppendsPart old new (so_far every count)
+
+-- what a watch of an input answers, and what it printed before
 abbrev pub Watches : RingValue → List Planned → ℕ → Option (List ℕ) → Option (List ℕ) → Option (List ℕ) → Option (List ℕ) → Result (Vec ℕ) Refusal → Type 0
 Watches ring plan every input left old new (Ok text) = (bytes : List ℕ) × Consumes input left bytes × IsPrompt ring plan bytes × ((said : List SaidEntry)
     × IsWhole ring bytes said left × IsReplayed ring plan (entries_of said) text.items × Appends old new (so_far every (length said)))
-Watches ring plan every input left old new (Err e) = (IsOutside e → ⊥) → (bytes : List ℕ) × Consumes input left bytes × IsPrompt ring plan bytes
-    × (IsRefused ring plan bytes e ⊎ (IsAtEnd left × IsCutOff ring plan bytes e)) × ((n : ℕ) × IsJudged ring plan bytes n × Appends old new (so_far every n))
+Watches ring plan every input left old new (Err e) = PrintsPart ring plan every input old new × ((IsOutside e → ⊥) → (bytes : List ℕ) × Consumes input left bytes × IsPrompt ring plan bytes
+    × (IsRefused ring plan bytes e ⊎ (IsAtEnd left × IsCutOff ring plan bytes e)) × ((n : ℕ) × IsJudged ring plan bytes n × Appends old new (so_far every n)))

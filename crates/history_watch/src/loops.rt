@@ -1,11 +1,12 @@
 //! Judging a history while it is read.
 
-ghost use Rattle.std.specs.Prelude.{◌≡◌, ◌≤◌, ◌++◌, ℕ, List, IfOk, IfErr, OnOk};
+ghost use Rattle.std.specs.Prelude.{◌≡◌, ◌≤◌, ◌++◌, ℕ, List, IfOk, IfErr, OnOk, OnErr};
 ghost use Rattle.std.specs.Io.KnownBytes.{Appends};
 ghost use Rattle.ring_table.specs.Value.{RingValue};
+ghost use Rattle.ringplan_jobs.specs.Io.{AppendsPart};
 ghost use Rattle.plan_text.specs.declared.step.Planned.{Planned};
 ghost use Rattle.history_watch.specs.Watching.{HasRoom, IsWatching, IsRefused, IsJudged};
-ghost use Rattle.history_watch.specs.Loops.{is_shown, shown_at, so_far_line, IsOutside, Shows, Watches};
+ghost use Rattle.history_watch.specs.Loops.{is_shown, shown_at, so_far_line, IsOutside, Shows, ShowsPart, Watches};
 
 use crate::watch::Watch;
 use history_stream::{CHUNK, read_some};
@@ -35,6 +36,7 @@ fn so_far_line(alloc: Global, count: u32) -> Result<Vec<u8>, AllocError>
 // Prints the line after so many entries, if there is one.
 fn show<W: Write>(alloc: Global, output: &mut W, every: u32, count: u32) -> Result<(), Refusal>
     ensures ok { OnOk result (Appends (W.contents output.old) (W.contents output.new) (shown_at every count)) }
+    ensures part { OnErr result (AppendsPart (W.contents output.old) (W.contents output.new) (shown_at every count)) }
     ensures err { IfErr result IsOutside }
 {
     if is_shown(every, count) {
@@ -54,6 +56,7 @@ fn show_all<W: Write>(
 ) -> Result<(), Refusal>
     requires { before ≤ after }
     ensures ok { OnOk result (Shows every before after (W.contents output.old) (W.contents output.new)) }
+    ensures part { OnErr result (ShowsPart every before after (W.contents output.old) (W.contents output.new)) }
     ensures err { IfErr result IsOutside }
 {
     let mut count = before;
@@ -78,6 +81,7 @@ fn watch_some<W: Write>(
     ensures err { IfErr result (λ e. (IsOutside e → ⊥) → (ring : RingValue) (plan : List Planned) (before : List ℕ) → IsWatching ring plan before watch.old → IsRefused ring plan (before ++ more.now) e) }
     ensures judged { (ring : RingValue) (plan : List Planned) (before : List ℕ) → IsWatching ring plan before watch.old → IsJudged ring plan (before ++ more.now) watch.new.count }
     ensures shown { OnOk result (Shows every watch.old.count watch.new.count (W.contents output.old) (W.contents output.new)) }
+    ensures part { OnErr result (ShowsPart every watch.old.count watch.new.count (W.contents output.old) (W.contents output.new)) }
     ensures told { IfErr result (λ e. (IsOutside e → ⊥) → Shows every watch.old.count watch.new.count (W.contents output.old) (W.contents output.new)) }
 {
     let before = watch.count();

@@ -10,7 +10,7 @@ returns-in-Ok-check g c =
     c.in-Ok-check.ensures.same.1 c.watch_history.ensures
 
 pub returns-in-Ok : goal.returns-in-Ok
-returns-in-Ok g c = λ inside. inl (verdict-good c.args.bytes.now c.in-Ok.bundle c.in-Ok.ensures.read ∙ ap judged (c.in-Err-check.ensures.refused (λ o. inside (inl o))), refl, refl)
+returns-in-Ok g c = inl ((λ inside. verdict-good c.args.bytes.now c.in-Ok.bundle c.in-Ok.ensures.read ∙ ap judged (c.in-Err-check.ensures.refused (λ o. inside (inl o)))), refl, refl)
 
 pub returns : goal.returns
-returns g c = λ inside. inl (verdict-bad c.args.bytes.now c.in-Err.refusal (c.in-Err.ensures.read (λ o. inside (inl o))), refl, refl)
+returns g c = inl ((λ inside. verdict-bad c.args.bytes.now c.in-Err.refusal (c.in-Err.ensures.read (λ o. inside (inl o)))), refl, refl)

@@ -1,8 +1,8 @@
-use Rattle.std.proofs.Common.{◌≡◌, ◌∙◌, ℕ, List, [], ◌++◌, length, eqb-true, true, false, sym, subst, arith}
+use Rattle.std.proofs.Common.{◌≡◌, ◌∙◌, ℕ, List, [], ◌++◌, length, eqb-true, inl, inr, refl, true, false, sym, subst, arith}
 use Rattle.std.proofs.KnownBytes.{Consumes-nil, Consumes-trans}
 use Rattle.history_stream.specs.declared.reader.Stage.TheVariants.{First, Over}
 use Rattle.history_watch.specs.Watching.{IsJudged, IsRefused, IsWatching}
-use Rattle.history_watch.proofs.Looped.{at_end, is_over, is_refused, outside, over_outside, shown_first, unread}
+use Rattle.history_watch.proofs.Looped.{at_end, is_over, is_refused, nothing_part, outside, over_outside, shown_first, so_far_part, unread}
 use Rattle.history_watch.proofs.loops.watch_history.Goals as goal
 
 pub reads-init : goal.reads-init
@@ -13,8 +13,24 @@ reads-init g c = record {
   shown = shown_first c.args.every _ _ c.in_ok-watch.ensures.first.1;
 }
 
+pub returns-in_err-watch : goal.returns-in_err-watch
+returns-in_err-watch g c = outside c.args.approved.now.ring c.args.approved.now.plan c.args.every _ _ _ _ c.from_residual.result c.in_err-watch.field-0.0 c.from_residual.ensures.1 (inl c.in_err-watch.ensures.memory)
+    (nothing_part c.args.approved.now.ring c.args.approved.now.plan c.args.every _ _)
+
 pub returns-in_err-more : goal.returns-in_err-more
-returns-in_err-more g c = outside c.args.approved.now.ring c.args.approved.now.plan c.args.every _ _ _ _ c.from_residual-in_err-more.result c.in_err-more.field-0.0 c.from_residual-in_err-more.ensures.1 (unread _ c.in_err-more.ensures.err)
+returns-in_err-more g c =
+    let some = c.reads.invariant.some in
+    outside c.args.approved.now.ring c.args.approved.now.plan c.args.every _ _ _ _ c.from_residual-in_err-more.result c.in_err-more.field-0.0 c.from_residual-in_err-more.ensures.1 (unread _ c.in_err-more.ensures.err)
+    (so_far_part c.args.approved.now.ring c.args.approved.now.plan c.args.every (g.R.Read.remaining c.args.input.now) (g.R.Read.remaining c.reads.input) (g.W.Write.contents c.args.output.now) (g.W.Write.contents c.reads.output) some.0 c.reads.watch
+    some.2 c.reads.invariant.goes_on some.1 c.reads.invariant.shown)
+
+pub returns : goal.returns
+returns g c =
+    let some = c.reads.invariant.some in (
+      so_far_part c.args.approved.now.ring c.args.approved.now.plan c.args.every (g.R.Read.remaining c.args.input.now) (g.R.Read.remaining c.reads.input) (g.W.Write.contents c.args.output.now) (g.W.Write.contents c.reads.output) some.0 c.reads.watch some.2
+          c.reads.invariant.goes_on some.1 c.reads.invariant.shown,
+      λ inside. absurd (inside (inr (inl refl))),
+    )
 
 pub returns-then-is_empty : goal.returns-then-is_empty
 returns-then-is_empty g c =
@@ -34,6 +50,7 @@ returns-in_err-watch_some g c =
     let same : c.as_slice.result.now ≡ c.in_ok-more.more.items = c.as_slice.ensures.value in
     is_refused ring plan c.args.every (g.R.Read.remaining c.args.input.now) (g.R.Read.remaining c.reads.input) (g.W.Write.contents c.args.output.now) (g.W.Write.contents c.reads.output) some.0 c.reads.watch some.2 c.reads.invariant.goes_on
     (g.R.Read.remaining c.read_some.new.input) c.in_ok-more.more.items some.1 c.in_ok-more.ensures.ok (g.W.Write.contents c.watch_some.new.output) c.from_residual-in_err-watch_some.result e c.watch_some.new.watch.count c.from_residual-in_err-watch_some.ensures.1
+    (c.in_err-watch_some.ensures.part (g.W.Write.contents c.args.output.now) c.reads.invariant.shown)
     (λ inside. subst (λ (z : List ℕ). IsRefused ring plan (some.0 ++ z) e) same (c.in_err-watch_some.ensures.err inside ring plan some.0 some.2))
     (subst (λ (z : List ℕ). IsJudged ring plan (some.0 ++ z) c.watch_some.new.watch.count) same (c.watch_some.ensures.judged ring plan some.0 some.2))
     (λ inside. c.in_err-watch_some.ensures.told inside (g.W.Write.contents c.args.output.now) c.reads.invariant.shown)
