@@ -25,12 +25,12 @@ CASES = [
 ]
 
 
-def answer(words, bundle):
+def answer(words: list[str], bundle: bytes) -> tuple[int, bytes]:
     made = subprocess.run([RUN, *words], input=bundle, stdout=subprocess.PIPE)
     return made.returncode, made.stdout
 
 
-def main():
+def main() -> int:
     failed = 0
     with ThreadPoolExecutor(len(os.sched_getaffinity(0))) as pool:
         for words, name in CASES:

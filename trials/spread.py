@@ -10,14 +10,15 @@ import random
 import subprocess
 import sys
 from collections import Counter
+from collections.abc import Iterator
 from itertools import combinations, product
 
-from wishes import RUN, TOP, Known, answered, asked, judge
+from wishes import RUN, TOP, Change, Known, Rows, Vertex, answered, asked, judge
 
 STATES = 30000  # at most so many of one search
 
 
-def small(pick):
+def small(pick: random.Random) -> Change:
     """A ring of 2 to 8 partitions, 2 or 3 slots and 4 to 8 nodes, and a change with joiners."""
     q, n = pick.choice([2, 4, 4, 8]), pick.choice([2, 2, 3, 3, 3])
     count = pick.randint(n + 2, 8)
@@ -28,11 +29,11 @@ def small(pick):
     return change(pick, n, rows, len(members), fresh, racks, 0.4)
 
 
-def middle(pick):
+def middle(pick: random.Random) -> Change:
     """A ring of 16 to 256 partitions, 2 to 5 slots and up to 23 nodes, with slots apart by racks mostly."""
     q, n = pick.choice([16, 32, 64, 256]), pick.choice([2, 3, 3, 3, 5])
     members, fresh, racks = pick.randint(n + 3, n + 14), pick.randint(1, 4), pick.choice([n, n + 2, 64])
-    rows = [[] for _ in range(q)]
+    rows: Rows = [[] for _ in range(q)]
     for p, i in product(range(q), range(n)):
         free = [v for v in range(members) if v not in rows[p]]
         free = [v for v in free if v % racks not in [u % racks for u in rows[p]]] or free
@@ -40,7 +41,7 @@ def middle(pick):
     return change(pick, n, rows, members, fresh, [v % racks for v in range(members + fresh)], 0.3)
 
 
-def change(pick, n, rows, members, fresh, racks, weighed):
+def change(pick: random.Random, n: int, rows: Rows, members: int, fresh: int, racks: list[int], weighed: float) -> Change:
     """The change that the fresh nodes join, and up to two members leave."""
     count = members + fresh
     joins = [v for v in range(members, count) if pick.random() < 0.9] or [members]
@@ -49,22 +50,23 @@ def change(pick, n, rows, members, fresh, racks, weighed):
     return n, [v < members for v in range(count)], ["%d" % pick.randint(1, 4) for _ in range(count)], rows, joins, leaves, weights, racks
 
 
-def beyond(rows, joins):
+def beyond(rows: Rows, joins: list[int]) -> int:
     """How many joiners partitions have beyond the first."""
     return sum(max(len(set(row) & set(joins)) - 1, 0) for row in rows)
 
 
-def fewest(known, rows, joins):
+def fewest(known: Known, rows: Rows, joins: list[int]) -> int | None:
     """The fewest joiners beyond the first of all plans that cost no more than this one; None where there are too many states."""
     order, most, squares = known.after, known.cost(rows)[0], known.cost(rows)[1]
     pairs = {c: sum(known.rack[a] == known.rack[b] for a, b in combinations(c, 2)) for c in combinations(order, known.n)}
     apart = [c for c in pairs if pairs[c] == min(pairs.values())]
-    fixed = [[(sum(v not in old for v in c), beyond([c], joins), c) for c in apart] for old in known.rows]
+    fixed = [[(sum(v not in old for v in c), beyond([list(c)], joins), c) for c in apart] for old in known.rows]
     moves = sum(v not in old for row, old in zip(rows, known.rows) for v in row)
     spare = moves - sum(min(some)[0] for some in fixed)
-    states = {(tuple([0] * len(known.rack)), 0): 0}
+    states: dict[tuple[tuple[int, ...], int], int] = {(tuple([0] * len(known.rack)), 0): 0}
     for some in fixed:
-        after, least = {}, min(some)[0]
+        after: dict[tuple[tuple[int, ...], int], int] = {}
+        least = min(some)[0]
         for (load, over), d in states.items():
             for m, more, c in some:
                 if over + m - least <= spare:
@@ -77,14 +79,16 @@ def fewest(known, rows, joins):
     return min(d for (load, over), d in states.items() if known.price(load, min(pairs.values()) * len(rows), moves - spare + over)[0] <= most)
 
 
-def is_beaten(known, rows):
+def is_beaten(known: Known, rows: Rows) -> bool:
     """Whether other owners cost less: then a cycle of negative cost is in what the flow of these leaves free (Klein 1967), which Bellman and Ford's walk shows."""
-    flow, arcs = {}, []
+    flow: dict[tuple[Vertex, Vertex], int] = {}
+    arcs: list[tuple[Vertex, Vertex, int]] = []
     for p, row in enumerate(rows):
         flow["from", ("p", p)] = known.n
         for v in row:
             flow[("r", p, known.rack[v]), ("v", v)] = 1
-            for way in ((("p", p), ("r", p, known.rack[v])), (("v", v), "to")):
+            ways: tuple[tuple[Vertex, Vertex], ...] = (("p", p), ("r", p, known.rack[v])), (("v", v), "to")
+            for way in ways:
                 flow[way] = flow.get(way, 0) + 1
     for a, b, room, cost in known.edges():
         used = min(room, flow.get((a, b), 0))
@@ -101,7 +105,7 @@ def is_beaten(known, rows):
     return True
 
 
-def named():
+def named() -> Iterator[str]:
     """What is wrong with the plans of two rings of 64 partitions that grow, by the words of `show`."""
     rows = [[((p // 4**i + p) % 4) * 3 + (p + i) % 3 for i in range(3)] for p in range(64)]
     three = asked((3, [v < 12 for v in range(15)], ["2"] * 15, rows, [12, 13, 14], [], [], [v % 3 for v in range(15)]))[2]
@@ -115,26 +119,30 @@ def named():
                 yield "show of %d moves does not say %r" % (moves, part)
 
 
-def fault_of(known, rows, is_small):
+def fault_of(known: Known, rows: Rows | None, is_small: bool) -> str | None:
     """What is wrong with the owners besides how joiners are spread, if something is."""
+    if rows is None:
+        return "refused wrongly"
     if not is_small:
         return "other owners are better" if is_beaten(known, rows) else None
     fault, ratio = judge(known, rows)
     return fault or ("not as even as the best" if ratio > 1 else None)
 
 
-def main(count):
+def main(count: int) -> int:
     wrong = list(named())
-    faults, sums, over = len(wrong), [0, 0], Counter()
+    faults, sums = len(wrong), [0, 0]
+    over: Counter[int | None] = Counter()
     for number in range(count):
         pick, is_small = random.Random(number), number % 5 != 4
         one = small(pick) if is_small else middle(pick)
         known, rows = Known(one), answered(one)
         fault = fault_of(known, rows, is_small)
-        sums[is_small] += 0 if fault else beyond(rows, one[4])
-        if is_small and not fault:
+        joiners = beyond(rows, one[4]) if rows and not fault else 0
+        sums[is_small] += joiners
+        if is_small and rows and not fault:
             best = fewest(known, rows, one[4])
-            more = None if best is None else beyond(rows, one[4]) - best
+            more = None if best is None else joiners - best
             over[more] += 1
             fault = "%d joiners beyond the first more than must be" % more if more and more > 1 else None
         if fault:

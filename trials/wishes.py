@@ -8,13 +8,20 @@ import random
 import subprocess
 import sys
 import tempfile
+from collections.abc import Iterator
 from math import lcm
 
 TOP = os.path.dirname(os.path.dirname(os.path.abspath(__file__)))
 RUN = os.path.join(TOP, "crates", "ringplan", "out", "ringplan")
+# The owners of each partition, by their numbers.
+Rows = list[list[int]]
+# The quorum's N, who is a member, what each node bears, the owners, who joins, who leaves, the weights and the racks.
+Change = tuple[int, list[bool], list[str], Rows, list[int], list[int], list[int], list[int]]
+# A vertex of the network: one of its two ends, or a word with numbers.
+Vertex = str | tuple[str, int] | tuple[str, int, int]
 
 
-def case(number):
+def case(number: int) -> Change:
     """A ring of 2 to 8 partitions, 2 to 4 slots and 4 to 11 nodes, and a wish."""
     pick = random.Random(number)
     q, n = pick.choice([2, 4, 4, 8]), pick.choice([2, 2, 2, 2, 3, 3, 3, 3, 4])
@@ -37,7 +44,7 @@ def case(number):
     return n, member, bears, rows, joins, leaves, weights, racks
 
 
-def asked(change):
+def asked(change: Change) -> tuple[list[str], str, str]:
     """The names of the nodes, the lines of the layout and the bundle."""
     n, member, bears, rows, joins, leaves, weights, racks = change
     names = ["n%d.%s" % (v, "k%d" % racks[v] if v < len(racks) else "own%d" % v) for v in range(len(member))]
@@ -49,7 +56,7 @@ def asked(change):
     return names, layout, "\n".join(lines) + "\n"
 
 
-def answered(change):
+def answered(change: Change) -> Rows | None:
     """The owners by number after the plan, and None where there is none."""
     names, layout, text = asked(change)
     with tempfile.NamedTemporaryFile("w", suffix=".layout") as file:
@@ -62,7 +69,8 @@ def answered(change):
         return None
     if ran.returncode:
         raise SystemExit("%s: %s" % (" ".join(options), out.splitlines()[:2]))
-    rows, mirrors = [[names.index(word) for word in line.split()[2:]] for line in text.splitlines() if line.startswith("slots")], {}
+    rows = [[names.index(word) for word in line.split()[2:]] for line in text.splitlines() if line.startswith("slots")]
+    mirrors: dict[tuple[str, str], int] = {}
     for line in out.split("end\n")[1].splitlines():
         fields = line.split()
         if fields[0] == "mirror":
@@ -75,7 +83,7 @@ def answered(change):
 class Known:
     """What the rules say of a case: who is a member in the end, with which weight, rack and part."""
 
-    def __init__(self, change):
+    def __init__(self, change: Change) -> None:
         self.n, member, _, self.rows, joins, leaves, weights, racks = change
         count = len(member)
         self.after = [v for v in range(count) if (member[v] or v in joins) and v not in leaves]
@@ -90,20 +98,20 @@ class Known:
         self.lack = self.move * (q * self.n + 1)
         self.pair = self.lack * (q * self.n + 1) * 2
 
-    def cost(self, rows):
+    def cost(self, rows: Rows) -> tuple[int, int]:
         """The cost of owners, and the sum of their squares by weight alone."""
         load = [sum(v in row for row in rows) for v in range(len(self.rack))]
         pairs = sum(self.rack[a] == self.rack[b] for row in rows for k, a in enumerate(row) for b in row[:k])
         moves = sum(v not in old for row, old in zip(rows, self.rows) for v in row)
         return self.price(load, pairs, moves)
 
-    def price(self, load, pairs, moves):
+    def price(self, load: list[int] | tuple[int, ...], pairs: int, moves: int) -> tuple[int, int]:
         """The cost of owners with these loads, pairs of slots in one rack and moves, and the sum of the squares."""
         met = sum(min(load[v], self.part[v]) for v in self.after)
         squares = sum(load[v] ** 2 * self.unit // self.weight[v] for v in self.after)
         return pairs * self.pair - met * self.lack + moves * self.move + squares, squares
 
-    def edges(self):
+    def edges(self) -> Iterator[tuple[Vertex, Vertex, int, int]]:
         """A network whose flows are the choices of owners: partitions, their racks, members; each unit of a rack and of a member has its own cost."""
         for p, row in enumerate(self.rows):
             yield "from", ("p", p), self.n, 0
@@ -117,34 +125,39 @@ class Known:
                 yield ("v", v), "to", 1, (2 * k - 1) * self.unit // self.weight[v] - (self.lack if k <= self.part[v] else 0)
 
 
-def least(known):
+def least(known: Known) -> int:
     """The least cost of all choices, by shortest augmenting paths (Bellman 1958, Ford 1956)."""
-    edges, at = [], {}
+    edges: list[tuple[Vertex, int]] = []
+    rooms: list[int] = []
+    at: dict[Vertex, list[int]] = {}
     for a, b, room, cost in known.edges():
         for one, other, r, c in ((a, b, room, cost), (b, a, 0, -cost)):
             at.setdefault(one, []).append(len(edges))
-            edges.append([other, r, c])
+            edges.append((other, c))
+            rooms.append(r)
     total = 0
     for _ in range(len(known.rows) * known.n):
-        far, way, queue = {"from": 0}, {}, ["from"]
+        far: dict[Vertex, int] = {"from": 0}
+        way: dict[Vertex, int] = {}
+        queue: list[Vertex] = ["from"]
         while queue:
             one = queue.pop(0)
             for k in at[one]:
-                other, room, cost = edges[k]
-                if room and far[one] + cost < far.get(other, far[one] + cost + 1):
+                other, cost = edges[k]
+                if rooms[k] and far[one] + cost < far.get(other, far[one] + cost + 1):
                     far[other], way[other] = far[one] + cost, k
                     if other not in queue:
                         queue.append(other)
         total += far["to"]
         one = "to"
         while one != "from":
-            edges[way[one]][1] -= 1
-            edges[way[one] ^ 1][1] += 1
+            rooms[way[one]] -= 1
+            rooms[way[one] ^ 1] += 1
             one = edges[way[one] ^ 1][0]
     return total
 
 
-def judge(known, answer):
+def judge(known: Known, answer: Rows | None) -> tuple[str | None, float]:
     """What is wrong with an answer, if something is, and how far from even it is."""
     if not known.has_plan or answer is None:
         return None if not known.has_plan and answer is None else "refused wrongly or not at all", 1
@@ -158,7 +171,7 @@ def judge(known, answer):
     return (None if over < known.move else "not the best"), squares / (squares - over) if over < known.move else 1
 
 
-def main(count):
+def main(count: int) -> int:
     faults, ratios = 0, []
     for number in range(count):
         fault, ratio = judge(Known(case(number)), answered(case(number)))

@@ -9,7 +9,7 @@ top = os.path.dirname(os.path.dirname(here))
 PROGRAM = f"{top}/crates/ringplan/out/ringplan"
 
 
-def large():
+def large() -> str:
     """1,024 nodes, 4,096 partitions of 3 slots; 60 nodes leave and 24 join."""
     old, new = [f"s{k:04}" for k in range(1000)], [f"t{k:02}" for k in range(24)]
     out = ["ring 1", "space 4096", "quorum 3 2 2"] + [f"node {x} 2 in" for x in old] + [f"node {x} 2 out" for x in new]
@@ -18,10 +18,11 @@ def large():
     return "\n".join(out) + "\n"
 
 
-def rounds(moves):
+def rounds(moves: int) -> str:
     """A slot that goes to and fro between two nodes."""
     out = ["ring 1", "space 1", "quorum 3 2 2", "node a 4 in", "node b 4 in", "node c 4 in", "node d 4 out", "slots 0 a b c", "end", "plan 1", "join d"]
-    owner, other, last, copies = "a", "d", 0, []
+    owner, other, last = "a", "d", 0
+    copies: list[int] = []
     for k in range(1, 4 * moves, 4):
         mirror = f"mirror 0 0 {other} after 0" + (f" {last}" if last else "")
         out += [mirror, f"copy 0 0 owner after " + " ".join(map(str, copies[-1:] + [k])), f"switch 0 0 after {k + 1}", f"drop 0 0 {owner} after {k + 2}"]
@@ -31,7 +32,7 @@ def rounds(moves):
     return "\n".join(out + ["end", "cert 1", f"chain a {chain}", f"chain d {chain}", "end"]) + "\n"
 
 
-def read(path):
+def read(path: str) -> str:
     with open(f"{top}/{path}") as it:
         return it.read()
 
@@ -65,11 +66,11 @@ for name, bundle in PICTURES.items():
             if it.read() != drawn.stdout:
                 old.append(name)
         continue
-    with open(f"{here}/{name}.svg", "wb") as it:
-        it.write(drawn.stdout)
+    with open(f"{here}/{name}.svg", "wb") as picture:
+        picture.write(drawn.stdout)
     if len(sys.argv) > 1:
-        with open(f"{sys.argv[1]}/{name}.bundle", "w") as it:
-            it.write(bundle)
+        with open(f"{sys.argv[1]}/{name}.bundle", "w") as text:
+            text.write(bundle)
         size = drawn.stdout.split(b'width="', 1)[1]
         wide, high = int(size.split(b'"')[0]), int(size.split(b'height="', 1)[1].split(b'"')[0])
         words = ["chromium", "--headless", "--no-sandbox", "--disable-gpu", f"--window-size={wide},{high}", f"--screenshot={sys.argv[1]}/{name}.png", f"file://{here}/{name}.svg"]
