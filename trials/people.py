@@ -6,20 +6,21 @@ lost), drawn from a fixed seed. The first line and the status of `why` are those
 Large plans: 131,072 steps over 1,024 nodes, and 32,768 rounds, by each command: the seconds are printed (10 are a fault), at most 200 MB, a picture of at most 1 MB, and
 the bytes that people.sums names. Pictures: each is well-formed, 900 wide and titled, and each bar has words that are no wider than it; so are maps. Trails: of random plays with one reply spoiled at a read or at the end of a
 get, `why` shows the line of each put that differs, no line that the bundle has not, and at most twelve beside the entry and the one before it."""
-import glob, hashlib, os, random, re, resource, subprocess, sys, time, xml.dom.minidom
+import glob, hashlib, os, random, re, resource, subprocess, sys, tempfile, time, xml.dom.minidom
+from typing import Any
 
 top = os.path.dirname(os.path.dirname(os.path.abspath(__file__)))
 RUN = f"{top}/crates/ringplan/out/ringplan"
 EDITS = int(sys.argv[1]) if len(sys.argv) > 1 else 40
 
 
-def ask(words, text):
+def ask(words: str, text: str) -> tuple[str, int]:
     ran = subprocess.run([RUN, *words.split()], input=text.encode(), capture_output=True, timeout=60)
     # A refusal of a command for people stands on standard error.
     return (ran.stdout + (ran.stderr if ran.returncode else b"")).decode(), ran.returncode
 
 
-def edited(lines, draw):
+def edited(lines: list[str], draw: random.Random) -> list[str]:
     """The lines with one edit."""
     lines, k, kind = list(lines), draw.randrange(len(lines)), draw.randrange(9)
     fields = lines[k].split(" ")
@@ -52,22 +53,21 @@ def edited(lines, draw):
     return lines
 
 
-def mended(text, told):
+def mended(text: str, told: str) -> tuple[str, str] | None:
     """The text with the mend that the words show, and what they say of it; None where they show none. A mend that is a command is run."""
     found = re.search(r"\n  mend: ([^\n]*)\n((?: *\d+ \+ [^\n]*\n)*)  then the checker (says yes|goes on, to `([^`]*)`)[.,]", told)
     if not found:
         return None
     command = re.search(r"`([^`]* > MENDED)` mends", told)
-    if "by that command" in found[1]:
+    if command and "by that command" in found[1]:
         return run_command(command[1], text), found[4] or "yes"
-    new = {}
-    for line in found[2].splitlines():
-        number, words = re.match(r" *(\d+) \+ (.*)", line).groups()
+    new: dict[int, list[str]] = {}
+    for number, words in re.findall(r"^ *(\d+) \+ (.*)$", found[2], re.M):
         new.setdefault(int(number), []).append(words)
     gone = re.search(r"line (\d+) goes", found[1])
     if gone:
         new[int(gone[1])] = []
-    out = []
+    out: list[str] = []
     for number, line in enumerate(text.split("\n"), 1):
         out += new.get(number, [line])
     if "with a newline at its end" in found[1]:
@@ -75,7 +75,7 @@ def mended(text, told):
     return "\n".join(out), found[4] or "yes"
 
 
-def run_command(command, text):
+def run_command(command: str, text: str) -> str:
     """What the command makes of the text in the file that it calls FILE."""
     with tempfile.TemporaryDirectory() as folder:
         with open(f"{folder}/FILE", "w", newline="") as it:
@@ -85,9 +85,10 @@ def run_command(command, text):
             return it.read()
 
 
-def mends():
+def mends() -> tuple[list[int], dict[str, int]]:
     """Bundles, mends shown, mends accepted, and how often each number was answered."""
-    draw, counts, numbers = random.Random(20261126), [0, 0, 0], {}
+    draw, counts = random.Random(20261126), [0, 0, 0]
+    numbers: dict[str, int] = {}
     for path in sorted(glob.glob(f"{top}/examples/*.bundle")):
         with open(path) as it:
             whole = it.read()
@@ -112,7 +113,7 @@ def mends():
     return counts, numbers
 
 
-def walks():
+def walks() -> tuple[int, int]:
     """Of the refused examples, how many have a mend, and how many become accepted by mends alone."""
     begun, ended = 0, 0
     for path in sorted(glob.glob(f"{top}/examples/*.bundle")):
@@ -131,9 +132,13 @@ def walks():
     return begun, ended
 
 
-def steps(count):
+def steps(count: int) -> str:
     """A sound plan of so many steps, a multiple of four: eight slots of each of 4,096 partitions go to nodes of their own."""
-    nodes, q, n, out, plan, chains, last = 1024, 4096, 3, [], [], {}, {}
+    nodes, q, n = 1024, 4096, 3
+    out: list[str] = []
+    plan: list[str] = []
+    chains: dict[int, list[list[int]]] = {}
+    last: dict[tuple[int, int], int] = {}
     owners = [[(p * 7 + i * 131) % nodes for i in range(n)] for p in range(q)]
     for k in range(0, count, 4):
         move = k // 4
@@ -141,7 +146,7 @@ def steps(count):
         old = owners[p][i]
         new = (p * 7 + 401 + 17 * (move // q)) % nodes
         after = [last[p, i]] if (p, i) in last else []
-        waits = set()
+        waits: set[int] = set()
         for x in (old, new):
             lane = chains.setdefault(x, [[] for _ in range(32)])
             seat = min(range(32), key=lambda j: len(lane[j]))
@@ -160,10 +165,11 @@ def steps(count):
     return "\n".join(out) + "\n"
 
 
-def rounds(moves):
+def rounds(moves: int) -> str:
     """A slot that goes to and fro between two nodes."""
-    out, copies, last = ["ring 1", "space 1", "quorum 3 2 2", "node 1na 4 in", "node 2na 4 in", "node 3na 4 in", "node 4na 4 in", "slots 0 1na 2na 3na", "end", "plan 1"], [], 0
-    owner, other = "1na", "4na"
+    out = ["ring 1", "space 1", "quorum 3 2 2", "node 1na 4 in", "node 2na 4 in", "node 3na 4 in", "node 4na 4 in", "slots 0 1na 2na 3na", "end", "plan 1"]
+    copies: list[int] = []
+    owner, other, last = "1na", "4na", 0
     for k in range(0, 4 * moves, 4):
         out.append(f"mirror 0 0 {other}" + (f" after {last}" if last else ""))
         out.append("copy 0 0 owner after " + " ".join(map(str, copies[-1:] + [k])))
@@ -179,9 +185,11 @@ WIDTHS = {**dict.fromkeys("0123456789bdghnpqu", 64), **dict.fromkeys("aeo", 62),
 WIDTHS |= {"c": 55, "k": 58, "f": 36, "t": 40, "r": 42, "w": 82, "m": 98, "-": 37, "_": 50, ":": 34, "\u2190": 84, "\u2192": 84}
 
 
-def look(name, picture):
+def look(name: str, picture: str | bytes) -> int:
     """Whether the picture is well-formed, 900 wide and titled, and how many bars it has: each copy's has words, none wider than the bar or less than 10 pixels high."""
-    root, bar, count, bare = xml.dom.minidom.parseString(picture).documentElement, None, 0, 0
+    # The types of minidom do not know what a child node is.
+    root: Any = xml.dom.minidom.parseString(picture).documentElement
+    bar, count, bare = 0, 0, 0
     if root.getAttribute("width") != "900" or [it.nodeName for it in root.childNodes if it.nodeType == it.ELEMENT_NODE][:2] != ["title", "desc"]:
         faults.append(f"{name}: not 900 wide, or without title and description")
     for shape in root.childNodes:
@@ -189,8 +197,8 @@ def look(name, picture):
             bar = int(shape.getAttribute("width"))
             bare += shape.getElementsByTagName("title")[0].firstChild.data.startswith("step ")
         elif shape.nodeName == "text" and "b" in shape.getAttribute("class").split() and shape.getAttribute("text-anchor") == "middle":
-            words, size = shape.firstChild.data, re.search(r"font-size:(\d+)px", shape.getAttribute("style"))
-            size = int(size[1]) if size else 11
+            words, style = shape.firstChild.data, re.search(r"font-size:(\d+)px", shape.getAttribute("style"))
+            size = int(style[1]) if style else 11
             wide = float(shape.getAttribute("textLength") or sum(WIDTHS.get(it, 100) for it in words) * size / 100)
             count, bare = count + 1, bare - 1
             if wide > bar or size < 10:
@@ -200,20 +208,22 @@ def look(name, picture):
     return count
 
 
-def run(words, text):
+def run(words: str, text: bytes) -> tuple[bytes, int, float, int]:
     """What the program writes, its seconds, and the most memory that any run has taken, in MB."""
     begun = time.time()
     ran = subprocess.run([RUN, *words.split()], input=text, stdout=subprocess.PIPE, timeout=60)
     return ran.stdout, ran.returncode, time.time() - begun, resource.getrusage(resource.RUSAGE_CHILDREN).ru_maxrss // 1024
 
 
-def large():
+def large() -> tuple[float, int]:
     """Each command on the large plans: the sums of what it writes, and the most seconds and memory."""
-    wanted, found, most, memory = {}, [], 0, 0
+    wanted: dict[str, str] = {}
+    found: list[str] = []
+    most, memory = 0.0, 0
     sums = f"{top}/trials/people.sums"
     if os.path.isfile(sums):
         with open(sums) as it:
-            wanted = dict(reversed(line.split("  ")) for line in it.read().splitlines())
+            wanted = {label: total for total, label in (line.split("  ") for line in it.read().splitlines())}
     for name, text in (("steps", steps(131072)), ("rounds", rounds(32768))):
         for words in ("why", "show --racks-behind n", "show --all", "draw", "draw --map", "steps", "cert", "after"):
             out, status, seconds, megabytes = run(words, text.encode())
@@ -231,12 +241,13 @@ def large():
     return most, memory
 
 
-def traffic(draw):
+def traffic(draw: random.Random) -> tuple[str, list[tuple[str, str]]]:
     """A bundle of a move under random traffic, and its entries: what `play` refuses is left out."""
     with open(f"{top}/examples/move_one_slot.bundle") as it:
         texts = it.read()
     steps = ["do 0", "do 1", "open 2", *(f"chunk 2 {c}" for c in range(16)), "close 2", "do 3", "do 4"]
-    events, puts, gets = [], 0, 0
+    events: list[str] = []
+    puts, gets = 0, 0
     for _ in range(120):
         kind = draw.randrange(9)
         if kind == 0:
@@ -263,7 +274,7 @@ def traffic(draw):
     return texts, [(event, reply) for event, reply in zip(events, said) if not reply.startswith("no ")]
 
 
-def trails(runs):
+def trails(runs: int) -> tuple[int, int]:
     """How many spoiled replies were asked of `why`, and the most lines of a trail."""
     asked, most = 0, 0
     for seed in range(runs):
@@ -292,7 +303,7 @@ def trails(runs):
     return asked, most
 
 
-faults = []
+faults: list[str] = []
 (bundles, shown, accepted), numbers = mends()
 print(f"mends: {bundles} bundles, {shown} mends shown, {accepted} of them accepted; refusals by number: " + ", ".join(f"{k}: {numbers[k]}" for k in sorted(numbers, key=int)))
 begun, ended = walks()
@@ -309,7 +320,7 @@ for path in sorted(glob.glob(f"{top}/examples/*.bundle") + glob.glob(f"{top}/cra
             pictures, bars = pictures + 1, bars + look(path, drawn)
 print(f"pictures: {pictures} well-formed, {bars} bars with words")
 print("trails: {} spoiled replies, at most {} lines each".format(*trails(300)))
-for it in faults:
-    print(it)
+for fault in faults:
+    print(fault)
 print(f"{len(faults)} faults")
 sys.exit(bool(faults))
