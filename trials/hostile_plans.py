@@ -23,18 +23,22 @@ Each prints one bundle of ring, plan and certificate. Limits: 131,072 steps, 262
 and 64 MiB.
 """
 import sys
+from collections.abc import Callable, Sequence
+
+# The lines of a ring, of a plan and of a certificate.
+Parts = tuple[list[str], list[str], list[str]]
 
 
-def ring(nodes, partitions, rows):
+def ring(nodes: Sequence[str], partitions: int, rows: Callable[[int], Sequence[str]]) -> list[str]:
     out = ["ring 1", "space %d" % partitions, "quorum 3 2 2"]
     out += ["node %s 64 in" % name for name in nodes]
     out += ["slots %d %s" % (p, " ".join(rows(p))) for p in range(partitions)]
     return out + ["end"]
 
 
-def to_and_fro(steps):
+def to_and_fro(steps: int) -> list[str]:
     """Slot 0 of partition 0 moves between a and d; each step waits for the one before it. Copies are steps 1, 5, 9 and so on."""
-    plan = []
+    plan: list[str] = []
     for move in range(steps // 4):
         old, new = ("a", "d") if move % 2 == 0 else ("d", "a")
         first = 4 * move
@@ -44,16 +48,16 @@ def to_and_fro(steps):
     return plan
 
 
-def path(copy):
+def path(copy: int) -> str:
     """From one copy of these moves to the next."""
     return "fact " + " ".join(str(s) for s in range(copy, copy + 5))
 
 
-def small():
+def small() -> list[str]:
     return ring("abcd", 1, lambda p: "abc")
 
 
-def moves(n):
+def moves(n: int) -> Parts:
     plan = to_and_fro(n)
     copies = range(1, len(plan), 4)
     cert = [path(c) for c in copies[:-1]]
@@ -61,7 +65,7 @@ def moves(n):
     return small(), plan, cert
 
 
-def facts(n):
+def facts(n: int) -> Parts:
     plan = to_and_fro(4000)
     cert = []
     for k in range(n):
@@ -71,7 +75,7 @@ def facts(n):
     return small(), plan, cert
 
 
-def chains(n):
+def chains(n: int) -> Parts:
     plan = to_and_fro(720)
     copies = range(1, len(plan), 4)
     row = " ".join(map(str, copies))
@@ -80,21 +84,21 @@ def chains(n):
     return small(), plan, cert
 
 
-def names(n):
+def names(n: int) -> Parts:
     nodes = ["n" * 28 + "%04d" % k for k in range(1024)]
     plan = ["drop %d 1 %s" % (k % 4096, nodes[(k * 37) % 1024]) for k in range(n)]
     return ring(nodes, 4096, lambda p: nodes[p % 1000:p % 1000 + 3]), plan, []
 
 
-def rows(n):
+def rows(n: int) -> Parts:
     plan = ["switch 0 0" for _ in range(4096)]
     plan += ["switch 0 0 after " + " ".join(map(str, range(4096))) for _ in range(n)]
     return small(), plan, []
 
 
-def retires(n):
+def retires(n: int) -> Parts:
     nodes = ["a", "b", "c", "d"]
-    plan = []
+    plan: list[str] = []
     for k in range((n - 1) // 4):
         p, first = k % 4096, 4 * k
         if k < 4096:
@@ -104,44 +108,44 @@ def retires(n):
     return ring(nodes, 4096, lambda p: "abc"), plan, []
 
 
-def fields(n):
+def fields(n: int) -> Parts:
     return small(), ["drop 0 0 n0000 " + " ".join("1" for _ in range(n - 4))], []
 
 
-def twice(n):
+def twice(n: int) -> Parts:
     return small(), ["drop 0 0 a after " + " ".join(map(str, [*range(n), n - 1]))], []
 
 
-def large(partitions):
+def large(partitions: int) -> list[str]:
     """A ring of 1,024 nodes with long names and seven slots a partition."""
     nodes = ["n" * 28 + "%04d" % k for k in range(1024)]
     out = ring(nodes, partitions, lambda p: nodes[p % 1000:p % 1000 + 7])
     return ["quorum 7 4 4" if line.startswith("quorum") else line for line in out]
 
 
-def repeats(n):
+def repeats(n: int) -> Parts:
     front = [line.replace("1023 64 in", "1023 64 out") for line in large(n)]
     join = "join " + "n" * 28 + "1023"
     return front, ["switch 0 0"] * min(n, 4000) + [join] + ["switch 0 0"] * max(0, n - 4000) + [join], []
 
 
-def swapped(n):
+def swapped(n: int) -> Parts:
     front = large(n)
     front[-3:-1] = front[-2], front[-3]
     return front, [], []
 
 
-def last(n):
+def last(n: int) -> Parts:
     front, plan, cert = moves(n)
     return front, plan, cert[:len(plan) // 4 - 2] + cert[-2:]
 
 
-def gaps(n):
+def gaps(n: int) -> Parts:
     front, plan, cert = last(n // 2)
     return front, plan, ["fact 0 1"] * n + cert
 
 
-def sources(n):
+def sources(n: int) -> Parts:
     plan = ["mirror 0 1 e", "copy 0 1 slots 0 2 after 0"]
     cert = ["fact 0 1"] * n
     for move in range(n // 8):
@@ -153,13 +157,13 @@ def sources(n):
     return ring("abcde", 1, lambda p: "abc"), plan, cert[:-1]
 
 
-def leaves(n):
+def leaves(n: int) -> Parts:
     return small(), to_and_fro(n - 1) + ["retire d"], []
 
 
 KINDS = {f.__name__: f for f in (moves, facts, chains, names, rows, retires, fields, twice, repeats, swapped, last, gaps, sources, leaves)}
 
-def bundle(name, number):
+def bundle(name: str, number: int) -> str:
     front, plan, cert = KINDS[name](number)
     return "\n".join(front + ["plan 1"] + plan + ["end", "cert 1"] + cert + ["end"]) + "\n"
 

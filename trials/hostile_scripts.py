@@ -24,20 +24,24 @@ Each prints one bundle of ring, plan, certificate and script. Limits: 1,000,000 
 """
 import hashlib
 import sys
+from collections.abc import Callable, Sequence
+
+# The lines of a ring, of a plan, of a certificate and of a script.
+Parts = tuple[list[str], list[str], list[str], list[str]]
 
 
-def ring(names, partitions, rows, quorum="3 2 2"):
+def ring(names: Sequence[str], partitions: int, rows: Callable[[int], Sequence[str]], quorum: str = "3 2 2") -> list[str]:
     out = ["ring 1", "space %d" % partitions, "quorum " + quorum]
     out += ["node %s 64 in" % name for name in names]
     out += ["slots %d %s" % (p, " ".join(rows(p))) for p in range(partitions)]
     return out + ["end"]
 
 
-def small():
+def small() -> list[str]:
     return ring("abcd", 1, lambda p: "abc")
 
 
-def in_conflict(m, value="x"):
+def in_conflict(m: int, value: str = "x") -> tuple[list[str], int, int]:
     """The script that leaves m/2 versions in conflict at slot 0, and how many puts and gets it has."""
     half = m // 2
     out = []
@@ -49,20 +53,20 @@ def in_conflict(m, value="x"):
     return out, m, 1
 
 
-def reads(m, g):
+def reads(m: int, g: int) -> Parts:
     out, _, gets = in_conflict(m)
     for n in range(gets, gets + g):
         out += ["get k", "read %d 0" % n]
     return small(), [], [], out
 
 
-def writes(m, n):
+def writes(m: int, n: int) -> Parts:
     out, puts, _ = in_conflict(m)
     half = m // 2
     return small(), [], [], out + ["write %d 0" % (half + k % half) for k in range(n)]
 
 
-def seen(m, n):
+def seen(m: int, n: int) -> Parts:
     out, _, gets = in_conflict(m)
     for g in range(gets, gets + 16):
         out += ["get k", "read %d 0" % g, "read %d 1" % g, "endget %d" % g]
@@ -70,7 +74,7 @@ def seen(m, n):
     return small(), [], [], out + ["put w0 k x seen " + row for _ in range(n)]
 
 
-def chained(m, n):
+def chained(m: int, n: int) -> Parts:
     out = []
     for k in range(n):
         knows = " seen %d" % (k - 1) if k else ""
@@ -78,7 +82,7 @@ def chained(m, n):
     return small(), [], [], out
 
 
-def joins(m, g):
+def joins(m: int, g: int) -> Parts:
     out = []
     for k in range(m):
         slot, knows = k // (m // 2), " seen %d" % (k - 1) if k % (m // 2) else ""
@@ -88,7 +92,7 @@ def joins(m, g):
     return small(), [], [], out
 
 
-def values(m, g):
+def values(m: int, g: int) -> Parts:
     out = []
     for n in range(m):
         out += ["put w%d k x%s" % (n, "ab" * 1024), "write %d 0" % n]
@@ -97,15 +101,16 @@ def values(m, g):
     return small(), [], [], out
 
 
-def wide(partitions):
+def wide(partitions: int) -> tuple[list[str], list[str]]:
     names = ["n%04d" % n for n in range(1024)]
     return names, ring(names, partitions, lambda p: [names[(7 * p + i) % 1024] for i in range(7)], "7 4 4")
 
 
-def hints(n):
+def hints(n: int) -> Parts:
     """One partition at a time cannot be chosen by a key without its digest, so there is one."""
     names, text = wide(1)
-    out, k = [], 0
+    out: list[str] = []
+    k = 0
     while len(out) < n:
         put = k
         out.append("put w0 key%d x" % k)
@@ -114,11 +119,12 @@ def hints(n):
     return text, [], [], out
 
 
-def scattered(n):
+def scattered(n: int) -> Parts:
     """A key of each partition in turn, kept by all nodes that own no slot of it, for each of its slots."""
     names, text = wide(256)
-    out, put, k = [], 0, 0
-    seen = set()
+    out: list[str] = []
+    put, k = 0, 0
+    seen: set[int] = set()
     while len(out) < n:
         partition = hashlib.md5(b"key%d" % k).digest()[0]
         k += 1
@@ -132,7 +138,7 @@ def scattered(n):
     return text, [], [], out
 
 
-def keepers(k, n):
+def keepers(k: int, n: int) -> Parts:
     names, text = wide(1)
     out = ["put w0 other x"] + ["hint 0 0 %s" % names[m] for m in range(7, 7 + k)]
     for g in range(n):
@@ -140,16 +146,16 @@ def keepers(k, n):
     return text, [], [], out
 
 
-def down(k, n):
+def down(k: int, n: int) -> Parts:
     names, text = wide(1)
     out = ["put w0 other x", "put w0 k x"] + ["hint 0 0 %s" % names[m] for m in range(7, 7 + k)]
     out += ["hint 1 0 %s" % names[6 + k], "down %s" % names[6 + k], "get k"]
     return text, [], [], out + ["read 0 0"] * n
 
 
-def moving(names, m, k, touch, drops):
+def moving(names: list[str], m: int, k: int, touch: list[str], drops: bool) -> tuple[list[str], list[str], list[str]]:
     """K keys of a slot that moves M times along the names, with what a move's `touch` adds between its mirror and its copies."""
-    plan, facts = [], []
+    plan: list[str] = []
     steps = 4 if drops else 3
     for move in range(m):
         old, new = names[move % len(names)], names[(move + 1) % len(names)]
@@ -159,7 +165,7 @@ def moving(names, m, k, touch, drops):
         plan += ["drop 0 0 %s after %d" % (old, first + 2)] * drops
     copies = range(1, len(plan), steps)
     cert = ["fact " + " ".join(map(str, range(c, c + steps + 1))) for c in list(copies)[:-1]]
-    chains = {}
+    chains: dict[str, list[int]] = {}
     for move, copy in enumerate(copies):
         for x in {names[move % len(names)], names[(move + 1) % len(names)]}:
             chains.setdefault(x, []).append(copy)
@@ -179,29 +185,29 @@ def moving(names, m, k, touch, drops):
     return plan, cert, out
 
 
-def of_each_chunk(t):
+def of_each_chunk(t: int) -> list[str]:
     """The first T keys of each chunk."""
-    found = [[] for _ in range(16)]
+    found: list[list[str]] = [[] for _ in range(16)]
     for n in range(100 * t + 1000):
         found[hashlib.md5(b"key%d" % n).digest()[0] >> 4].append("key%d" % n)
     return [key for keys in found for key in keys[:t]]
 
 
-def keys(m, k):
+def keys(m: int, k: int) -> Parts:
     return small(), *moving(["a", "d"], m, k, [], True)
 
 
-def touched(m, k):
+def touched(m: int, k: int) -> Parts:
     return small(), *moving(["a", "d"], m, k, of_each_chunk(1), True)
 
 
-def left(m, k, t):
+def left(m: int, k: int, t: int) -> Parts:
     names = ["n%04d" % n for n in range(1024)]
     text = ring(names, 1, lambda p: [names[0], names[1022], names[1023]])
     return text, *moving(names[:1000], m, k, of_each_chunk(t), False)
 
 
-def kept(k, m, n):
+def kept(k: int, m: int, n: int) -> Parts:
     """K nodes keep the same M/2 versions for a slot, which N gets read."""
     names, text = wide(1)
     half = m // 2
@@ -212,7 +218,7 @@ def kept(k, m, n):
     return text, [], [], out
 
 
-def long_clocks(m, n):
+def long_clocks(m: int, n: int) -> Parts:
     """The versions of `reads` are kept as hints, n of them."""
     names, text = wide(1)
     out, puts, _ = in_conflict(m)
@@ -223,7 +229,7 @@ def long_clocks(m, n):
     return text, [], [], out
 
 
-def long_keys(n):
+def long_keys(n: int) -> Parts:
     """N keys of 64 bytes, each with a put that two slots take."""
     out = []
     for k in range(n):
@@ -231,7 +237,7 @@ def long_keys(n):
     return small(), [], [], out
 
 
-def names(n):
+def names(n: int) -> Parts:
     """1,024 nodes whose names differ in their last bytes alone, named N times."""
     nodes = ["n" * 28 + "%04d" % k for k in range(1024)]
     out = ["up %s" % nodes[(37 * k) % 1024] for k in range(n)]
@@ -239,7 +245,7 @@ def names(n):
 
 
 
-def waits(n):
+def waits(n: int) -> Parts:
     """A chunk that is refused since one of 1,017 keepers is down, tried N times."""
     names, text = wide(1)
     text = text[:-2] + ["slots 0 " + " ".join(names[:7]), "end"]
@@ -249,19 +255,18 @@ def waits(n):
     return text, plan, cert, out + ["chunk 1 %d" % (k % 16) for k in range(n)]
 
 
-FAMILIES = {
-    family.__name__: family
-    for family in (reads, writes, seen, chained, joins, values, hints, scattered, keepers, down, keys, touched, left, kept, long_clocks, long_keys, names, waits)
-}
+ALL: tuple[Callable[..., Parts], ...] = (
+    reads, writes, seen, chained, joins, values, hints, scattered, keepers, down, keys, touched, left, kept, long_clocks, long_keys, names, waits)
+FAMILIES = {family.__name__: family for family in ALL}
 
 
-def bundle(name, *numbers):
+def bundle(name: str, *numbers: int) -> str:
     text, plan, cert, script = FAMILIES[name](*numbers)
     lines = text + ["plan 1"] + plan + ["end", "cert 1"] + cert + ["end", "script 1"] + script + ["end"]
     return "\n".join(lines) + "\n"
 
 
-def main():
+def main() -> None:
     family, numbers = FAMILIES.get(sys.argv[1] if len(sys.argv) > 1 else ""), sys.argv[2:]
     if not family or len(numbers) != family.__code__.co_argcount:
         sys.exit(__doc__)
