@@ -2,24 +2,30 @@
 """Tries what the program reads and writes, from outside: files that are named, standard input, output and error, and a terminal. It wants the program as it
 is built."""
 import bz2, gzip, json, lzma, os, pty, random, re, stat, subprocess, sys, tempfile
+from collections.abc import Callable, Mapping
+from typing import Any
 
 top = os.path.dirname(os.path.dirname(os.path.abspath(__file__)))
 RUN = f"{top}/crates/ringplan/out/ringplan"
 EXAMPLES = f"{top}/examples"
 MOST = 67_108_864
-faults = []
+faults: list[str] = []
 tried = 0
 
 
 # What standard error says of a goal whose nodes have no racks.
 NO_RACKS = b"ringplan: no racks are known. Name them in a layout (--layout), or give the byte before them (--racks-behind C)\n"
 
-def run(*words, given=b"", folder=None):
+# What a run prints on standard output and on standard error, and its status.
+Found = tuple[Any, Any, Any]
+
+
+def run(*words: str, given: bytes = b"", folder: str | None = None) -> tuple[bytes, bytes, int]:
     ran = subprocess.run([RUN, *words], input=given, stdout=subprocess.PIPE, stderr=subprocess.PIPE, timeout=60, cwd=folder)
     return ran.stdout, ran.stderr, ran.returncode
 
 
-def owes(what, found, output, errors, status):
+def owes(what: str, found: Found, output: object, errors: object, status: object) -> None:
     """Each of the three is a value that must be met, or a test of it."""
     global tried
     tried += 1
@@ -29,16 +35,16 @@ def owes(what, found, output, errors, status):
             return
 
 
-def contains(text):
+def contains(text: bytes) -> Callable[[bytes], bool]:
     return lambda found: text in found
 
 
-def read(name):
+def read(name: str) -> bytes:
     with open(f"{EXAMPLES}/{name}.bundle", "rb") as it:
         return it.read()
 
 
-def files(folder):
+def files(folder: str) -> None:
     good, plan = f"{EXAMPLES}/move_one_slot.bundle", f"{EXAMPLES}/plan_replace.bundle"
     text = read("move_one_slot")
     owes("a file", run("check", good), b"yes\n", b"", 0)
@@ -59,7 +65,7 @@ def files(folder):
     owes("a file that is only there", run("plan", plan), contains(b"plan 1\n"), b"", 0)
 
 
-def together(folder):
+def together(folder: str) -> None:
     """Several files are read as one text, in the order of the line; `-` is standard input."""
     text = read("plan_replace")
     whole = run("goal", given=text)[0]
@@ -90,7 +96,7 @@ def together(folder):
     owes("files that are too large together", run("check", half, half), b"no 2 0\n", b"", 2)
 
 
-def dead():
+def dead() -> None:
     """A member that is named dead leaves, whether or not the change says so."""
     said = read("plan_replace")
     unsaid = said.replace(b"leave b\n", b"")
@@ -103,7 +109,7 @@ def dead():
     owes("a dead member, twice", run("goal", "--dead", "b", "--dead", "b", given=unsaid), plan, contains(b"b is dead"), 0)
 
 
-def layouts(folder):
+def layouts(folder: str) -> None:
     """What a layout is refused for, and where."""
     given, plan = read("plan_replace"), f"{folder}/layout"
     ring = given.split(b"change 1\n")[0]
@@ -185,7 +191,7 @@ HABITS = (
 )
 
 
-def habits(folder):
+def habits(folder: str) -> None:
     """What is said of a layout's line that is written as a text may not be, and whether the mend that is shown makes a layout."""
     given, name = read("plan_replace"), f"{folder}/layout"
     whole = b"layout 1\nsize 1 5\nend\n"
@@ -210,7 +216,7 @@ def habits(folder):
         judge_layout(name, given, text, (number, said, part, is_mended))
 
 
-def judge_layout(name, given, text, due):
+def judge_layout(name: str, given: bytes, text: bytes, due: tuple[int, str, bytes, bool]) -> None:
     """The words about a layout that is refused, and the layout that its mend makes."""
     number, said, part, is_mended = due
     with open(name, "wb") as it:
@@ -224,18 +230,19 @@ def judge_layout(name, given, text, due):
         owes(f"a layout that is mended, from {text[:60]!r}", run("goal", "--layout", name, given=given), lambda it: it != b"", lambda it: it.startswith(NO_RACKS), 0)
 
 
-def mended_layout(text, told):
+def mended_layout(text: bytes, told: str) -> bytes:
     """The text with the mend that the words show."""
     if "all of them, by that command" in told:
         return text.replace(b"\r", b"")
-    lines, new = text.split(b"\n"), {}
+    lines = text.split(b"\n")
+    new: dict[int, list[bytes]] = {}
     for number, words in re.findall(r"^ *(\d+) \+ (.*)$", told, re.MULTILINE):
         new.setdefault(int(number), []).append(words.encode())
     ends = b"" if text.endswith(b"\n") else b"\n"
     return b"\n".join(b"\n".join(new.get(at, [line])) for at, line in enumerate(lines, 1)) + ends
 
 
-def strangers(folder):
+def strangers(folder: str) -> None:
     """Names that a ring lacks, racks that names lack, and too few nodes that live."""
     given, name = read("plan_replace"), f"{folder}/layout"
     ring = given.split(b"change 1\n")[0]
@@ -262,7 +269,7 @@ def strangers(folder):
         owes("too few nodes that live", run("goal", "--dead", "b", "--dead", "c", given=text), b"", lambda it: it.startswith(few) and it.count(b"\n") == 3, 1)
 
 
-def outputs(folder):
+def outputs(folder: str) -> None:
     plan = f"{EXAMPLES}/plan_replace.bundle"
     target = f"{folder}/out"
     whole = run("goal", plan)[0]
@@ -298,13 +305,13 @@ def outputs(folder):
         beside(room, plan, whole)
 
 
-def has(what, path, text):
+def has(what: str, path: str, text: bytes) -> None:
     """The file has that text."""
     with open(path, "rb") as it:
         owes(what, (it.read(), b"", 0), text, b"", 0)
 
 
-def beside(folder, plan, whole):
+def beside(folder: str, plan: str, whole: bytes) -> None:
     """What lies beside an output stays as it is, and so do the output's links and permissions."""
     target, victim = f"{folder}/out", f"{folder}/victim"
     with open(victim, "wb") as it:
@@ -344,12 +351,12 @@ def beside(folder, plan, whole):
     owes("what is left of 20 runs", (b"", b"", os.listdir(folder)), b"", b"", ["out"])
 
 
-def is_printed(found):
+def is_printed(found: bytes) -> bool:
     """Whether a terminal prints each byte as it is."""
     return all(byte == 10 or 32 <= byte < 127 for byte in found)
 
 
-def escapes():
+def escapes() -> None:
     """Bytes of the input or of a word that steer a terminal are nowhere printed."""
     ring = b"ring 1\nspace 1\nquorum 1 1 1\nnode c 3 in\nslots 0 c\n"
     steer = b"\x1b]0;owned\x07\x1b[2;31md\xc3\xa9\x9b"
@@ -367,7 +374,7 @@ def escapes():
         owes(f"the words {words!r}", (found[0] + found[1], b"", found[2]), lambda it: is_printed(it) and it != b"", b"", lambda it: it in (2, 3))
 
 
-def streams():
+def streams() -> None:
     refused = read("copy_out_of_order")
     for word in ("show", "draw", "steps", "after", "windows --rounds 2"):
         owes(f"{word} of a refused plan", run(*word.split(), given=refused), b"", lambda text: text.startswith(b"no 2"), 1)
@@ -406,7 +413,7 @@ def streams():
         faults.append("-h is no shorter than --help")
 
 
-def formats():
+def formats() -> None:
     """An answer as JSON says what its line says, by the names of docs/REFUSALS.md."""
     with open(f"{top}/docs/REFUSALS.md", encoding="utf-8") as it:
         rows = re.findall(r"^\| (\d+) \| (\w+) \| ([^|]+) \|", it.read(), re.MULTILINE)
@@ -434,7 +441,7 @@ def formats():
     owes("a form of plan", run("plan", "--format", "json"), b"", contains(b"unexpected argument"), 2)
 
 
-def parts(folder):
+def parts(folder: str) -> None:
     """Where a part is printed, and why none is."""
     given = f"{EXAMPLES}/replay_a_move.bundle"
     share, text = ["part", "--of", "4", "--part", "1"], read("replay_a_move")
@@ -451,16 +458,18 @@ def parts(folder):
     front = text[: text.index(b"history 1")]
     owes("a part of no history", run(*share, given=front), b"", b"no 1 %d\n" % (front.count(b"\n") + 1), 2)
     unnamed = contains(b"error: a part is named by")
-    for words in ([], ["--of", "4"], ["--part", "1"], ["--of", "4", "--part", "4"], ["--partitions", "2-1"], ["--partitions", "2"], ["--partitions", "-"], ["--partitions", "0-4294967296"],
-                  ["--of", "4", "--part", "1", "--partitions", "0-1"]):
-        owes(f"part {words}", run("part", *words), b"", unnamed, 2)
+    lines: tuple[list[str], ...] = (
+        [], ["--of", "4"], ["--part", "1"], ["--of", "4", "--part", "4"], ["--partitions", "2-1"], ["--partitions", "2"], ["--partitions", "-"], ["--partitions", "0-4294967296"],
+        ["--of", "4", "--part", "1", "--partitions", "0-1"])
+    for line in lines:
+        owes(f"part {line}", run("part", *line), b"", unnamed, 2)
     for option, numbers in (("--of <K>", ("0", "4097", "x")), ("--part <I>", ("4096", "x")), ("--map <N>", ("1000000", "x"))):
         for number in numbers:
             owes(f"part by {option} of {number}", run(*share, option.split()[0], number), b"", contains(f"'{option}'".encode()), 2)
     # Histories above what is judged at once: of one partition's entries, and of a greater file.
     downs = [b"down d = ok\n", b"up d = ok\n"] * 500_000
-    with open(f"{folder}/long", "wb") as it:
-        it.writelines([front, b"history 1\n", *downs, b"up a = ok\n", b"end\n"])
+    with open(f"{folder}/long", "wb") as long:
+        long.writelines([front, b"history 1\n", *downs, b"up a = ok\n", b"end\n"])
     size = len(front) + 14 + sum(map(len, downs)) + 10
     words = f"ringplan: the part has 1000001 entries and {size} bytes, and 1000000 and {MOST} are judged at once: "
     unless = ", unless one partition or what each part has, steps and outages, is too much"
@@ -472,15 +481,15 @@ def parts(folder):
     for named, last in (("3-4", 4), ("4-5", 5), ("7-4294967295", 4294967295)):
         owes(f"the partitions {named} of 4", run("part", "--partitions", named, given), contains(b"\nhistory 1\n"), f"ringplan: the ring has 4 partitions, and none of number {last}\n".encode(), 0)
     others = [b"get k%d = get %d\n" % (number % 1000, number) for number in range(3_500_000)]
-    with open(f"{folder}/long", "wb") as it:
-        it.writelines([front, b"history 1\n", *others, b"end\n"])
+    with open(f"{folder}/long", "wb") as long:
+        long.writelines([front, b"history 1\n", *others, b"end\n"])
     owes("a history above the limit of a file", (b"", b"", os.path.getsize(f"{folder}/long") > MOST), b"", b"", 1)
     found = run(*share, f"{folder}/long")
     owes("its part", found, contains(b"\nhistory 1\nget k"), b"", 0)
     owes("its part, judged", run("replay", given=found[0]), contains(b"yes\n"), b"", 0)
 
 
-def cases_of(word):
+def cases_of(word: str) -> list[str]:
     """The bundles of the cases of a command, as they stand in the words of tests_cases."""
     with open(f"{top}/crates/tests_cases/args") as it:
         words = it.read().split()
@@ -490,11 +499,11 @@ def cases_of(word):
     return [f"{top}/crates/tests_cases/data/{case}.bundle" for case in words[start:end]]
 
 
-def said_as_json(what, found, line):
+def said_as_json(what: str, found: bytes, line: bytes) -> dict[str, Any]:
     """The object that was printed, where it begins with what a check's object of that line has."""
     number, *values = [int(field) for field in line.split()[1:]] or [0]
     try:
-        stated = json.loads(found)
+        stated: dict[str, Any] = json.loads(found)
     except ValueError:
         faults.append(f"{what}: no object: {found[:80]!r}")
         return {}
@@ -505,13 +514,13 @@ def said_as_json(what, found, line):
     return stated
 
 
-def mended(text, mend):
+def mended(text: bytes, mend: Mapping[str, Any]) -> bytes:
     """A bundle in which lines have others in their place."""
     new = {change["line"]: change["text"] for change in mend["lines"]}
     return "".join(new.get(at + 1, line) for at, line in enumerate(text.decode(errors="surrogateescape").splitlines(keepends=True))).encode(errors="surrogateescape")
 
 
-def statements():
+def statements() -> None:
     """What `why`, `show` and `goal` state as JSON, beside their words."""
     for given in cases_of("why"):
         text, errors, status = run("why", given)
@@ -559,7 +568,7 @@ def statements():
         owes(f"{word} in no form", run(word, "--format", "xml"), b"", contains(b"not text or json"), 2)
 
 
-def at_terminal(*words, errors=subprocess.PIPE, **environment):
+def at_terminal(*words: str, errors: int | None = subprocess.PIPE, **environment: str) -> bytes:
     """What the words print on a terminal; with `errors=None` also what standard error has."""
     ours, theirs = pty.openpty()
     known = {key: value for key, value in os.environ.items() if key != "NO_COLOR"} | environment
@@ -576,7 +585,7 @@ def at_terminal(*words, errors=subprocess.PIPE, **environment):
     return found.replace(b"\r\n", b"\n")
 
 
-def colors():
+def colors() -> None:
     """Words in colours are the same words."""
     for word, name in (("why", "copy_out_of_order"), ("why", "move_one_slot"), ("show", "plan_replace"), ("show", "down64")):
         given = f"{top}/crates/tests_cases/data/{name}.bundle"
@@ -595,7 +604,7 @@ def colors():
     owes("colours of a check", run("check", "--color", "never"), b"", contains(b"unexpected argument"), 2)
 
 
-def unpacked(said, text, folder):
+def unpacked(said: bytes, text: bytes, folder: str) -> bytes:
     """What the command that is said makes of the text in the file that it calls FILE."""
     command = re.search(rb"`([^`]* > MENDED)`", said)
     if not command:
@@ -607,7 +616,7 @@ def unpacked(said, text, folder):
         return it.read()
 
 
-def kinds(folder):
+def kinds(folder: str) -> None:
     """Inputs of other kinds: what they are is said, and a command that makes a text of them does."""
     text = read("plan_replace")
     plain = text.decode()
@@ -621,9 +630,9 @@ def kinds(folder):
     ):
         for word in ("goal", "why"):
             output, errors, status = run(word, given=given)
-            owes(f"{word} of {what}", (output + errors, b"", status), lambda it: it.startswith(b"no 1 1\nrefused: the input is ") and what in it and b"mend:" not in it, b"", 2)
+            owes(f"{word} of {what!r}", (output + errors, b"", status), lambda it: it.startswith(b"no 1 1\nrefused: the input is ") and what in it and b"mend:" not in it, b"", 2)
             has_text = unpacked(output + errors, given, folder)
-            owes(f"what the command of {word} makes of {what}", (has_text, b"", 0), text, b"", 0)
+            owes(f"what the command of {word} makes of {what!r}", (has_text, b"", 0), text, b"", 0)
     for seed in range(20):
         given = random.Random(seed).randbytes(2000)
         owes(f"random bytes {seed}", run("goal", given=given), b"", lambda it: it.startswith(b"no 1 1\nrefused: the input is"), 2)
@@ -632,13 +641,13 @@ def kinds(folder):
         owes(f"a ring of format {number}", run("goal", given=later), b"", lambda it: b"format %d, and this program reads 1 to 3" % number in it and b"mend" not in it, 2)
 
 
-def faulty_lines(words, given):
+def faulty_lines(words: list[str], given: bytes) -> tuple[list[int], bytes]:
     """The lines at fault that are stated, and the text with the mend that is stated."""
     stated = json.loads(run(*words, "--format", "json", given=given)[0])
     return stated["lines"], mended(given, stated["mend"]) if "mend" in stated else given
 
 
-def first():
+def first() -> None:
     """What people type first, and what they get wrong in a ring."""
     text = read("plan_replace")
     ring = text[: text.index(b"change 1")]
@@ -683,19 +692,20 @@ def first():
     owes("times before all entries", run("show", given=front + b"history 1\n" + b"".join(b"17:05 " + it + b"\n" for it in entries[:-2]) + b"end\n"), b"", contains(b"an entry begins with its event"), 2)
 
 
-def advice():
+def advice() -> None:
     """At a terminal a refusal in one line has a second one, which names the command with words for it."""
     refused, good = f"{EXAMPLES}/copy_out_of_order.bundle", f"{EXAMPLES}/move_one_slot.bundle"
-    for words, environment in (("check", {}), ("check --workers 2", {}), ("check", {"NO_COLOR": "1"})):
-        shown = at_terminal(*words.split(), refused, errors=None, **environment)
-        owes(f"{words} at a terminal", (shown, b"", 0), lambda it: it.startswith(b"no 22 ") and it.count(b"`ringplan why FILE` says why") == 1, b"", 0)
+    plain: dict[str, str] = {}
+    for line, environment in (("check", plain), ("check --workers 2", plain), ("check", {"NO_COLOR": "1"})):
+        shown = at_terminal(*line.split(), refused, errors=None, **environment)
+        owes(f"{line} at a terminal", (shown, b"", 0), lambda it: it.startswith(b"no 22 ") and it.count(b"`ringplan why FILE` says why") == 1, b"", 0)
     owes("a replay without a history at a terminal", (at_terminal("replay", good, errors=None), b"", 0), contains(b"also wants a history"), b"", 0)
     for words in (["check", good], ["check", "--format", "json", refused], ["why", refused], ["goal", refused], ["check", "--ded"]):
         owes(f"{words} at a terminal", (at_terminal(*words, errors=None), b"", 0), lambda it: b"says why" not in it and it != b"", b"", 0)
     owes("a check elsewhere", run("check", refused), lambda it: it.startswith(b"no 22 "), b"", 1)
 
 
-def terminal():
+def terminal() -> None:
     """At a terminal with nothing to read the program says that it waits, and its first end of input is the last."""
     for words, name, owed in (("check", "move_one_slot", b"yes\n"), ("part --of 1 --part 0", "replay_a_move", read("replay_a_move"))):
         ours, theirs = pty.openpty()
