@@ -11,32 +11,46 @@ Windows: each of those plans that has no dead node is cut into windows of one ro
 Large rings: 4,096 partitions of 7 slots over 1,024 nodes, by a change with racks and weights, around a dead node, and as a goal, and the windows of these: seconds and MB are printed; 10 seconds and 300 MB
 are a fault."""
 import json, os, random, re, subprocess, sys, tempfile, time
+from typing import Any, TypedDict
 
 top = os.path.dirname(os.path.dirname(os.path.abspath(__file__)))
 RUN = f"{top}/crates/ringplan/out/ringplan"
 COUNT = int(sys.argv[1]) if len(sys.argv) > 1 else 200
 
 
-def ask(words, text):
+# The owners of each partition, and a plan's steps: the fields of each line, and the steps that it waits for.
+Rows = list[list[str]]
+Steps = list[tuple[list[str], list[int]]]
+
+
+class Ring(TypedDict):
+    """The names of a ring's nodes, what each bears, and N, R and W."""
+
+    names: list[str]
+    allow: list[tuple[int, ...]]
+    quorum: tuple[int, int, int]
+
+
+def ask(words: list[str], text: str) -> tuple[str, int]:
     ran = subprocess.run([RUN, *words], input=text.encode(), capture_output=True, timeout=300)
     # A refusal of a command for people stands on standard error.
     return (ran.stdout + (ran.stderr if ran.returncode else b"")).decode(), ran.returncode
 
 
-def ring_text(ring, members, rows):
+def ring_text(ring: Ring, members: list[str], rows: Rows) -> str:
     form = 2 if any(len(it) == 2 for it in ring["allow"]) else 1
     lines = [f"ring {form}", f"space {len(rows)}", "quorum %d %d %d" % ring["quorum"]]
     lines += ["node %s %s %s" % (name, " ".join(map(str, allow)), "in" if name in members else "out") for name, allow in zip(ring["names"], ring["allow"])]
     return "\n".join(lines + ["slots %d %s" % (p, " ".join(row)) for p, row in enumerate(rows)] + ["end"]) + "\n"
 
 
-def drawn(draw):
+def drawn(draw: random.Random) -> tuple[Ring, list[str], Rows, list[str], Rows, list[str]]:
     """A ring, its members and rows, those that are wished for, and the dead."""
     n, r, w = draw.choice([(1, 1, 1), (2, 1, 2), (2, 2, 1), (3, 2, 2), (3, 1, 3), (4, 2, 3), (5, 2, 4), (5, 3, 3), (7, 3, 5)])
     q, count = draw.choice([1, 2, 4, 8, 16]), draw.randrange(n + 1, n + 6)
     names = [f"n{k}" for k in range(count)]
     split = draw.random() < 0.3
-    allow = [(draw.randrange(1, 4), draw.randrange(1, 4)) if split and draw.random() < 0.6 else (draw.randrange(1, 5),) for _ in names]
+    allow: list[tuple[int, ...]] = [(draw.randrange(1, 4), draw.randrange(1, 4)) if split and draw.random() < 0.6 else (draw.randrange(1, 5),) for _ in names]
     before = draw.sample(names, draw.randrange(n, count + 1))
     after = draw.sample(names, draw.randrange(n, count + 1))
     dead = [x for x in before if draw.random() < 0.3][: draw.randrange(3)] if draw.random() < 0.5 else []
@@ -53,25 +67,25 @@ def drawn(draw):
     return {"names": names, "allow": allow, "quorum": (n, r, w)}, before, rows, after, wished, dead
 
 
-def script_of(plan):
+def script_of(plan: str) -> list[str]:
     """The events of a plan's steps, in their order."""
-    events = []
+    events: list[str] = []
     for number, (fields, _) in enumerate(parsed(plan.splitlines()[1:])):
         events += [f"open {number}", *[f"chunk {number} {c}" for c in range(16)], f"close {number}"] if fields[0] == "copy" else [f"do {number}"]
     return events
 
 
-def unread(ring, rows, wished, dead):
+def unread(ring: Ring, rows: Rows, wished: Rows, dead: list[str]) -> list[int]:
     """The partitions in which a dead node should lose a slot, and fewer owners live than a read asks."""
     few = [sum(x not in dead for x in row) < ring["quorum"][1] for row in rows]
     return [p for p, (row, new) in enumerate(zip(rows, wished)) if few[p] and any(x in dead and x not in new for x in row)]
 
 
-def gives_to_dead(rows, wished, dead):
+def gives_to_dead(rows: Rows, wished: Rows, dead: list[str]) -> bool:
     return any(x in dead and x not in row for row, new in zip(rows, wished) for x in new)
 
 
-def partly(draw, ring, before, rows, after, wished, dead, text):
+def partly(draw: random.Random, ring: Ring, before: list[str], rows: Rows, after: list[str], wished: Rows, dead: list[str], text: str) -> str:
     """What is wrong with the plan for the rest, if partitions cannot be read."""
     stays = unread(ring, rows, wished, dead)
     kept = [rows[p] if p in stays else new for p, new in enumerate(wished)]
@@ -90,8 +104,8 @@ def partly(draw, ring, before, rows, after, wished, dead, text):
     return why or play(draw, ring, rows, kept, dead, out)
 
 
-def parsed(plan):
-    steps = []
+def parsed(plan: list[str]) -> Steps:
+    steps: Steps = []
     for line in plan:
         fields = line.split()
         after = [int(x) for x in fields[fields.index("after") + 1 :]] if "after" in fields else []
@@ -100,20 +114,27 @@ def parsed(plan):
 
 
 # Of each plan its rounds by the fewest that allowances permit.
-wide = []
+wide: list[float] = []
 
 
-def judge(ring, before, rows, after, wished, dead, out):
+def judge(ring: Ring, before: list[str], rows: Rows, after: list[str], wished: Rows, dead: list[str], out: str) -> str:
     """What is wrong with a plan; '' where nothing is."""
     parts = out.split("end\n")
     if parts[0] + "end\n" != ring_text(ring, before, rows):
         return "another ring"
     steps = parsed(parts[1].splitlines()[1:])
-    owners, depth, used, moves = [list(row) for row in rows], [], {}, 0
-    mirrors = {}
+    owners, moves = [list(row) for row in rows], 0
+    depth: list[int] = []
+    used: dict[tuple[str, str], int] = {}
+    mirrors: dict[tuple[int, int], str] = {}
     allow = dict(zip(ring["names"], ring["allow"]))
-    group = lambda x, side: (x, "both") if len(allow[x]) == 1 else (x, side)
-    most = lambda g: allow[g[0]][0] if g[1] in ("both", "take") else allow[g[0]][1]
+
+    def group(x: str, side: str) -> tuple[str, str]:
+        return (x, "both") if len(allow[x]) == 1 else (x, side)
+
+    def most(g: tuple[str, str]) -> int:
+        return allow[g[0]][0] if g[1] in ("both", "take") else allow[g[0]][1]
+
     for fields, waits in steps:
         depth.append(max([depth[d] for d in waits], default=0) + (fields[0] == "copy"))
         if fields[0] in ("mirror", "drop", "retire") and fields[-1] in dead:
@@ -145,9 +166,12 @@ def judge(ring, before, rows, after, wished, dead, out):
     return ""
 
 
-def told_moves(rows, steps):
+def told_moves(rows: Rows, steps: Steps) -> str:
     """The lines of the moves, as the plan's text tells them."""
-    owners, mirrors, moves, own = [list(row) for row in rows], {}, [], {}
+    owners = [list(row) for row in rows]
+    mirrors: dict[tuple[int, int], str] = {}
+    moves: list[dict[str, Any]] = []
+    own: dict[tuple[int, int], int] = {}
     for number, (fields, _) in enumerate(steps):
         if fields[0] in ("join", "retire"):
             continue
@@ -165,16 +189,17 @@ def told_moves(rows, steps):
     return "".join(json.dumps(move, sort_keys=True, separators=(",", ":")) + "\n" for move in moves)
 
 
-def play(draw, ring, rows, wished, dead, out):
+def play(draw: random.Random, ring: Ring, rows: Rows, wished: Rows, dead: list[str], out: str) -> str:
     """Plays the plan with the dead nodes down, and compares what is read and who owns what."""
     n, r, w = ring["quorum"]
     steps = parsed(out.split("end\n")[1].splitlines()[1:])
     keys = [f"k{k}" for k in range(4)]
-    script = []
+    script: list[str] = []
     for number, key in enumerate(keys):
         script += [f"put w {key} x0{number}"] + [f"write {number} {i}" for i in range(n)] + [f"ack {number}"]
     script += [f"down {x}" for x in dead]
-    done, left = set(), list(range(len(steps)))
+    done: set[int] = set()
+    left = list(range(len(steps)))
     while left:
         step = draw.choice([s for s in left if all(d in done for d in steps[s][1])][:5])
         left.remove(step)
@@ -201,7 +226,7 @@ def play(draw, ring, rows, wished, dead, out):
     return ""
 
 
-def cut(text, wished):
+def cut(text: str, wished: Rows) -> str:
     """What is wrong with the windows of a plan."""
     out, status = ask(["windows", "--rounds", "1"], text)
     if status:
@@ -226,13 +251,14 @@ def cut(text, wished):
     return "" if [set(x) for x in last] == [set(x) for x in wished] else "other owners behind the windows"
 
 
-def timed(what, words, text):
+def timed(what: str, words: list[str], text: str) -> tuple[str, int]:
     """One command on a large ring: its output, with its seconds and its memory printed."""
     path = "/tmp/ringplan_goals_%d" % os.getpid()
     with open(path, "w") as it:
         it.write(text)
     with open(path) as it:
         child = subprocess.Popen([RUN, *words], stdin=it, stdout=subprocess.PIPE)
+        assert child.stdout
         out = child.stdout.read().decode()
         _, status, used = os.wait4(child.pid, 0)
     os.remove(path)
@@ -244,11 +270,11 @@ def timed(what, words, text):
     return out, 0
 
 
-def large():
+def large() -> int:
     """The largest ring, by each command."""
     draw = random.Random(7)
     names = [f"n{k:04}.r{k % 16}" for k in range(1024)]
-    ring = {"names": names, "allow": [(4,)] * 1024, "quorum": (7, 4, 4)}
+    ring: Ring = {"names": names, "allow": [(4,)] * 1024, "quorum": (7, 4, 4)}
     members = names[:924]
     rows = [[members[(p * 7 + i * 131 + p // 132) % 924] for i in range(7)] for p in range(4096)]
     first = ring_text(ring, members, rows)
@@ -270,7 +296,7 @@ def large():
     return faults + many_windows(first, rows[0][0], next(x for x in members if x not in rows[0]))
 
 
-def many_windows(ring, old, new):
+def many_windows(ring: str, old: str, new: str) -> int:
     """A slot of the largest ring that goes to and fro between two nodes, 500 times: windows of one round have more bytes than a bundle may, those of 50 have not."""
     steps = []
     for move in range(500):
