@@ -16,7 +16,9 @@ import re
 import subprocess
 import sys
 import tempfile
+from collections.abc import Callable, Iterator
 from concurrent.futures import ThreadPoolExecutor
+from functools import partial
 
 sys.path.insert(0, os.path.dirname(os.path.abspath(__file__)))
 sys.dont_write_bytecode = True
@@ -25,7 +27,11 @@ import hostile_scripts
 from measured import RUN, Measured
 
 
-def members(leave, partitions):
+# What makes a family's bundles, each twice as large as the one before.
+Makers = list[Callable[[], str]]
+
+
+def members(leave: int, partitions: int) -> str:
     """A ring of 1,024 nodes, 7 slots a partition, of whose nodes some leave and as many join."""
     names = ["n%04d" % n for n in range(1024)]
     stay = names[: 1024 - leave]
@@ -35,9 +41,10 @@ def members(leave, partitions):
     return "\n".join(lines) + "\n"
 
 
-def shifted(partitions):
+def shifted(partitions: int) -> str:
     """The ring of 1,024 nodes, and behind it the same ring with each slot at the next node."""
-    first, rows = members(0, partitions).split("change 1\n")[0], []
+    first = members(0, partitions).split("change 1\n")[0]
+    rows: list[str] = []
     for line in first.splitlines():
         fields = line.split()
         if fields[0] == "slots":
@@ -46,15 +53,24 @@ def shifted(partitions):
     return first + "\n".join(rows) + "\n"
 
 
-def around(dead, partitions):
-    """The ring of 1,024 nodes, of which every ninth leaves and is dead, so many in all, and as many join: the command's words, and the bundle."""
+def dead_names(dead: int) -> list[str]:
+    """Every ninth node of a ring, so many in all."""
+    return ["n%04d" % (9 * k) for k in range(dead)]
+
+
+def around_words(dead: int) -> list[str]:
+    """The command's words for a change around these dead nodes."""
+    return ["goal", *[it for x in dead_names(dead) for it in ("--dead", x)]]
+
+
+def around(dead: int, partitions: int) -> str:
+    """The ring of 1,024 nodes, of which every ninth leaves and is dead, so many in all, and as many join."""
     front = members(dead, partitions).split("change 1\n")[0]
-    names = ["n%04d" % (9 * k) for k in range(dead)]
-    change = ["change 1"] + ["join n%04d" % k for k in range(1024 - dead, 1024)] + ["leave " + x for x in names] + ["end"]
-    return ["goal", *[it for x in names for it in ("--dead", x)]], front + "\n".join(change) + "\n"
+    change = ["change 1"] + ["join n%04d" % k for k in range(1024 - dead, 1024)] + ["leave " + x for x in dead_names(dead)] + ["end"]
+    return front + "\n".join(change) + "\n"
 
 
-def joined(partitions):
+def joined(partitions: int) -> tuple[str, list[list[str]], list[list[int]]]:
     """The ring of 1,024 nodes, half of which join: of the plan its bundle, and its steps with what they wait for."""
     given = members(512, partitions).split("leave ", 1)[0] + "end\n"
     bundle = subprocess.run([RUN, "goal"], input=given.encode(), stdout=subprocess.PIPE, stderr=subprocess.DEVNULL).stdout.decode()
@@ -62,10 +78,11 @@ def joined(partitions):
     return bundle, [line.split() for line, _, _ in lines], [[int(x) for x in after.split()] for _, _, after in lines]
 
 
-def begun(partitions, entries=0):
+def begun(partitions: int, entries: int = 0) -> str:
     """The first half of a plan's steps is done. With puts between them, so many entries in all, mirrors are set too, and 500 copies are open, with half of their chunks."""
     bundle, steps, after = joined(partitions)
-    half, draw, events, puts, due = len(steps) // 2, random.Random(1), [], 0, 0.0
+    half, draw, puts, due = len(steps) // 2, random.Random(1), 0, 0.0
+    events: list[str] = []
     copies = sum(step[0] == "copy" for step in steps[:half])
     each = (entries - half - 17 * copies - 4500) // 6 / half if entries else 0
     for k, step in enumerate(steps[:half]):
@@ -83,7 +100,7 @@ def begun(partitions, entries=0):
     return history(bundle + "script 1\n" + "\n".join(events) + "\nend\n")
 
 
-def history(bundle):
+def history(bundle: str) -> str:
     """The bundle of a replay of what a play of this one answers."""
     front, _, script = bundle.rpartition("script 1\n")
     events = script.split("\n")[:-2]
@@ -93,12 +110,22 @@ def history(bundle):
     return front + "\n".join(["history 1", *entries, "end"]) + "\n"
 
 
-def plan_of(bundle):
+def plan_of(bundle: str) -> str:
     """The same ring with a plan for its change."""
     return bundle.split("change 1\n")[0] + subprocess.run([RUN, "plan"], input=bundle.encode(), stdout=subprocess.PIPE).stdout.decode()
 
 
-def clients(writers, lines):
+def planned(leave: int, partitions: int) -> str:
+    """A ring of 1,024 nodes with a plan by which some leave and as many join."""
+    return plan_of(members(leave, partitions))
+
+
+def replayed(make: Callable[[], str]) -> str:
+    """The bundle of a replay of what is played."""
+    return history(make())
+
+
+def clients(writers: int, lines: int) -> str:
     """Eight scripts of a drive with so many lines in all: puts of one key by so many writers, each of which knows a get."""
     out = hostile_scripts.small() + ["plan 1", "end", "cert 1", "end"]
     for client in range(8):
@@ -109,22 +136,22 @@ def clients(writers, lines):
     return "\n".join(out) + "\n"
 
 
-def plans(name, first, last):
-    return [lambda n=n: hostile_plans.bundle(name, n) for n in doubled(first, last)]
+def plans(name: str, first: int, last: int) -> Makers:
+    return [partial(hostile_plans.bundle, name, n) for n in doubled(first, last)]
 
 
-def scripts(name, first, last, *front, behind=()):
-    return [lambda n=n: hostile_scripts.bundle(name, *front, n, *behind) for n in doubled(first, last)]
+def scripts(name: str, first: int, last: int, *front: int, behind: tuple[int, ...] = ()) -> Makers:
+    return [partial(hostile_scripts.bundle, name, *front, n, *behind) for n in doubled(first, last)]
 
 
-def doubled(first, last):
+def doubled(first: int, last: int) -> list[int]:
     out = [first]
     while out[-1] * 2 <= last:
         out.append(out[-1] * 2)
     return out
 
 
-def refused():
+def refused() -> dict[str, Makers]:
     """Plans and rings that are refused, for reasons that cost much to find."""
     return {
         "fields": plans("fields", 131072, 4194304),
@@ -138,9 +165,9 @@ def refused():
     }
 
 
-def families():
+def families() -> Iterator[tuple[list[str], str, Makers]]:
     """The command's words, the family's name, and what makes its bundles, each twice as large as the one before."""
-    checks = {
+    checks: dict[str, Makers] = {
         "moves": plans("moves", 16384, 131072),
         "facts": plans("facts", 200, 6400),
         "chains": plans("chains", 800, 32768),
@@ -151,22 +178,22 @@ def families():
     for words in (["check"], ["check", "--workers", "4"], ["migrate"]):
         for name, made in checks.items():
             yield words, name, made
-    yield ["plan"], "a tenth of the nodes", [lambda q=q: members(102, q) for q in doubled(512, 4096)]
-    yield ["plan"], "half of the nodes", [lambda q=q: members(512, q) for q in doubled(512, 4096)]
+    yield ["plan"], "a tenth of the nodes", [partial(members, 102, q) for q in doubled(512, 4096)]
+    yield ["plan"], "half of the nodes", [partial(members, 512, q) for q in doubled(512, 4096)]
     for words in (["why"], ["show"], ["draw"], ["steps"], ["steps", "--moves"], ["cert"], ["after"], ["windows", "--rounds", "1"], ["windows", "--rounds", "64"]):
         for name, made in checks.items():
             yield [*words], name, made
     for name, made in refused().items():
         yield ["why"], name, made
-    windows = [lambda q=q: plan_of(members(102, q)) for q in doubled(512, 4096)]
+    windows: Makers = [partial(planned, 102, q) for q in doubled(512, 4096)]
     yield ["windows", "--rounds", "1"], "a tenth of the nodes", windows
-    yield ["goal"], "a tenth of the nodes", [lambda q=q: members(102, q) for q in doubled(512, 4096)]
-    yield ["goal"], "each slot to another node", [lambda q=q: shifted(q) for q in doubled(512, 4096)]
-    yield [*around(100, 512)[0]], "100 dead nodes", [lambda q=q: around(100, q)[1] for q in doubled(512, 4096)]
-    yield ["around", "--dead", "n0003"], "half done", [lambda q=q: begun(q) for q in doubled(1024, 4096)]
-    yield ["around", "--dead", "n0066"], "puts, half done", [lambda n=n: begun(4096, n) for n in (247500, 495000, 990000)]
-    plays = {
-        "reads, versions": [lambda m=m: hostile_scripts.bundle("reads", m, 500) for m in doubled(128, 1024)],
+    yield ["goal"], "a tenth of the nodes", [partial(members, 102, q) for q in doubled(512, 4096)]
+    yield ["goal"], "each slot to another node", [partial(shifted, q) for q in doubled(512, 4096)]
+    yield around_words(100), "100 dead nodes", [partial(around, 100, q) for q in doubled(512, 4096)]
+    yield ["around", "--dead", "n0003"], "half done", [partial(begun, q) for q in doubled(1024, 4096)]
+    yield ["around", "--dead", "n0066"], "puts, half done", [partial(begun, 4096, n) for n in (247500, 495000, 990000)]
+    plays: dict[str, Makers] = {
+        "reads, versions": [partial(hostile_scripts.bundle, "reads", m, 500) for m in doubled(128, 1024)],
         "reads, gets": scripts("reads", 500, 32000, 1024),
         "writes": scripts("writes", 62500, 500000, 1024),
         "seen": scripts("seen", 8000, 256000, 1024),
@@ -177,12 +204,12 @@ def families():
         "scattered": scripts("scattered", 62500, 500000),
         "keepers": scripts("keepers", 31250, 250000, 1000),
         "down": scripts("down", 62500, 500000, 1000),
-        "keys, moves and keys": [lambda m=m: hostile_scripts.bundle("keys", m, 20 * m) for m in doubled(125, 2000)],
-        "keys, moves": [lambda m=m: hostile_scripts.bundle("keys", m, 1000) for m in doubled(1000, 8000)],
-        "touched": [lambda m=m: hostile_scripts.bundle("touched", m, 10 * m) for m in doubled(500, 8000)],
+        "keys, moves and keys": [partial(hostile_scripts.bundle, "keys", m, 20 * m) for m in doubled(125, 2000)],
+        "keys, moves": [partial(hostile_scripts.bundle, "keys", m, 1000) for m in doubled(1000, 8000)],
+        "touched": [partial(hostile_scripts.bundle, "touched", m, 10 * m) for m in doubled(500, 8000)],
         "left": scripts("left", 25000, 400000, 999, behind=(1,)),
-        "kept, versions": [lambda m=m: hostile_scripts.bundle("kept", 100, m, 20) for m in doubled(128, 1024)],
-        "kept, gets": [lambda n=n: hostile_scripts.bundle("kept", 100, 256, n) for n in doubled(500, 4000)],
+        "kept, versions": [partial(hostile_scripts.bundle, "kept", 100, m, 20) for m in doubled(128, 1024)],
+        "kept, gets": [partial(hostile_scripts.bundle, "kept", 100, 256, n) for n in doubled(500, 4000)],
         "long_clocks": scripts("long_clocks", 62500, 500000, 1024),
         "long_keys": scripts("long_keys", 20000, 160000),
         "names": scripts("names", 31250, 1000000),
@@ -191,19 +218,18 @@ def families():
     for name, made in plays.items():
         yield ["play"], name, made
     for name, made in plays.items():
-        yield ["replay"], name, [lambda it=it: history(it()) for it in made]
-    yield ["drive"], "one writer a client", [lambda n=n: clients(8, n) for n in doubled(12500, 100000)]
-    yield ["drive"], "1,024 writers", [lambda n=n: clients(1024, n) for n in doubled(12500, 100000)]
+        yield ["replay"], name, [partial(replayed, make) for make in made]
+    yield ["drive"], "one writer a client", [partial(clients, 8, n) for n in doubled(12500, 100000)]
+    yield ["drive"], "1,024 writers", [partial(clients, 1024, n) for n in doubled(12500, 100000)]
 
 
-def least(words, bundle):
+def least(words: list[str], bundle: bytes) -> Measured:
     """The run that took the least time: of seven where one takes less than two seconds, since what else the machine does may double a short one."""
-    run = lambda: Measured(words, bundle)
-    made = run()
-    return min([made, *[run() for _ in range(6)]], key=lambda it: it.seconds) if made.seconds < 2 else made
+    made = Measured(words, bundle)
+    return min([made, *[Measured(words, bundle) for _ in range(6)]], key=lambda it: it.seconds) if made.seconds < 2 else made
 
 
-def counted(words, bundle):
+def counted(words: list[str], bundle: bytes) -> tuple[int, int]:
     """The size of the bundle, and the instructions of a run over it."""
     with tempfile.NamedTemporaryFile() as given:
         given.write(bundle)
@@ -211,19 +237,20 @@ def counted(words, bundle):
         run = [RUN, *words]
         with open(given.name, "rb") as text:
             made = subprocess.run(["valgrind", "--tool=callgrind", "--callgrind-out-file=/dev/null", *run], stdin=text, stdout=subprocess.DEVNULL, stderr=subprocess.PIPE)
-    return len(bundle), int(re.search(rb"refs: +([\d,]+)", made.stderr)[1].replace(b",", b""))
+    refs = re.findall(rb"refs: +([\d,]+)", made.stderr)
+    return len(bundle), int(refs[0].replace(b",", b""))
 
 
-def counts(wanted):
+def counts(wanted: list[str]) -> int:
     passed = 0
     with ThreadPoolExecutor(os.cpu_count()) as pool:
         for words, name, made in [it for it in families() if is_wanted(it[0], it[1], wanted)]:
             print("%s, %s" % (" ".join(words[:5]), name), flush=True)
             sizes = [it for it in (make().encode() for make in made) if len(it) <= 67108864]
             sizes = [it for it in sizes if len(it) >= min(1e6, len(sizes[-1]) / 4)]
-            before = None
+            before: int | None = None
             for size, count in pool.map(lambda it: counted(words, it), sizes):
-                over = before and count > 2.3 * before
+                over = before is not None and count > 2.3 * before
                 passed += bool(over)
                 print("  %6.2f MB: %8.1f million instructions, %s times%s" % (size / 1e6, count / 1e6, "%5.2f" % (count / before) if before else "    -", "  <-" if over else ""), flush=True)
                 before = count
@@ -231,11 +258,11 @@ def counts(wanted):
     return 1 if passed else 0
 
 
-def is_wanted(words, name, wanted):
+def is_wanted(words: list[str], name: str, wanted: list[str]) -> bool:
     return not wanted or bool({words[0], words[-1], name.split(",")[0]} & {*wanted})
 
 
-def main():
+def main() -> int:
     wanted, passed = [it for it in sys.argv[1:] if it != "--instructions"], 0
     if len(wanted) < len(sys.argv) - 1:
         return counts(wanted)
@@ -243,13 +270,13 @@ def main():
         if not is_wanted(words, name, wanted):
             continue
         print("%s, %s" % (" ".join(words[:5]), name), flush=True)
-        before = None
+        before: tuple[float, int] | None = None
         for make in made:
             bundle = make().encode()
             if len(bundle) > 67108864:
                 break
-            made = least(words, bundle)
-            out, status, seconds, memory = made.size, made.status, made.seconds, made.memory
+            ran = least(words, bundle)
+            out, status, seconds, memory = ran.size, ran.status, ran.seconds, ran.memory
             size, both = len(bundle) / 1e6, (len(bundle) + out) / 1e6
             over = []
             if before and size >= 1 and seconds >= 0.1 and seconds > 2.3 * before[0] and out < 2.3 * before[1]:

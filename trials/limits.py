@@ -8,6 +8,7 @@ import os
 import resource
 import subprocess
 import sys
+from collections.abc import Iterator, Sequence
 
 sys.path.insert(0, os.path.dirname(os.path.abspath(__file__)))
 sys.dont_write_bytecode = True
@@ -19,17 +20,21 @@ NOTHING = ["plan 1", "end", "cert 1", "end"]
 SMALL = ["ring 1", "space 1", "quorum 3 2 2", "node a 64 in", "node b 64 in", "node c 64 in", "node d 64 in", "slots 0 a b c", "end"]
 
 
-def text(lines):
+# A run: the words, the bundle, and how the output begins, or what it is.
+Run = tuple[list[str], bytes, str]
+
+
+def text(lines: list[str]) -> bytes:
     return "".join(line + "\n" for line in lines).encode()
 
 
-def ring_of(nodes, slots, quorum="3 2 2", form="ring 1", allowance="64"):
+def ring_of(nodes: Sequence[str], slots: Sequence[Sequence[str]], quorum: str = "3 2 2", form: str = "ring 1", allowance: str = "64") -> list[str]:
     """A ring of these nodes, all of them members, and of these rows of owners."""
     out = [form, "space %d" % len(slots), "quorum " + quorum] + ["node %s %s in" % (name, allowance) for name in nodes]
     return out + ["slots %d %s" % (p, " ".join(row)) for p, row in enumerate(slots)] + ["end"]
 
 
-def to_and_fro(steps, after=()):
+def to_and_fro(steps: int, after: Sequence[Sequence[int]] = ()) -> list[str]:
     """The lines of so many steps in which slot 0 of partition 0 moves between a and d. Each waits for the one before it, and for those in `after`."""
     lines = []
     for n in range(steps):
@@ -40,22 +45,22 @@ def to_and_fro(steps, after=()):
     return lines
 
 
-def cert_of(steps, facts=None):
+def cert_of(steps: int, facts: list[str] | None = None) -> list[str]:
     """The certificate of that plan: each copy comes before the next by a fact, and a and d have one chain each."""
     copies = list(range(1, steps, 4))
     facts = ["fact " + " ".join(map(str, range(c, c + 5))) for c in copies[:-1]] if facts is None else facts
     return ["cert 1"] + facts + ["chain %s %s" % (x, " ".join(map(str, copies))) for x in "ad" if copies] + ["end"]
 
 
-def plan_of(steps, after=()):
+def plan_of(steps: int, after: Sequence[Sequence[int]] = ()) -> list[str]:
     return ["plan 1"] + to_and_fro(steps, after) + ["end"]
 
 
-def script_of(events):
+def script_of(events: list[str]) -> list[str]:
     return ["script 1"] + events + ["end"]
 
 
-def spread(total, most, steps):
+def spread(total: int, most: int, steps: int) -> list[range]:
     """For each step the steps that it waits for: so many in all, at most so many a step, each step at least for the one before it."""
     counts = [min(n, 1) for n in range(steps)]
     left = total - sum(counts)
@@ -67,7 +72,7 @@ def spread(total, most, steps):
     return [range(n - counts[n], n) for n in range(steps)]
 
 
-def of_bytes(size):
+def of_bytes(size: int) -> bytes:
     """A check's bundle of exactly so many bytes: facts about 4,000 steps, and short ones to fill it up."""
     front = SMALL + plan_of(4000)
     must = cert_of(4000)
@@ -91,7 +96,7 @@ def of_bytes(size):
     return made
 
 
-def chains(count):
+def chains(count: int) -> list[str]:
     """A ring of 1,024 nodes and 512 partitions of one slot, each of which moves, and so many chains: at each node 64, and the rest at the last."""
     nodes = ["n%d" % n for n in range(1024)]
     lines = ring_of(nodes, [[nodes[p]] for p in range(512)], "1 1 1") + ["plan 1"]
@@ -102,12 +107,12 @@ def chains(count):
     return lines + ["chain %s %d" % it for it in at[:count]] + ["end"]
 
 
-def history_of(count):
+def history_of(count: int) -> list[str]:
     """A history of so many entries, in which d goes down and comes up."""
     return ["history 1"] + ["%s d = ok" % ("down", "up")[n % 2] for n in range(count)] + ["end"]
 
 
-def downs(count):
+def downs(count: int) -> list[str]:
     return ["%s d" % ("down", "up")[n % 2] for n in range(count)]
 
 
@@ -115,15 +120,15 @@ CHECK, PLAY, REPLAY, DRIVE = ["check"], ["play"], ["replay"], ["drive"]
 BUNDLE = 67108864
 
 
-def limits():
+def limits() -> Iterator[tuple[str, Run, Run]]:
     """For each limit what it is, and then two runs: the words, the bundle, and how the output of the first begins or what the second's is."""
     abc = list("abc")
 
-    def at_line(lines, start):
+    def at_line(lines: list[str], start: str) -> int:
         """The number of the last line that begins so."""
         return max(n + 1 for n, line in enumerate(lines) if line.startswith(start))
 
-    def both(name, words, good, bad, number, start, answer="yes"):
+    def both(name: str, words: list[str], good: list[str], bad: list[str], number: int, start: str, answer: str = "yes") -> tuple[str, Run, Run]:
         return name, (words, text(good), answer), (words, text(bad), "no %d %d" % (number, at_line(bad, start)))
 
     four = ring_of("abcd", [abc] * 4096)
@@ -146,7 +151,7 @@ def limits():
                ring_of([*"ab", name + "n"], [["a", "b", name + "n"]]) + NOTHING, 1, "node")
     most = 131072
     yield both("steps of a plan, 131,072", CHECK, SMALL + plan_of(most) + cert_of(most), SMALL + plan_of(most + 1) + cert_of(most), 2, "mirror")
-    deep = [()] * 4100
+    deep: list[Sequence[int]] = [()] * 4100
     deep[4099] = range(3, 4099)
     deeper = [*deep[:4099], range(2, 4099)]
     yield both("dependencies of a step, 4,096", CHECK, SMALL + plan_of(4100, deep) + cert_of(4100), SMALL + plan_of(4100, deeper) + cert_of(4100), 2, "drop")
@@ -155,15 +160,21 @@ def limits():
     past = SMALL + plan_of(8192, over)
     yield ("dependencies of a plan, 524,288", (CHECK, text(SMALL + plan_of(8192, full) + cert_of(8192)), "yes"),
            (CHECK, text(past + cert_of(8192)), "no 2 %d" % (len(past) - 1)))
-    copy_of = lambda indexes: ["plan 1", "mirror 0 0 h", "copy 0 0 slots %s after 0" % indexes, "switch 0 0 after 1", "end", "cert 1"] + [
-        "chain %s 1" % x for x in "abcdefgh"] + ["end"]
+
+    def copy_of(indexes: str) -> list[str]:
+        plan = ["plan 1", "mirror 0 0 h", "copy 0 0 slots %s after 0" % indexes, "switch 0 0 after 1", "end"]
+        return plan + ["cert 1"] + ["chain %s 1" % x for x in "abcdefgh"] + ["end"]
+
     rows = ring_of("abcdefgh", seven, "7 4 4")
     yield both("slots that a copy reads, 7", CHECK, rows + copy_of("0 1 2 3 4 5 6"), rows + copy_of("0 1 2 3 4 5 6 0"), 2, "copy")
     pairs = ["fact %d %d" % (n % 3999, n % 3999 + 1) for n in range(262145)]
     must = cert_of(4000)[1:-3]
     yield both("order facts, 262,144", CHECK, SMALL + plan_of(4000) + cert_of(4000, must + pairs[: 262144 - len(must)]),
                SMALL + plan_of(4000) + cert_of(4000, must + pairs[: 262145 - len(must)]), 2, "fact")
-    path = lambda length: "fact " + " ".join(map(str, range(length)))
+
+    def path(length: int) -> str:
+        return "fact " + " ".join(map(str, range(length)))
+
     yield both("steps of a fact, 1,024", CHECK, SMALL + plan_of(4000) + cert_of(4000, [*must, path(1024)]),
                SMALL + plan_of(4000) + cert_of(4000, [*must, path(1025)]), 2, "fact")
     yield both("chains of a certificate, 65,536", CHECK, chains(65536), chains(65537), 2, "chain")
@@ -178,7 +189,10 @@ def limits():
     yield both("bytes of a key, 64", PLAY, play + script_of(["get " + "k" * 64]), play + script_of(["get " + "k" * 65]), 1, "get")
     yield both("bytes of a value, 1,024", PLAY, play + script_of(["put w k x" + "ab" * 1024]), play + script_of(["put w k x" + "ab" * 1025]), 1, "put")
     gets = [line for n in range(17) for line in ["get k", "read %d 0" % n, "read %d 1" % n, "endget %d" % n]]
-    seen = lambda count: ["put w k x seen " + " ".join(map(str, range(count)))]
+
+    def seen(count: int) -> list[str]:
+        return ["put w k x seen " + " ".join(map(str, range(count)))]
+
     yield both("gets that a put names, 16", PLAY, play + script_of(gets + seen(16)), play + script_of(gets + seen(17)), 2, "put")
     yield both("the number of a get behind seen, 4,294,967,295", PLAY, play + script_of(["put w k x seen 4294967295"]),
                play + script_of(["put w k x seen 4294967296"]), 2, "put", "yes\n0 no 47\n")
@@ -201,7 +215,7 @@ def limits():
 MEMBERS = [line.replace("d 4 out", "d 4 in") for line in RING]
 
 
-def told(words, bundle, starts, fault):
+def told(words: list[str], bundle: bytes, starts: str, fault: bool) -> bool:
     made = Measured(words, bundle)
     said, status = made.front.decode(errors="replace"), made.status
     if starts.startswith("error"):
@@ -218,28 +232,35 @@ def told(words, bundle, starts, fault):
 STACK = 98_304
 
 
-def on_a_small_stack():
+def on_a_small_stack() -> Iterator[tuple[str, bool]]:
     """For each subcommand whether it answers on that stack as it does on a large one."""
-    example = lambda name: open(f"{TOP}/examples/{name}.bundle", "rb").read()
+
+    def example(name: str) -> bytes:
+        with open(f"{TOP}/examples/{name}.bundle", "rb") as it:
+            return it.read()
+
+    def asked(words: list[str], bundle: bytes, size: int) -> subprocess.CompletedProcess[bytes]:
+        bare: dict[str, str] = {}
+        return subprocess.run([RUN, *words], input=bundle, capture_output=True, env=bare, timeout=60, preexec_fn=lambda: resource.setrlimit(resource.RLIMIT_STACK, (size, size)))
+
     change, move, begun, run = example("plan_replace"), example("move_one_slot"), example("replay_a_move"), example("drive_a_move_by_three")
     for words, bundle in ([(["--version"], b""), (["--help"], b""), (["man"], b""), (["completions", "bash"], b""), (["check", "--workers"], b"")]
                           + [(words.split(), change) for words in ("goal", "goal --dead b", "goal --format json", "plan", "show --all", "draw", "why")]
                           + [(words.split(), move) for words in ("check", "check --workers 4", "check --format json", "show --format json", "draw", "steps", "steps --moves", "windows --rounds 1", "cert", "why", "migrate")]
                           + [(words.split(), begun) for words in ("replay", "part --of 2 --part 0", "after", "around --dead b --back", "why --format json")]
                           + [(["drive", "--workers", "1"], run)]):
-        asked = lambda size: subprocess.run([RUN, *words], input=bundle, capture_output=True, env={}, timeout=60, preexec_fn=lambda: resource.setrlimit(resource.RLIMIT_STACK, (size, size)))
-        small, large = asked(STACK), asked(1 << 23)
+        small, large = asked(words, bundle, STACK), asked(words, bundle, 1 << 23)
         # Two drives of one bundle are alike in their first line only.
         told = [(it.returncode, it.stdout[:4] if "drive" in words else it.stdout, it.stderr) for it in (small, large)]
         yield " ".join(words), told[0] == told[1]
 
 
-def main():
+def main() -> int:
     failed = tried = 0
-    for words, well in on_a_small_stack():
+    for line, well in on_a_small_stack():
         tried, failed = tried + 1, failed + (not well)
         if not well:
-            print("FAILED: %s on a stack of %d bytes" % (words, STACK), flush=True)
+            print("FAILED: %s on a stack of %d bytes" % (line, STACK), flush=True)
     for name, (words, good, yes), (other, bad, no) in limits():
         well = told(words, good, yes, False) and told(other, bad, no, True)
         print("%-52s %s: %-18r past it: %r" % (name, words[0], yes.split("\n")[-2 if "\n" in yes else -1], no) if well else "%s FAILED" % name, flush=True)
