@@ -14,12 +14,19 @@ import subprocess
 import sys
 import tempfile
 import time
+from collections.abc import Iterator
 
 HERE = os.path.dirname(os.path.abspath(__file__))
 CRATES = os.path.join(os.path.dirname(HERE), "crates")
 RUN = os.path.join(CRATES, "ringplan", "out", "ringplan")
 STORES = os.path.join(CRATES, "tests_growths", "out", "tests_growths")
 CASES = os.path.join(CRATES, "tests_cases")
+# An exit status, and what is on standard output.
+Ended = tuple[int, bytes]
+# A name, the program with its words, its input, what is owed if memory is refused, and whether only the first line counts.
+Case = tuple[str, list[str], str, list[Ended], bool]
+# How many runs of a kind ended, with the same output or with another one.
+Counts = collections.Counter[tuple[str, bool]]
 
 # Of a word in the cases' list, the words of the command line.
 COMMANDS = {
@@ -51,7 +58,7 @@ WISHED = [("goal_around_a_dead_node", "goal --dead b"), ("goal_around_a_dead_nod
 SOUGHT = ["no_certificate", "more_chains_than_allowance"]
 
 
-def people():
+def people() -> Iterator[Case]:
     """Runs of the commands for people."""
     for name in MADE + REFUSED:
         for words in ("why", "show --all", "draw", "steps", "cert", "after") if name in MADE else ("why", "cert") if name in SOUGHT else ("why",):
@@ -62,7 +69,7 @@ def people():
         yield "%s %s" % (name, words), [RUN, *words.split()], given, NOTHING, False
 
 
-def cases():
+def cases() -> Iterator[Case]:
     """The runs: a name, the program with its words, its input, what is owed where memory is refused, and whether the first line alone counts."""
     yield "stores", [STORES], os.path.join(CRATES, "tests_growths", "stdin"), [(1, b"")], False
     with open(os.path.join(CASES, "args")) as file:
@@ -78,20 +85,20 @@ def cases():
     yield from people()
 
 
-def run(words, given, first, preload, **environment):
+def run(words: list[str], given: str, first: bool, preload: str, **environment: str) -> Ended:
     with open(given, "rb") as bundle:
         made = subprocess.run(words, stdin=bundle, stdout=subprocess.PIPE, stderr=subprocess.DEVNULL, env={"LD_PRELOAD": preload, **environment})
     return made.returncode, made.stdout[: made.stdout.find(b"\n") + 1] if first else made.stdout
 
 
-def refuse_each(case, preload, scratch):
+def refuse_each(case: Case, preload: str, scratch: str) -> tuple[str, int, Counts, int, str | None]:
     """Returns the case's name, its growths, how they ended, its starts of threads, and what went wrong, if anything."""
     name, words, given, owed, first = case
-    count = os.path.join(scratch, name.replace("/", " "))
-    whole = run(words, given, first, preload, COUNTED=count)
-    with open(count) as file:
+    counted = os.path.join(scratch, name.replace("/", " "))
+    whole = run(words, given, first, preload, COUNTED=counted)
+    with open(counted) as file:
         growths, starts = map(int, file.read().split())
-    ended = collections.Counter()
+    ended: Counts = collections.Counter()
     for what, setting, count in (("growth", "REFUSED", growths), ("start", "REFUSED_START", starts)):
         for number in range(1, count + 1):
             found = run(words, given, first, preload, **{setting: str(number)})
@@ -101,19 +108,23 @@ def refuse_each(case, preload, scratch):
     return name, growths, ended, starts, None
 
 
-def told(ended):
+def told(ended: Counts) -> str:
     """How the growths and the starts that were refused ended."""
-    count = lambda what: ended[what, True] + ended[what, False]
+
+    def count(what: str) -> int:
+        return ended[what, True] + ended[what, False]
+
     return "%d growths refused, %d with the same output, %d with the refusal; %d starts of threads, %d and %d" % (
         count("growth"), ended["growth", True], ended["growth", False], count("start"), ended["start", True], ended["start", False])
 
 
-def main():
+def main() -> int:
     compiler = shutil.which("cc")
     if not compiler:
         print("growths.py: there is no C compiler cc, so no growth of memory is refused")
         return 0
-    began, runs, failed, sums = time.monotonic(), 0, 0, collections.Counter()
+    began, runs, failed = time.monotonic(), 0, 0
+    sums: Counts = collections.Counter()
     with tempfile.TemporaryDirectory() as scratch:
         preload = os.path.join(scratch, "refuse.so")
         subprocess.run([compiler, "-shared", "-fPIC", "-O1", "-o", preload, os.path.join(HERE, "refuse.c"), "-ldl"], check=True)
