@@ -229,12 +229,9 @@ class Story:
         return True
 
     def choose_again(self, words: list[str], text: str, bundle: str, answer: str) -> None:
-        """By the plan that was printed, and is chosen now, the history goes on in the same way, if it goes on: of a few plans by hand it does not. By the old plan too, or there is no
-        such history."""
+        """By the plan that was printed, and is chosen now, the history goes on in the same way. By the old plan too, or there is no such history."""
         out, said, status = ask(words, text + bundle)
-        if status == 1 and self.use.by_hand:
-            self.ends["plans by hand that were printed and cannot be chosen"] += 1
-        elif status or out != answer:
+        if status or out != answer:
             raise Wrong("not the history by the chosen plan: " + said)
         out, said, status = ask(words, text + self.bundle)
         if status == 0 and "".join(sections(out)[:3]) != self.bundle or status not in (0, 1):
