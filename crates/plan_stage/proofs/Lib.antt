@@ -18,4 +18,5 @@ pub mod Holders
 pub mod Looking
 pub mod Enough
 pub mod Partitions
+pub mod Noted
 pub mod Alike

@@ -4,5 +4,6 @@ pub mod Occupancy
 pub mod Parties
 pub mod Each
 pub mod Partition
+pub mod Missed
 pub mod Holdings
 pub mod Looking

@@ -51,8 +51,8 @@ fn check_in(alloc: Global, context: &Context, partition: u32) -> Result<(), Refu
     check_steps(alloc, context, partition)
 }
 
-// Tests whether the steps of each slot act in order.
-fn check_slots(alloc: Global, context: &Context, partition: u32) -> Result<(), Refusal>
+/// Tests whether the steps of each slot act in order.
+pub(crate) fn check_slots(alloc: Global, context: &Context, partition: u32) -> Result<(), Refusal>
     requires partition { partition < context.now.ring.now.q }
     ensures { Gives result (below (λ i. slot_clauses context.now.ring.now context.now.plan.now (order context.now)
         (record { partition = partition; index = i })) context.now.ring.now.n) }

@@ -1,0 +1,167 @@
+//! Which clauses of a partition's steps may fail: a walk that goes on after the first that does.
+
+ghost use Rattle.std.specs.Prelude.{◌≡◌, ℕ, ◌<◌, IfOk, IfErr, OnOk, Some, true, false, length, nat_lt};
+ghost use Rattle.std.specs.List.{list_all};
+ghost use Rattle.ring_names.specs.Lists.{has};
+ghost use Rattle.ring_names.specs.declared.refusal.Refusal.{Refusal as TheRefusal};
+ghost use Rattle.ring_names.specs.declared.refusal.Refusal.TheVariants.{OutOfMemory};
+ghost use Rattle.plan_order.specs.Order.{order};
+ghost use Rattle.plan_text.specs.declared.step.Step.{Step as TheStep};
+ghost use Rattle.plan_stage.specs.Clauses.{IsStagedIn};
+ghost use Rattle.plan_stage.specs.Each.{step_at};
+ghost use Rattle.plan_stage.specs.Missed.{misses, IsNoted, StaysNoted, HoldBut, HoldsBut};
+ghost use Rattle.plan_stage.specs.Partition.{step_clauses};
+ghost use Rattle.plan_stage.specs.Looking.Held.{AreHeld};
+ghost use Rattle.plan_stage.specs.Looking.Looked.{clauses_at};
+
+use crate::check::check_slots;
+use crate::clauses::check_step;
+use crate::concerned::concerned;
+use crate::holding::Holdings;
+use plan_order::Context;
+use ring_names::Refusal;
+use std::alloc::Global;
+
+/// The kinds of clauses that may fail at some step.
+#[derive(Clone, Copy, Debug)]
+pub struct Missed {
+    /// A copy reads too few slots, or one twice.
+    pub sources: bool,
+    /// A source moves while it is read.
+    pub settled: bool,
+    /// A mirrored node still serves another slot of the partition.
+    pub left: bool,
+    /// A mirrored node has not joined.
+    pub joined: bool,
+    /// A node retires before it has dropped what it held.
+    pub dropped: bool,
+}
+
+impl Missed {
+    /// No clause fails.
+    pub fn none() -> Missed
+        ensures { (r : TheRefusal) → misses result r ≡ false }
+    {
+        Missed {
+            sources: false,
+            settled: false,
+            left: false,
+            joined: false,
+            dropped: false,
+        }
+    }
+
+    // Notes a refusal. The step's clause after the one that failed was not tested, so it is noted too.
+    fn note(&mut self, refusal: &Refusal)
+        ensures noted { IsNoted self.new refusal.now }
+        ensures stays { StaysNoted self.old self.new }
+    {
+        match refusal {
+            Refusal::MovingSource(_) => self.settled = true,
+            Refusal::NotJoined(_) => self.joined = true,
+            Refusal::RetiredInUse(_) => self.dropped = true,
+            Refusal::BadSource(_) => {
+                self.sources = true;
+                self.settled = true;
+            }
+            Refusal::SharedInPlan(_) => {
+                self.left = true;
+                self.joined = true;
+            }
+            _ => {}
+        }
+    }
+}
+
+// Notes which clauses of one step may fail.
+fn note_step(
+    context: &Context,
+    holdings: &Holdings,
+    partition: u32,
+    number: u32,
+    missed: &mut Missed,
+) -> Result<(), Refusal>
+    requires number { number < length context.now.plan.now }
+    requires held { AreHeld context.now.ring.now context.now.plan.now partition holdings.now }
+    ensures holds { OnOk result (HoldBut missed.new (clauses_at (step_clauses context.now.ring.now
+        context.now.plan.now (order context.now) partition) context.now.plan.now number)) }
+    ensures stays { StaysNoted missed.old missed.new }
+    ensures memory { IfErr result (λ e. e ≡ OutOfMemory) }
+{
+    match check_step(context, holdings, partition, number) {
+        Ok(()) => Ok(()),
+        Err(refusal) => match refusal {
+            Refusal::OutOfMemory => Err(refusal),
+            _ => {
+                missed.note(&refusal);
+                Ok(())
+            }
+        },
+    }
+}
+
+// Notes which clauses of the steps of these numbers may fail.
+fn note_numbers(
+    context: &Context,
+    holdings: &Holdings,
+    partition: u32,
+    numbers: &[u32],
+    missed: &mut Missed,
+) -> Result<(), Refusal>
+    requires within { list_all (λ n. nat_lt n (length context.now.plan.now)) numbers.now ≡ true }
+    requires held { AreHeld context.now.ring.now context.now.plan.now partition holdings.now }
+    ensures holds { OnOk result ((n : ℕ) → has n numbers.now ≡ true → HoldBut missed.new (clauses_at
+        (step_clauses context.now.ring.now context.now.plan.now (order context.now) partition) context.now.plan.now n)) }
+    ensures stays { StaysNoted missed.old missed.new }
+    ensures memory { IfErr result (λ e. e ≡ OutOfMemory) }
+{
+    let mut rest = numbers;
+    'numbers: while let Some((number, later)) = rest.split_first() {
+        note_step(context, holdings, partition, *number, missed)?;
+        rest = later;
+    }
+    Ok(())
+}
+
+// Notes which clauses of the partition's steps may fail, once the steps of its slots act in order.
+fn note_steps(
+    alloc: Global,
+    context: &Context,
+    partition: u32,
+    missed: &mut Missed,
+) -> Result<(), Refusal>
+    requires partition { partition < context.now.ring.now.q }
+    requires staged { IsStagedIn context.now.ring.now context.now.plan.now partition }
+    ensures holds { OnOk result ((n : ℕ) (s : TheStep) → step_at context.now.plan.now n ≡ Some s → HoldBut missed.new
+        (step_clauses context.now.ring.now context.now.plan.now (order context.now) partition n s)) }
+    ensures stays { StaysNoted missed.old missed.new }
+    ensures memory { IfErr result (λ e. e ≡ OutOfMemory) }
+{
+    let holdings = Holdings::of(alloc, context.ring, context.plan, partition)?;
+    let numbers = concerned(alloc, context.ring, context.plan, partition)?;
+    note_numbers(context, &holdings, partition, numbers.as_slice(), missed)
+}
+
+/// Notes which kinds of clauses may fail at the partition's steps, if the steps of each of its slots act in order; whether they do. Costs what
+/// `check_partition` costs where no clause fails.
+pub fn note_partition(
+    alloc: Global,
+    context: &Context,
+    partition: u32,
+    missed: &mut Missed,
+) -> Result<bool, Refusal>
+    requires { partition < context.now.ring.now.q }
+    ensures holds { IfOk result (λ b. b ≡ true →
+        HoldsBut missed.new context.now.ring.now context.now.plan.now (order context.now) partition) }
+    ensures stays { StaysNoted missed.old missed.new }
+    ensures memory { IfErr result (λ e. e ≡ OutOfMemory) }
+{
+    match check_slots(alloc, context, partition) {
+        Ok(()) => {
+            note_steps(alloc, context, partition, missed)?;
+            Ok(true)
+        }
+        Err(Refusal::OutOfMemory) => Err(Refusal::OutOfMemory),
+        Err(_) => Ok(false),
+    }
+}
