@@ -24,7 +24,7 @@ use Rattle.plan_check.specs.Firm.{IsGiven, IsMirrored, chunk_of_put, IsFirm, Hol
 use Rattle.plan_runs.specs.Reached.{Reached}
 use Rattle.plan_runs.proofs.Filling.{with_mirror_more, with_mirror_new, at_mirror}
 use Rattle.plan_runs.proofs.Lasting.{Extends, names_ended, succeeds_stays, succeeds_same_key}
-use Rattle.plan_check.proofs.Mirrored.{Known}
+use Rattle.plan_check.proofs.Mirrored.{Holds}
 use Rattle.plan_check.proofs.Partakers.{copy_is}
 use Rattle.plan_check.proofs.Quiet.{tickets_keep, more_slots}
 use Rattle.plan_check.proofs.Quorums.{meet}
@@ -51,7 +51,7 @@ listed_any p test (i ∷ from) j h e = elim (or_cases (j == i) (has j from) h) [
 ]
 
 -- chunk c of the open copy n of a slot, to the slot's mirror
-module _ (ring : RingValue) (plan : List Planned) (k : Known ring plan) (w : World) (n c : ℕ) (slot : Slot) (from : Source) (r : Reached ring plan w)
+module _ (ring : RingValue) (plan : List Planned) (k : Holds ring plan) (w : World) (n c : ℕ) (slot : Slot) (from : Source) (r : Reached ring plan w)
     (h : Holding ring plan w) (at : copy_at plan n ≡ Some (slot, from)) where
   -- the world after that
   abbrev pub after_chunk : World
@@ -108,14 +108,14 @@ module _ (ring : RingValue) (plan : List Planned) (k : Known ring plan) (w : Wor
       → (a : ℕ) × Succeeds w a v × (a < length w.puts) × (source_has ring plan w slot (Slots list) a ≡ true)
   found_listed v i list e is acked =
       let on : step_at plan n ≡ Some (Copy slot (Slots list)) = copy_is (step_at plan n) slot (Slots list) (at ∙ ap (λ (z : Source). Some (slot, z)) e) in
-      let sources = k.meets.sources n slot list on in
+      let sources = k.sources n slot list on in
       let enough : ring.r ≤ length list = sources.1 in
-      let suits = suits-at ring plan k.meets.suits.steps n (Copy slot (Slots list)) on in
+      let suits = suits-at ring plan k.known.in_turn.suits.steps n (Copy slot (Slots list)) on in
       let inside : list_all (λ j. nat_lt j ring.n) list ≡ true = (and_parts (is_ring_slot ring slot) (list_all (λ j. nat_lt j ring.n) list) suits).1 in
       let f = h.acked v acked in
       let many : ring.w ≤ length f.0 + w.losses = f.2 in
       let spent = r.spent in
-      let more = quorum_more ring.n ring.r ring.w ring.loss k.is_ring.quorum in
+      let more = quorum_more ring.n ring.r ring.w ring.loss k.known.is_ring.quorum in
       let m = meet ring.n list f.0 sources.0 f.1.different inside f.1.within (omega arith) in
       let held : IsHeld ring plan w v (put_slot ring w v m.0) = (f.1.firm m.0 m.2).0 in
       let there : put_slot ring w v m.0 ≡ sibling slot m.0 = ap (λ (z : Slot). sibling z m.0) is in

@@ -24,7 +24,7 @@ use Rattle.plan_check.proofs.Chunks.{chunk_keeps}
 use Rattle.plan_runs.proofs.Copying.{still_passes}
 use Rattle.plan_check.proofs.Entering.{with_done}
 use Rattle.plan_runs.proofs.Lasting.{Extends, event_extends}
-use Rattle.plan_check.proofs.Mirrored.{Known}
+use Rattle.plan_check.proofs.Mirrored.{Known, Holds}
 use Rattle.plan_runs.proofs.Passed.{AllMet, ready}
 use Rattle.plan_check.proofs.Partakers.{copy_is}
 use Rattle.plan_check.proofs.Putting.{start_put_keeps, write_keeps, hint_keeps, ack_keeps}
@@ -103,7 +103,7 @@ with_chunk ring plan w n c o = record w {
 }
 
 -- a chunk of a copy
-copied_keeps : (ring : RingValue) (plan : List Planned) → Known ring plan → (w : World) (n c : ℕ) (o : Option (Slot × Source)) → copy_at plan n ≡ o
+copied_keeps : (ring : RingValue) (plan : List Planned) → Holds ring plan → (w : World) (n c : ℕ) (o : Option (Slot × Source)) → copy_at plan n ≡ o
     → is_some o ≡ true → Reached ring plan w → Holding ring plan w
     → Extends w (with_chunk ring plan w n c o) → KeepsFirm ring plan w (with_chunk ring plan w n c o)
 copied_keeps ring plan k w n c None at one r h x = absurd cc
@@ -112,15 +112,15 @@ copied_keeps ring plan k w n c (Some d) at one r h x = chunk_keeps ring plan k w
 -- ---- one event
 
 -- each event but a loss keeps what is held
-pub event_keeps : (ring : RingValue) (plan : List Planned) → Known ring plan → (w : World) → Reached ring plan w → Holding ring plan w → (e : Event)
+pub event_keeps : (ring : RingValue) (plan : List Planned) → Holds ring plan → (w : World) → Reached ring plan w → Holding ring plan w → (e : Event)
     → loses e ≡ false → AllMet (guards ring plan w e) → KeepsFirm ring plan w (effect ring plan w e)
 unfolding guards effect
 event_keeps ring plan k w r h (Do n) kept g =
-    do_keeps ring plan k w n (step_at plan n) refl r h (event_extends ring plan w (Do n) g) (ready plan w n g.1.1.0) (not-true (w.done n) g.1.0)
+    do_keeps ring plan k.known w n (step_at plan n) refl r h (event_extends ring plan w (Do n) g) (ready plan w n g.1.1.0) (not-true (w.done n) g.1.0)
 event_keeps ring plan k w r h (ChunkCopy n c) kept g =
     copied_keeps ring plan k w n c (copy_at plan n) refl (and_parts (has_copy plan n) (nat_lt c 16) g.0).0 r h (event_extends ring plan w (ChunkCopy n c) g)
 event_keeps ring plan k w r h (CloseCopy n) kept g =
-    close_keeps ring plan k w n (copy_at plan n) refl g.0 r h g.1.0 (event_extends ring plan w (CloseCopy n) g)
+    close_keeps ring plan k.known w n (copy_at plan n) refl g.0 r h g.1.0 (event_extends ring plan w (CloseCopy n) g)
 event_keeps ring plan k w r h (StartPut writer key value seen) kept g =
     start_put_keeps ring plan w (record { writer = writer.0; key = key; value = value; seen = seen; ticket = λ j. None; acked = false }) (λ i. refl) refl r h
     (event_extends ring plan w (StartPut writer key value seen) g)
@@ -129,7 +129,7 @@ event_keeps ring plan k w r h (Write v j) kept g =
     (event_extends ring plan w (Write v j) g)
 event_keeps ring plan k w r h (Hint v j x) kept g =
     hint_keeps ring plan w v j x (ltb-true v (length w.puts) (and_parts (nat_lt v (length w.puts)) (nat_lt j ring.n) g.0).0)
-    (member_within ring plan w x.0 k.meets.suits g.1.0) r h (event_extends ring plan w (Hint v j x) g)
+    (member_within ring plan w x.0 k.known.in_turn.suits g.1.0) r h (event_extends ring plan w (Hint v j x) g)
 event_keeps ring plan k w r h (Ack v) kept g =
     ack_keeps ring plan w v (ltb-true v (length w.puts) g.0) (leb-true ring.w (current_tickets ring plan w v) g.1.1.0) r h
     (event_extends ring plan w (Ack v) g)

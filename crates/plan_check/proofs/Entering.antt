@@ -14,6 +14,8 @@ use Rattle.plan_runs.specs.Effects.{with_number, with_puts}
 use Rattle.plan_stage.specs.Each.{step_at, sibling}
 use Rattle.plan_runs.proofs.Groups.{Served, Keeps, InGroup, served_is, moved}
 use Rattle.plan_runs.proofs.Passing.{some_is}
+use Rattle.plan_order.specs.Before.{Before}
+use Rattle.plan_check.specs.Sound.{HaveLeft}
 use Rattle.plan_check.proofs.Mirrored.{Known, rises, down, mirrored_alone}
 use Rattle.plan_runs.proofs.Copying.{closed_with}
 use Rattle.plan_runs.proofs.Storing.{with_puts_is}
@@ -22,11 +24,6 @@ use Rattle.plan_runs.specs.Reached.{Ready, Reached}
 -- two slots of a partition share no node
 abbrev pub Apart : RingValue → List Planned → World → Type 0
 Apart ring plan w = (p i j x : ℕ) → p < ring.q → i < ring.n → j < ring.n → i ≢ j → InGroup ring plan w (record { partition = p; index = i }) x → InGroup ring plan w (record { partition = p; index = j }) x → ⊥
-
--- what is known of a world of a run
-pub record Inv (ring : RingValue) (plan : List Planned) (w : World) : Type 0 where
-  pub reached : Reached ring plan w
-  pub apart : Apart ring plan w
 
 -- ---- groups that shrink, and one that grows
 
@@ -72,10 +69,10 @@ served_serves ring plan w p j x l h =
 abbrev pub with_done : World → ℕ → (ℕ → Bool) → (ℕ → Bool) → (ℕ → Slot → ℕ → Bool) → World
 with_done w n o a b = record w { done = with_number w.done n; is_open = o; up = a; stored = b }
 
-entered : (ring : RingValue) (plan : List Planned) → Known ring plan → (w : World) (n : ℕ) (o a : ℕ → Bool) (b : ℕ → Slot → ℕ → Bool) → Inv ring plan w → Ready plan w.done n
+entered : (ring : RingValue) (plan : List Planned) → Known ring plan → (w : World) (n : ℕ) (o a : ℕ → Bool) (b : ℕ → Slot → ℕ → Bool) → Reached ring plan w → Ready plan w.done n
     → (t : Slot) (x : ℕ) → InGroup ring plan (with_done w n o a b) t x → InGroup ring plan w t x ⊎ (step_at plan n ≡ Some (Mirror t (record { 0 = x })))
-entered ring plan k w n o a b i y t x g = elim g [
-  | inl s ↦ elim (moved ring plan t w.done n x (rises ring plan k t) (down ring plan k w.done i.reached.closed t) (down ring plan k (with_number w.done n) (closed_with plan w.done n i.reached.closed y) t) s) [
+entered ring plan k w n o a b r y t x g = elim g [
+  | inl s ↦ elim (moved ring plan t w.done n x (rises ring plan k t) (down ring plan k w.done r.closed t) (down ring plan k (with_number w.done n) (closed_with plan w.done n r.closed y) t) s) [
     | inl f ↦ inl (inl f)
     | inr f ↦ inr f
   ]
@@ -86,15 +83,15 @@ entered ring plan k w n o a b i y t x g = elim g [
 abbrev pub MayMirror : RingValue → List Planned → World → ℕ → Type 0
 MayMirror ring plan w n = (s : Slot) (x : NodeId) → step_at plan n ≡ Some (Mirror s x) → (w.done n ≡ false) × (keeps_other ring w x.0 s ≡ false)
 
-pub done_apart : (ring : RingValue) (plan : List Planned) → Known ring plan → (w : World) (n : ℕ) (o a : ℕ → Bool) (b : ℕ → Slot → ℕ → Bool) → Inv ring plan w → Ready plan w.done n → MayMirror ring plan w n → Apart ring plan (with_done w n o a b)
-done_apart ring plan k w n o a b i y may = by (step_at plan n) refl
+pub done_apart : (ring : RingValue) (plan : List Planned) → Known ring plan → HaveLeft ring plan (Before plan) → (w : World) (n : ℕ) (o a : ℕ → Bool) (b : ℕ → Slot → ℕ → Bool) → Reached ring plan w → Apart ring plan w → Ready plan w.done n → MayMirror ring plan w n → Apart ring plan (with_done w n o a b)
+done_apart ring plan k left w n o a b r i y may = by (step_at plan n) refl
   where
     same_groups : ((t : Slot) (x : NodeId) → step_at plan n ≡ Some (Mirror t x) → ⊥) → Apart ring plan (with_done w n o a b)
-    same_groups never = shrinks ring plan w (with_done w n o a b) i.apart (λ t x g. elim (entered ring plan k w n o a b i y t x g) [ inl f ↦ f | inr f ↦ absurd (never t (record { 0 = x }) f) ])
+    same_groups never = shrinks ring plan w (with_done w n o a b) i (λ t x g. elim (entered ring plan k w n o a b r y t x g) [ inl f ↦ f | inr f ↦ absurd (never t (record { 0 = x }) f) ])
 
     alone : (s : Slot) (x : NodeId) → step_at plan n ≡ Some (Mirror s x) → (j : ℕ) → s.partition < ring.q → j < ring.n → j ≢ s.index → InGroup ring plan w (sibling s j) x.0 → ⊥
     alone s x at j p l ne g = elim g [
-      | inl h ↦ mirrored_alone ring plan k w.done n j s x i.reached.closed y (may s x at).0 at p l ne (elim h [
+      | inl h ↦ mirrored_alone ring plan k left w.done n j s x r.closed y (may s x at).0 at p l ne (elim h [
         | inl e ↦ inl (ap (λ (z : ℕ). record { 0 = z }) e)
         | inr e ↦ inr e
       ])
@@ -104,8 +101,8 @@ done_apart ring plan k w n o a b i y may = by (step_at plan n) refl
     by : (m : Option Step) → step_at plan n ≡ m → Apart ring plan (with_done w n o a b)
     by None e = same_groups (λ t x f. absurd cc)
     by (Some (Join z)) e = same_groups (λ t x f. absurd cc)
-    by (Some (Mirror s z)) e = grows ring plan w (with_done w n o a b) s z.0 i.apart
-        (λ t x g. elim (entered ring plan k w n o a b i y t x g) [
+    by (Some (Mirror s z)) e = grows ring plan w (with_done w n o a b) s z.0 i
+        (λ t x g. elim (entered ring plan k w n o a b r y t x g) [
           | inl f ↦ inl f
           | inr f ↦ inr (let h : record { 0 = x } ≡ z = cc in ap (λ (m : NodeId). m.0) h, (let h : t ≡ s = cc in h))
         ])
@@ -118,22 +115,22 @@ done_apart ring plan k w n o a b i y may = by (step_at plan n) refl
 -- ---- hints
 
 -- hints go, puts come, and stores are lost
-pub less_apart : (ring : RingValue) (plan : List Planned) (w : World) (ps : List PutRecord) (b f : ℕ → Slot → ℕ → Bool) (l : ℕ) (m : Slot → ℕ) → Inv ring plan w → ((x : ℕ) (s : Slot) (v : ℕ) → f x s v ≡ true → w.hinted x s v ≡ true)
+pub less_apart : (ring : RingValue) (plan : List Planned) (w : World) (ps : List PutRecord) (b f : ℕ → Slot → ℕ → Bool) (l : ℕ) (m : Slot → ℕ) → Reached ring plan w → Apart ring plan w → ((x : ℕ) (s : Slot) (v : ℕ) → f x s v ≡ true → w.hinted x s v ≡ true)
     → Apart ring plan (record w { puts = ps; stored = b; hinted = f; losses = l; lost = m })
-less_apart ring plan w ps b f l m i fewer = shrinks ring plan w (record w { puts = ps; stored = b; hinted = f; losses = l; lost = m }) i.apart (λ t x g. elim g [
+less_apart ring plan w ps b f l m r i fewer = shrinks ring plan w (record w { puts = ps; stored = b; hinted = f; losses = l; lost = m }) i (λ t x g. elim g [
   | inl h ↦ inl h
-  | inr h ↦ inr (h.0, (i.reached.hinted x t h.0 (fewer x t h.0 h.2)).0, fewer x t h.0 h.2)
+  | inr h ↦ inr (h.0, (r.hinted x t h.0 (fewer x t h.0 h.2)).0, fewer x t h.0 h.2)
 ])
 
-pub hint_apart : (ring : RingValue) (plan : List Planned) (w : World) (v : ℕ) (s : Slot) (x : NodeId) (ps : List PutRecord) → Inv ring plan w → serves_in ring plan w s.partition x.0 ≡ false → keeps_other ring w x.0 s ≡ false
+pub hint_apart : (ring : RingValue) (plan : List Planned) (w : World) (v : ℕ) (s : Slot) (x : NodeId) (ps : List PutRecord) → Reached ring plan w → Apart ring plan w → serves_in ring plan w s.partition x.0 ≡ false → keeps_other ring w x.0 s ≡ false
     → Apart ring plan (record w { hinted = with_puts w.hinted x s (λ u. u == v); puts = ps })
-hint_apart ring plan w v s x ps i out alone =
-    grows ring plan w (record w { hinted = with_puts w.hinted x s (λ u. u == v); puts = ps }) s x.0 i.apart
+hint_apart ring plan w v s x ps r i out alone =
+    grows ring plan w (record w { hinted = with_puts w.hinted x s (λ u. u == v); puts = ps }) s x.0 i
     (λ t y g. elim g [
       | inl h ↦ inl (inl h)
       | inr h ↦ elim (with_puts_is w.hinted x s (λ u. u == v) y t h.0 h.2) [
         | inl f ↦ inr (f.0, f.1)
-        | inr f ↦ inl (inr (h.0, (i.reached.hinted y t h.0 f).0, f))
+        | inr f ↦ inl (inr (h.0, (r.hinted y t h.0 f).0, f))
       ]
     ])
     (λ j p m ne g. elim g [

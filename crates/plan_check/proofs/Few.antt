@@ -2,6 +2,7 @@
 use Rattle.std.proofs.Common.{◌≡◌, ◌≢◌, ◌⊎◌, inl, inr, ◌∙◌, ℕ, ◌≤◌, Bool, true, false, cond, List, [], ◌∷◌, length, refl, sym, ap, subst, arith, eqb-true, eq-eqb}
 use Rattle.std.specs.Prelude.{◌&&◌, ◌==◌, Some, None}
 use Rattle.ring_names.specs.Lists.{has, all_different}
+use Rattle.ring_table.specs.declared.allowance.Side.{Side}
 use Rattle.ring_table.specs.Value.{RingValue}
 use Rattle.std.proofs.lemmas.Bool.{and_parts, or_right, or_cases}
 use Rattle.plan_text.specs.declared.step.Planned.{Planned}
@@ -10,7 +11,7 @@ use Rattle.plan_order.proofs.Reaching.{join}
 use Rattle.plan_runs.specs.World.{World, passing_below, copy_at}
 use Rattle.plan_check.specs.Safe.{takes_part_now, TransfersAreFew}
 use Rattle.plan_cover.specs.Clauses.{in_some}
-use Rattle.plan_check.specs.Sound.{IsChain, AreChains, Covers, is_party_of}
+use Rattle.plan_check.specs.Sound.{IsChain, AreChains, AreCovered, AreSettled, Covers, is_party_of}
 use Rattle.plan_runs.specs.Runs.{Always}
 use Rattle.plan_check.proofs.Quorums.{without, kept-in, different-without, one-taken, by_equal}
 use Rattle.plan_runs.proofs.Passing.{below_is, none_twice, passing_ascend}
@@ -98,14 +99,14 @@ no_more plan test apart (c ∷ cs) xs are d t h = elim (in_chain c xs) [
 -- ---- the law
 
 -- in a world that is reached, wherever the run began
-pub transfers_are_few : (ring : RingValue) (plan : List Planned) → Known ring plan → (w : World) → Reached ring plan w → TransfersAreFew ring plan w
-transfers_are_few ring plan k w r x side a al =
-    let rest = no_more plan test apart (k.chains x side) (passing_below (length plan) test) covers.linked (none_twice (passing_below (length plan) test) (passing_ascend 0 (length plan) test)) (λ n e. (below_is (length plan) test n e).1) (λ n e. covered n (below_is (length plan) test n e).1) in
+pub transfers_are_few : (ring : RingValue) (plan : List Planned) → Known ring plan → AreSettled plan (Before plan) → (chains : ℕ → Side → List (List ℕ)) → AreCovered ring plan (Before plan) chains → (w : World) → Reached ring plan w → TransfersAreFew ring plan w
+transfers_are_few ring plan k settled chains are_covered w r x side a al =
+    let rest = no_more plan test apart (chains x side) (passing_below (length plan) test) covers.linked (none_twice (passing_below (length plan) test) (passing_ascend 0 (length plan) test)) (λ n e. (below_is (length plan) test n e).1) (λ n e. covered n (below_is (length plan) test n e).1) in
     let few = covers.few in
     omega arith
   where
-    covers : Covers (Before plan) a (is_party_of ring plan x side) (k.chains x side)
-    covers = k.meets.covers x side a al
+    covers : Covers (Before plan) a (is_party_of ring plan x side) (chains x side)
+    covers = are_covered x side a al
 
     part : ℕ → Bool
     part n = elim (copy_at plan n) [ Some c ↦ takes_part_now ring plan w x side c.0 c.1 | None ↦ false ]
@@ -123,8 +124,8 @@ transfers_are_few ring plan k w r x side a al =
         let off = r.copies.unfinished n (open_one n e) in
         absurd cc
 
-    covered : (n : ℕ) → test n ≡ true → in_some n (k.chains x side) ≡ true
-    covered n e = covers.covered n (party ring plan k w n x side r.closed (r.copies.ready n (open_one n e)) (r.copies.unfinished n (open_one n e)) (and_parts (w.is_open n) (part n) e).1)
+    covered : (n : ℕ) → test n ≡ true → in_some n (chains x side) ≡ true
+    covered n e = covers.covered n (party ring plan k settled w n x side r.closed (r.copies.ready n (open_one n e)) (r.copies.unfinished n (open_one n e)) (and_parts (w.is_open n) (part n) e).1)
 
-pub few_always : (ring : RingValue) (plan : List Planned) → Known ring plan → Always ring plan (TransfersAreFew ring plan)
-few_always ring plan k run w is = transfers_are_few ring plan k w (reached ring plan run w is)
+pub few_always : (ring : RingValue) (plan : List Planned) → Known ring plan → AreSettled plan (Before plan) → (chains : ℕ → Side → List (List ℕ)) → AreCovered ring plan (Before plan) chains → Always ring plan (TransfersAreFew ring plan)
+few_always ring plan k settled chains are_covered run w is = transfers_are_few ring plan k settled chains are_covered w (reached ring plan run w is)

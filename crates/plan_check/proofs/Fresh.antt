@@ -22,13 +22,13 @@ use Rattle.plan_runs.specs.Reached.{Reached}
 use Rattle.plan_runs.specs.Runs.{Leads}
 use Rattle.plan_runs.proofs.Answered.{answered}
 use Rattle.plan_runs.proofs.Asking.{StaysAsked, event_asked}
-use Rattle.plan_check.proofs.Entering.{Inv}
+use Rattle.plan_check.proofs.Apart.{Inv}
 use Rattle.plan_check.proofs.Doing.{event_keeps}
-use Rattle.plan_check.proofs.Holdings.{next_inv, next_holding}
+use Rattle.plan_check.proofs.Holdings.{may_lose, next_inv, next_holding}
 use Rattle.plan_runs.proofs.Lasting.{Extends, event_extends, names_ended, succeeds_stays, succeeds_same_key}
 use Rattle.plan_runs.proofs.Latest.{some_succeeds_found, latest_of_is, is_latest_of}
 use Rattle.plan_check.proofs.Losing.{lose_slots}
-use Rattle.plan_check.proofs.Mirrored.{Known}
+use Rattle.plan_check.proofs.Mirrored.{Holds}
 use Rattle.plan_runs.proofs.Passed.{AllMet, all_met}
 use Rattle.plan_runs.proofs.Passing.{below_is, is_below}
 use Rattle.plan_runs.proofs.Serial.{acked_exists}
@@ -114,23 +114,23 @@ kept_rest ring plan w u v slots k a f =
     record { rest = slots; firm = slots_stay ring plan w u v slots k a f; enough = (let same = k.losses in omega arith); among = λ i h. h }
 
 -- all but one, where it is
-loss_rest : (ring : RingValue) (plan : List Planned) → Known ring plan → (w : World) → Inv ring plan w → (x : NodeId) → AllMet (guards ring plan w (Lose x))
+loss_rest : (ring : RingValue) (plan : List Planned) → Holds ring plan → (w : World) → Inv ring plan w → (x : NodeId) → AllMet (guards ring plan w (Lose x))
     → (v : ℕ) (slots : List ℕ) → is_acked w v ≡ true → FirmSlots ring plan w v slots
     → Rest ring plan w (effect ring plan w (Lose x)) v slots
 unfolding effect
 loss_rest ring plan k w i x g v slots a f =
-    let s = lose_slots ring plan w x i.reached (event_extends ring plan w (Lose x) g) k i v slots (acked_exists w.puts v a) f in
+    let s = lose_slots ring plan w x i.reached (event_extends ring plan w (Lose x) g) k.known (i.apart (may_lose ring plan w x g)) v slots (acked_exists w.puts v a) f in
     record { rest = s.0; firm = s.1; enough = (let m : length slots ≤ length s.0 + 1 = s.2 in omega arith); among = s.3 }
 
 -- so after any event
-rest_after : (ring : RingValue) (plan : List Planned) → Known ring plan → (w : World) → Inv ring plan w → Holding ring plan w → (e : Event)
+rest_after : (ring : RingValue) (plan : List Planned) → Holds ring plan → (w : World) → Inv ring plan w → Holding ring plan w → (e : Event)
     → AllMet (guards ring plan w e) → (v : ℕ) (slots : List ℕ) → is_acked w v ≡ true → FirmSlots ring plan w v slots
     → Rest ring plan w (effect ring plan w e) v slots
 rest_after ring plan k w i h (Lose x) g v slots a f = loss_rest ring plan k w i x g v slots a f
 rest_after ring plan k w i h e g v slots a f = kept_rest ring plan w (effect ring plan w e) v slots (event_keeps ring plan k w i.reached h e refl g) a f
 
 -- so the put goes on to be watched
-pub watched_after : (ring : RingValue) (plan : List Planned) → Known ring plan → (w : World) → Inv ring plan w → Holding ring plan w → (e : Event)
+pub watched_after : (ring : RingValue) (plan : List Planned) → Holds ring plan → (w : World) → Inv ring plan w → Holding ring plan w → (e : Event)
     → AllMet (guards ring plan w e) → (v g : ℕ) → Watched ring plan w v g → Watched ring plan (effect ring plan w e) v g
 watched_after ring plan k w i h e met v g c = record {
   exists = a.exists;
@@ -169,7 +169,7 @@ watched_after ring plan k w i h e met v g c = record {
 -- ---- a run
 
 -- through a run from the get's start
-pub watched_through : (ring : RingValue) (plan : List Planned) → Known ring plan → (run : List Entry) (w u : World) → Inv ring plan w → Holding ring plan w
+pub watched_through : (ring : RingValue) (plan : List Planned) → Holds ring plan → (run : List Entry) (w u : World) → Inv ring plan w → Holding ring plan w
     → (v g : ℕ) → Watched ring plan w v g → Leads ring plan w run u → Inv ring plan u × Watched ring plan u v g
 watched_through ring plan k [] w u i h v g c l = (subst (λ (z : World). Inv ring plan z) (sym l) i, subst (λ (z : World). Watched ring plan z v g) (sym l) c)
 watched_through ring plan k (x ∷ xs) w u i h v g c l =

@@ -1,3 +1,5 @@
+pub mod Members
+mod Keeping
 mod Verdicts
 pub mod Occupied
 pub mod Certifies

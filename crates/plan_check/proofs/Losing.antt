@@ -15,7 +15,7 @@ use Rattle.plan_runs.specs.Guards.{is_current}
 use Rattle.plan_runs.specs.Effects.{without_node, lose_effect}
 use Rattle.plan_check.specs.Firm.{IsTwice, FirmSlots, Holding}
 use Rattle.plan_runs.specs.Reached.{Reached}
-use Rattle.plan_check.proofs.Entering.{Inv}
+use Rattle.plan_check.proofs.Entering.{Apart}
 use Rattle.plan_runs.proofs.Filling.{at_mirror_more}
 use Rattle.plan_runs.proofs.Groups.{InGroup, served_is, in_group}
 use Rattle.plan_runs.proofs.Lasting.{Extends}
@@ -132,7 +132,7 @@ module _ (ring : RingValue) (plan : List Planned) (w : World) (x : NodeId) (r : 
   }
 
   -- of the slots at which a put is firm at most one goes
-  pub lose_slots : Known ring plan → Inv ring plan w → (v : ℕ) (slots : List ℕ) → v < length w.puts → FirmSlots ring plan w v slots
+  pub lose_slots : Known ring plan → Apart ring plan w → (v : ℕ) (slots : List ℕ) → v < length w.puts → FirmSlots ring plan w v slots
       → (rest : List ℕ) × FirmSlots ring plan lost v rest × (length slots ≤ length rest + 1) × ((i : ℕ) → has i rest ≡ true → has i slots ≡ true)
   lose_slots k i v slots l f = elim (one_or_none (λ j. is_in_group ring plan w (put_slot ring w v j) x.0) slots) [
     | inr none ↦ (slots, spared v slots slots l f f.different (λ j h. h) none, omega arith, λ j h. h)
@@ -155,14 +155,14 @@ module _ (ring : RingValue) (plan : List Planned) (w : World) (x : NodeId) (r : 
           by : (b : Bool) → is_in_group ring plan w (put_slot ring w v j) x.0 ≡ b → b ≡ false
           by false g = refl
           by true g =
-              absurd (i.apart (put_slot ring w v n).partition n j x.0 (partition_within ring.q (key_of_put w v) k.is_ring.space) (inside n at)
+              absurd (i (put_slot ring w v n).partition n j x.0 (partition_within ring.q (key_of_put w v) k.is_ring.space) (inside n at)
               (inside j (kept-in n j slots h))
               (λ same. (let o = gone n slots in let m : has n (without n slots) ≡ true = subst (λ z. has z (without n slots) ≡ true) (sym same) h in absurd
               cc))
               (in_group ring plan w (put_slot ring w v n) x.0 group) (in_group ring plan w (put_slot ring w v j) x.0 g))
 
   -- and acknowledged puts stay firm enough, with one loss more
-  pub lose_holding : Known ring plan → Inv ring plan w → Holding ring plan w → Holding ring plan lost
+  pub lose_holding : Known ring plan → Apart ring plan w → Holding ring plan w → Holding ring plan lost
   lose_holding k i h = record {
     tickets = lose_tickets h;
     acked = λ v a. (

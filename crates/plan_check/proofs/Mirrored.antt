@@ -5,7 +5,6 @@ use Rattle.std.proofs.lemmas.Bool.{or_right, cases_lt}
 use Rattle.ring_names.specs.Lists.{has}
 use Rattle.ring_names.specs.declared.ids.NodeId.{NodeId}
 use Rattle.ring_names.specs.declared.ids.Slot.{Slot}
-use Rattle.ring_table.specs.declared.allowance.Side.{Side}
 use Rattle.ring_table.specs.Value.{RingValue}
 use Rattle.ring_table.specs.Valid.{IsRing}
 use Rattle.plan_text.specs.declared.step.Step.TheVariants.{Mirror}
@@ -19,7 +18,7 @@ use Rattle.plan_stage.specs.Stage.{stage, after}
 use Rattle.plan_stage.specs.Occupancy.{is_node, leaving, mirror_end}
 use Rattle.plan_runs.specs.World.{count}
 use Rattle.plan_stage.specs.Each.{step_at, sibling, place_in}
-use Rattle.plan_check.specs.Sound.{Meets, EndsBefore, Sound}
+use Rattle.plan_check.specs.Sound.{AreInTurn, EndsBefore, HaveLeft, ReadEnough, Sound}
 use Rattle.plan_runs.specs.Reached.{Ready, Closed}
 use Rattle.plan_runs.proofs.Prefix.{found, found_later, Rises, Down, prefix, place}
 use Rattle.plan_check.specs.Occupies.{FromStart, FromMirror, Serves}
@@ -27,15 +26,23 @@ use Rattle.plan_check.proofs.Occupied.{occupied, ends_later, mirror_ends_later}
 use Rattle.plan_stage.proofs.Truth.{slot-same}
 use Rattle.plan_stage.proofs.Holders.{has-from}
 
--- what is known of the ring and the plan
+-- what is known of the ring, and of a plan whose slots act in order
 pub record Known (ring : RingValue) (plan : List Planned) : Type 0 where
   pub is_ring : IsRing ring
   pub is_plan : IsPlan plan
-  pub chains : ℕ → Side → List (List ℕ)
-  pub meets : Meets ring plan (Before plan) chains
+  pub in_turn : AreInTurn ring plan (Before plan)
 
 pub known : (ring : RingValue) (plan : List Planned) → IsRing ring → IsPlan plan → Sound ring plan → Known ring plan
-known ring plan r p sound = record { is_ring = r; is_plan = p; chains = sound.0; meets = sound.1 }
+known ring plan r p sound = record { is_ring = r; is_plan = p; in_turn = sound.1.in_turn }
+
+-- what is known of a plan by which puts stay held: its copies read enough, and where stores may be lost no two slots of a partition share a node
+pub record Holds (ring : RingValue) (plan : List Planned) : Type 0 where
+  pub known : Known ring plan
+  pub sources : ReadEnough ring plan
+  pub left : 0 < ring.loss → HaveLeft ring plan (Before plan)
+
+pub holds : (ring : RingValue) (plan : List Planned) → IsRing ring → IsPlan plan → Sound ring plan → Holds ring plan
+holds ring plan r p sound = record { known = known ring plan r p sound; sources = sound.1.sources; left = λ l. sound.1.left }
 
 pub before_done : (plan : List Planned) (D : ℕ → Bool) (a n : ℕ) → Closed plan D → Before plan a n → D n ≡ true → D a ≡ true
 before_done plan D a n c (direct _ _ d) e = c a n e d
@@ -46,14 +53,14 @@ before_ready plan D a n c y (direct _ _ d) = y a d
 before_ready plan D a n c y (through _ b _ d r) = c a b (before_ready plan D b n c y r) d
 
 pub rises : (ring : RingValue) (plan : List Planned) → Known ring plan → (slot : Slot) → Rises (steps_of plan slot)
-rises ring plan k slot i l = less plan _ _ k.is_plan (k.meets.in_order slot i l)
+rises ring plan k slot i l = less plan _ _ k.is_plan (k.in_turn.in_order slot i l)
 
 pub down : (ring : RingValue) (plan : List Planned) → Known ring plan → (D : ℕ → Bool) → Closed plan D → (slot : Slot) → Down D (steps_of plan slot)
-down ring plan k D c slot i l e = before_done plan D _ _ c (k.meets.in_order slot i l) e
+down ring plan k D c slot i l e = before_done plan D _ _ c (k.in_turn.in_order slot i l) e
 
 -- ---- ends
 
-ends : (plan : List Planned) (o : Option ℕ) (t : ℕ) → EndsBefore (Before plan) o t → (e : ℕ) × (o ≡ Some e) × Before plan e t
+pub ends : (plan : List Planned) (o : Option ℕ) (t : ℕ) → EndsBefore (Before plan) o t → (e : ℕ) × (o ≡ Some e) × Before plan e t
 ends plan None t h = absurd h
 ends plan (Some e) t h = (e, refl, h)
 
@@ -86,35 +93,35 @@ front_done D ss i e d h f =
 
 -- ---- the other slots of the partition
 
-from_start : (ring : RingValue) (plan : List Planned) → Known ring plan → (D : ℕ → Bool) (t j : ℕ) (slot : Slot) (x : NodeId) → Closed plan D → Ready plan D t → step_at plan t ≡ Some (Mirror slot x) → j ≢ slot.index
+from_start : (ring : RingValue) (plan : List Planned) → Known ring plan → HaveLeft ring plan (Before plan) → (D : ℕ → Bool) (t j : ℕ) (slot : Slot) (x : NodeId) → Closed plan D → Ready plan D t → step_at plan t ≡ Some (Mirror slot x) → j ≢ slot.index
     → FromStart ring plan (sibling slot j) x (count D (steps_of plan (sibling slot j))) → ⊥
-from_start ring plan k D t j slot x c y at ne f =
+from_start ring plan k left D t j slot x c y at ne f =
     let d = down ring plan k D c (sibling slot j) in
-    let e = ends plan _ t (k.meets.left_first t j slot x at ne f.0) in
+    let e = ends plan _ t (left.first t j slot x at ne f.0) in
     let w = (prefix D (steps_of plan (sibling slot j)) d).within in
     not_done D (steps_of plan (sibling slot j)) e.0 d (ends_later ring plan (sibling slot j) x (count D (steps_of plan (sibling slot j))) e.0 w f e.1) (before_ready plan D e.0 t c y e.2)
 
 -- it mirrored the other slot at a step of smaller number
-from_earlier : (ring : RingValue) (plan : List Planned) → Known ring plan → (D : ℕ → Bool) (t j b : ℕ) (slot : Slot) (x : NodeId) → Closed plan D → Ready plan D t → step_at plan t ≡ Some (Mirror slot x) → j ≢ slot.index
+from_earlier : (ring : RingValue) (plan : List Planned) → Known ring plan → HaveLeft ring plan (Before plan) → (D : ℕ → Bool) (t j b : ℕ) (slot : Slot) (x : NodeId) → Closed plan D → Ready plan D t → step_at plan t ≡ Some (Mirror slot x) → j ≢ slot.index
     → FromMirror ring plan (sibling slot j) x (count D (steps_of plan (sibling slot j))) b → get_or (steps_of plan (sibling slot j)) b 0 < t → ⊥
-from_earlier ring plan k D t j b slot x c y at ne f l =
+from_earlier ring plan k left D t j b slot x c y at ne f l =
     let other = steps_of plan (sibling slot j) in
     let d = down ring plan k D c (sibling slot j) in
     let w : count D other ≤ length other = (prefix D other d).within in
     let h : b < count D other = f.0 in
     let p : place_in plan (sibling slot j) (get_or other b 0) ≡ b = place other b (rises ring plan k (sibling slot j)) (omega arith) in
-    let e = ends plan _ t (k.meets.left_later t (get_or other b 0) j slot x at ne l f.1) in
+    let e = ends plan _ t (left.later t (get_or other b 0) j slot x at ne l f.1) in
     let is : mirror_end ring plan (sibling slot j) b x ≡ Some e.0 = ap (λ (i : ℕ). mirror_end ring plan (sibling slot j) i x) (sym p) ∙ e.1 in
     not_done D other e.0 d (mirror_ends_later ring plan (sibling slot j) x (count D other) b e.0 w f is) (before_ready plan D e.0 t c y e.2)
 
 -- or of larger number
-from_later : (ring : RingValue) (plan : List Planned) → Known ring plan → (D : ℕ → Bool) (t m j : ℕ) (slot : Slot) (x : NodeId) → Closed plan D → D t ≡ false → step_at plan t ≡ Some (Mirror slot x) → j ≢ slot.index
+from_later : (ring : RingValue) (plan : List Planned) → Known ring plan → HaveLeft ring plan (Before plan) → (D : ℕ → Bool) (t m j : ℕ) (slot : Slot) (x : NodeId) → Closed plan D → D t ≡ false → step_at plan t ≡ Some (Mirror slot x) → j ≢ slot.index
     → step_at plan m ≡ Some (Mirror (sibling slot j) x) → D m ≡ true → t < m → ⊥
-from_later ring plan k D t m j slot x c off at ne on done l =
+from_later ring plan k left D t m j slot x c off at ne on done l =
     let mine = steps_of plan slot in
     let d = down ring plan k D c slot in
     let z : 0 + t ≡ t = omega arith in
-    let e = ends plan _ m (k.meets.left_later m t slot.index (sibling slot j) x on (λ i. ne (sym i)) l at) in
+    let e = ends plan _ m (left.later m t slot.index (sibling slot j) x on (λ i. ne (sym i)) l at) in
     let h : has t mine ≡ true = subst (λ (n : ℕ). has n mine ≡ true) z (has-from 0 t plan slot (Mirror slot x) at (slot-same slot)) in
     let i = found t mine h in
     let p : place_in plan slot t ≡ i.0 = ap (place_in plan slot) (sym i.2) ∙ place mine i.0 (rises ring plan k slot) i.1 in
@@ -123,15 +130,15 @@ from_later ring plan k D t m j slot x c off at ne on done l =
     let yet : D t ≡ true = ap D (sym i.2) ∙ g in
     absurd cc
 
-pub mirrored_alone : (ring : RingValue) (plan : List Planned) → Known ring plan → (D : ℕ → Bool) (t j : ℕ) (slot : Slot) (x : NodeId) → Closed plan D → Ready plan D t → D t ≡ false → step_at plan t ≡ Some (Mirror slot x)
+pub mirrored_alone : (ring : RingValue) (plan : List Planned) → Known ring plan → HaveLeft ring plan (Before plan) → (D : ℕ → Bool) (t j : ℕ) (slot : Slot) (x : NodeId) → Closed plan D → Ready plan D t → D t ≡ false → step_at plan t ≡ Some (Mirror slot x)
     → slot.partition < ring.q → j < ring.n → j ≢ slot.index → Serves ring plan (sibling slot j) x (count D (steps_of plan (sibling slot j))) → ⊥
-mirrored_alone ring plan k D t j slot x c y off at p l ne s =
+mirrored_alone ring plan k left D t j slot x c y off at p l ne s =
     let other = steps_of plan (sibling slot j) in
     let q = prefix D other (down ring plan k D c (sibling slot j)) in
     elim (occupied ring plan (sibling slot j) x (count D other) k.is_ring p l q.within s) [
-      | inl f ↦ from_start ring plan k D t j slot x c y at ne f
+      | inl f ↦ from_start ring plan k left D t j slot x c y at ne f
       | inr f ↦ elim (cases_lt (get_or other f.0 0) t) [
-        | inl g ↦ from_earlier ring plan k D t j f.0 slot x c y at ne f.1 g
+        | inl g ↦ from_earlier ring plan k left D t j f.0 slot x c y at ne f.1 g
         | inr g ↦ later f.0 f.1 g
       ]
     ]
@@ -141,6 +148,6 @@ mirrored_alone ring plan k D t j slot x c y off at p l ne s =
         let other = steps_of plan (sibling slot j) in
         let done : D (get_or other b 0) ≡ true = (prefix D other (down ring plan k D c (sibling slot j))).below b f.0 in
         elim (cases_lt t (get_or other b 0)) [
-          | inl h ↦ from_later ring plan k D t (get_or other b 0) j slot x c off at ne f.1 done h
+          | inl h ↦ from_later ring plan k left D t (get_or other b 0) j slot x c off at ne f.1 done h
           | inr h ↦ absurd (let e : get_or other b 0 ≡ t = omega arith in let z = ap D e in cc)
         ]

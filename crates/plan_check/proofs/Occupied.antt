@@ -53,7 +53,7 @@ leaving-in plan x a (s ∷ ss) e h = by (ends_at plan x a s) h (leaving-in plan 
 
 -- ---- parts of lists
 
-cut : (n k : ℕ) (xs : List ℕ) → n ≤ k → drop n (take k xs) ++ drop k xs ≡ drop n xs
+pub cut : (n k : ℕ) (xs : List ℕ) → n ≤ k → drop n (take k xs) ++ drop k xs ≡ drop n xs
 cut zero k xs le = take-append-drop k xs
 cut (suc n) zero xs le = absurd (omega arith)
 cut (suc n) (suc k) [] le = refl

@@ -24,7 +24,7 @@ use Rattle.plan_stage.proofs.Stages.{after-next, stage-more}
 use Rattle.plan_runs.specs.World.{World, stage_now, count, copy_at}
 use Rattle.plan_stage.specs.Each.{step_at, sibling}
 use Rattle.plan_check.specs.Safe.{mirrors_now, gives_now, takes_part_now}
-use Rattle.plan_check.specs.Sound.{is_party_of}
+use Rattle.plan_check.specs.Sound.{AreSettled, is_party_of}
 use Rattle.plan_runs.proofs.Prefix.{found, Rises, IsPrefix, prefix, count_below_is, place}
 use Rattle.plan_check.proofs.Mirrored.{Known, before_done, before_ready, rises, down}
 use Rattle.plan_runs.specs.Reached.{Ready, Closed}
@@ -42,8 +42,8 @@ below_prefix n ss r = subst (λ (k : ℕ). IsPrefix (λ s. nat_lt s n) ss k) (sy
 pub in_turn : (ring : RingValue) (plan : List Planned) → Known ring plan → (slot : Slot) (i j : ℕ) → i < j → j < length (steps_of plan slot) → Before plan (get_or (steps_of plan slot) i 0) (get_or (steps_of plan slot) j 0)
 in_turn ring plan k slot i zero l m = absurd (omega arith)
 in_turn ring plan k slot i (suc j) l m = elim (cases_lt i j) [
-  | inl h ↦ join plan _ _ _ (in_turn ring plan k slot i j h (omega arith)) (k.meets.in_order slot j m)
-  | inr h ↦ (let e : i ≡ j = omega arith in rw e (k.meets.in_order slot j m))
+  | inl h ↦ join plan _ _ _ (in_turn ring plan k slot i j h (omega arith)) (k.in_turn.in_order slot j m)
+  | inr h ↦ (let e : i ≡ j = omega arith in rw e (k.in_turn.in_order slot j m))
 ]
 
 -- the finished steps of a slot, where its step n is ready and not finished, are those in front of n
@@ -192,10 +192,10 @@ listed_same : (ring : RingValue) (plan : List Planned) (w : World) (n : ℕ) (sl
 listed_same ring plan w n slot [] h = tt
 listed_same ring plan w n slot (i ∷ from) h = (h i (rw (eq-eqb i i refl) refl), listed_same ring plan w n slot from (λ j e. h j (or_right (j == i) (has j from) e)))
 
-sources_same : (ring : RingValue) (plan : List Planned) → Known ring plan → (w : World) (n : ℕ) (slot : Slot) (source : Source) → Closed plan w.done → Ready plan w.done n → w.done n ≡ false → step_at plan n ≡ Some (Copy slot source)
+sources_same : (ring : RingValue) (plan : List Planned) → Known ring plan → AreSettled plan (Before plan) → (w : World) (n : ℕ) (slot : Slot) (source : Source) → Closed plan w.done → Ready plan w.done n → w.done n ≡ false → step_at plan n ≡ Some (Copy slot source)
     → stage_now ring plan w slot ≡ stage_before ring plan slot n → SameOwners ring plan w n (source_slots slot source)
-sources_same ring plan k w n slot Owner c y off at own = (ap (λ (a : Stage). a.owner) own, tt)
-sources_same ring plan k w n slot (Slots from) c y off at own = listed_same ring plan w n slot from (λ j e. owner_same ring plan k w.done n (sibling slot j) c y off (λ m s. k.meets.settled n m j slot from at e s))
+sources_same ring plan k settled w n slot Owner c y off at own = (ap (λ (a : Stage). a.owner) own, tt)
+sources_same ring plan k settled w n slot (Slots from) c y off at own = listed_same ring plan w n slot from (λ j e. owner_same ring plan k w.done n (sibling slot j) c y off (λ m s. settled n m j slot from at e s))
 
 its_parties : (ring : RingValue) (plan : List Planned) (side : Side) (n : ℕ) (t : Step) (o : Option Planned) → (elim o as (λ _. Option Step) [ Some x ↦ Some x.step | None ↦ None ]) ≡ Some t
     → (elim o as (λ _. List NodeId) [ Some x ↦ on_side side (target_of ring plan n x.step) (sources_of ring plan n x.step) | None ↦ [] ]) ≡ on_side side (target_of ring plan n t) (sources_of ring plan n t)
@@ -207,7 +207,7 @@ source_in z None ys h = h
 source_in z (Some y) ys h = still_in z y ys h
 
 -- a copy that is ready and not finished: its mirror now, and its owners now
-module _ (ring : RingValue) (plan : List Planned) (k : Known ring plan) (w : World) (n x : ℕ) (slot : Slot) (source : Source) (c : Closed plan w.done) (y : Ready plan w.done n) (off : w.done n ≡ false) (at : step_at plan n ≡ Some (Copy slot source)) where
+module _ (ring : RingValue) (plan : List Planned) (k : Known ring plan) (settled : AreSettled plan (Before plan)) (w : World) (n x : ℕ) (slot : Slot) (source : Source) (c : Closed plan w.done) (y : Ready plan w.done n) (off : w.done n ≡ false) (at : step_at plan n ≡ Some (Copy slot source)) where
   own : stage_now ring plan w slot ≡ stage_before ring plan slot n
   own =
       let z : 0 + n ≡ n = omega arith in
@@ -231,7 +231,7 @@ module _ (ring : RingValue) (plan : List Planned) (k : Known ring plan) (w : Wor
           rw target (subst (λ (v : ℕ). is_among (record { 0 = v }) (with_node y others) ≡ true) i (node_in y others))
 
   is_read : gives_now ring plan w x slot source ≡ true → is_among (record { 0 = x }) owners ≡ true
-  is_read h = owner_in ring plan w n x (source_slots slot source) (sources_same ring plan k w n slot source c y off at own) h
+  is_read h = owner_in ring plan w n x (source_slots slot source) (sources_same ring plan k settled w n slot source c y off at own) h
 
   copy_party : (side : Side) → takes_part_now ring plan w x side slot source ≡ true → is_among (record { 0 = x }) (on_side side mirror owners) ≡ true
   copy_party Both part = elim (or_cases (mirrors_now ring plan w x slot source) (gives_now ring plan w x slot source) part) [
@@ -253,12 +253,12 @@ copy_is (Some (Switch s)) slot source e = absurd cc
 copy_is (Some (Drop s x)) slot source e = absurd cc
 copy_is (Some (Retire x)) slot source e = absurd cc
 
-pub party : (ring : RingValue) (plan : List Planned) → Known ring plan → (w : World) (n x : ℕ) (side : Side) → Closed plan w.done → Ready plan w.done n → w.done n ≡ false
+pub party : (ring : RingValue) (plan : List Planned) → Known ring plan → AreSettled plan (Before plan) → (w : World) (n x : ℕ) (side : Side) → Closed plan w.done → Ready plan w.done n → w.done n ≡ false
     → (elim (copy_at plan n) [ Some k ↦ takes_part_now ring plan w x side k.0 k.1 | None ↦ false ]) ≡ true → is_party_of ring plan x side n ≡ true
-party ring plan k w n x side c y off h = by (copy_at plan n) refl h
+party ring plan k settled w n x side c y off h = by (copy_at plan n) refl h
   where
     by : (o : Option (Slot × Source)) → copy_at plan n ≡ o → (elim o [ Some k ↦ takes_part_now ring plan w x side k.0 k.1 | None ↦ false ]) ≡ true → is_party_of ring plan x side n ≡ true
     by None e g = absurd cc
     by (Some d) e g =
         let at : step_at plan n ≡ Some (Copy d.0 d.1) = copy_is (step_at plan n) d.0 d.1 e in
-        rw (its_parties ring plan side n (Copy d.0 d.1) (slice_get plan n) at) (copy_party ring plan k w n x d.0 d.1 c y off at side g)
+        rw (its_parties ring plan side n (Copy d.0 d.1) (slice_get plan n) at) (copy_party ring plan k settled w n x d.0 d.1 c y off at side g)

@@ -5,7 +5,9 @@ use Rattle.std.specs.Prelude.{nat_lt, is_some, Ok}
 use Rattle.std.proofs.lemmas.Slice.Eq.{bytes_eq-Decides}
 use Rattle.ring_names.specs.Lists.{has}
 use Rattle.ring_table.specs.Value.{RingValue}
+use Rattle.ring_table.specs.Valid.{IsRing}
 use Rattle.plan_text.specs.declared.step.Planned.{Planned}
+use Rattle.plan_text.specs.Valid.{IsPlan}
 use Rattle.plan_runs.specs.declared.event.Event.TheVariants.{StartGet, EndGet}
 use Rattle.plan_runs.specs.declared.event.Entry.{Entry}
 use Rattle.plan_runs.specs.declared.event.Reply.TheVariants as reply
@@ -16,17 +18,19 @@ use Rattle.plan_runs.specs.Effects.{answers, has_found, effect}
 use Rattle.plan_runs.specs.Answers.{answer}
 use Rattle.plan_check.specs.Firm.{Holding}
 use Rattle.plan_check.specs.Headline.{IsAnswered, GetsAreFresh, KeepsPromises}
+use Rattle.plan_check.specs.Kept.{HoldsPuts}
+use Rattle.plan_check.specs.Sound.{Sound}
 use Rattle.plan_runs.proofs.Answered.{answered}
-use Rattle.plan_check.proofs.Apart.{run_inv, start_inv, apart_always}
+use Rattle.plan_check.proofs.Apart.{Inv, run_inv, start_inv, apart_always}
 use Rattle.plan_runs.proofs.Changed.{part_new}
 use Rattle.plan_check.proofs.Chunks.{quorum_more}
-use Rattle.plan_check.proofs.Entering.{Inv}
 use Rattle.plan_check.proofs.Few.{few_always}
 use Rattle.plan_check.proofs.Fresh.{some_latest, SeesPut, Watched, watched_through}
 use Rattle.plan_check.proofs.Holdings.{next_inv, next_holding, holding_always, held_always}
 use Rattle.plan_runs.proofs.Lasting.{event_extends, names_ended, succeeds_stays}
 use Rattle.plan_runs.proofs.Latest.{latest_of_is}
-use Rattle.plan_check.proofs.Mirrored.{Known}
+use Rattle.plan_check.proofs.Members.{members_always}
+use Rattle.plan_check.proofs.Mirrored.{Known, Holds, holds}
 use Rattle.plan_runs.proofs.Passed.{AllMet, all_met}
 use Rattle.plan_runs.proofs.Passing.{some_is, below_is, is_below, passing_ascend, none_twice}
 use Rattle.plan_check.proofs.Quorums.{meet}
@@ -138,19 +142,31 @@ end_answers ring plan k w u v g found i c l =
 -- ---- runs
 
 -- a get sees the puts that were acknowledged before it started
-pub gets_fresh : (ring : RingValue) (plan : List Planned) → Known ring plan → GetsAreFresh ring plan
+pub gets_fresh : (ring : RingValue) (plan : List Planned) → Holds ring plan → GetsAreFresh ring plan
 gets_fresh ring plan k before between start mid w key g found run l ended v of acked =
-    let i = run_inv ring plan k before (opening_world ring) start (start_inv ring plan k.is_ring) run in
+    let i = run_inv ring plan k before (opening_world ring) start (start_inv ring plan k.known.is_ring) run in
     let h = holding_always ring plan k before start run in
     let first : Entry = record { event = StartGet key; reply = reply.Get g } in
     let j = next_inv ring plan k first start l.0 l.1 i in
     let n = next_holding ring plan k first start l.0 l.1 i h in
     let c = watched_through ring plan k between l.0 mid j n v g (start_watched ring plan start l.0 key g v n l.1 of acked) l.2 in
-    end_answers ring plan k mid w v g found c.0 c.1 ended
+    end_answers ring plan k.known mid w v g found c.0 c.1 ended
+
+-- each promise from its own clauses: what is acknowledged is held, and gets see it
+pub holds_puts : (ring : RingValue) (plan : List Planned) → Holds ring plan → HoldsPuts ring plan
+holds_puts ring plan k = record { held = held_always ring plan k; fresh = gets_fresh ring plan k }
 
 -- a sound plan keeps its promises
-pub keeps_promises : (ring : RingValue) (plan : List Planned) → Known ring plan → KeepsPromises ring plan
-keeps_promises ring plan k = record {
-  safe = λ run w is. record { held = held_always ring plan k run w is; apart = apart_always ring plan k run w is; few = few_always ring plan k run w is };
-  fresh = gets_fresh ring plan k;
-}
+pub keeps_promises : (ring : RingValue) (plan : List Planned) → IsRing ring → IsPlan plan → Sound ring plan → KeepsPromises ring plan
+keeps_promises ring plan r p sound =
+    let k = holds ring plan r p sound in
+    let m = sound.1 in
+    record {
+      safe = λ run w is. record {
+        held = held_always ring plan k run w is;
+        apart = apart_always ring plan k.known m.left run w is;
+        few = few_always ring plan k.known m.settled sound.0 m.covers run w is;
+        members = members_always ring plan k.known m.members run w is;
+      };
+      fresh = gets_fresh ring plan k;
+    }

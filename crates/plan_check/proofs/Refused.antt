@@ -1,10 +1,12 @@
 -- No clause of the checker fails exactly where the certificate certifies the plan.
-use Rattle.std.proofs.Common.{◌≡◌, inl, inr, ℕ, suc, ◌-◌, ◌<◌, Bool, true, Option, List, [], ◌∷◌, ◌++◌, length, get_or, refl, arith, Some, None}
+use Rattle.std.proofs.Common.{◌≡◌, ℕ, suc, ◌-◌, ◌<◌, Bool, true, false, cond, Option, List, [], ◌∷◌, ◌++◌, length, refl, arith, Some, None}
 use Rattle.std.specs.Prelude.{◌&&◌, ◌||◌, ◌==◌, nat_le, slice_index, is_some}
+use Rattle.std.specs.List.{list_all}
 use Rattle.std.proofs.lemmas.Bool.{leb-true, le-leb, and_parts, and_from}
 use Rattle.ring_names.specs.Lists.{all_different}
 use Rattle.ring_names.specs.declared.ids.NodeId.{NodeId}
 use Rattle.ring_names.specs.declared.ids.Slot.{Slot}
+use Rattle.ring_names.specs.declared.refusal.Refusal.{Refusal}
 use Rattle.ring_names.specs.declared.refusal.Refusal.TheVariants.{BadSource, MovingSource, SharedInPlan, NotJoined, RetiredInUse, CoverMissing, TooManyChains}
 use Rattle.ring_table.specs.declared.allowance.Side.{Side}
 use Rattle.ring_table.specs.declared.allowance.Side.TheVariants.{Both, Take, Give}
@@ -22,7 +24,10 @@ use Rattle.plan_stage.specs.Clauses.{first_failing, below, is_staged, AllStaged,
 use Rattle.plan_stage.specs.Parties.{parties_on}
 use Rattle.plan_stage.proofs.Below.{met, below-met, below-all}
 use Rattle.plan_stage.specs.Each.{step_at, sibling}
-use Rattle.plan_check.specs.Sound.{Meets}
+use Rattle.plan_stage.specs.declared.missed.Missed.{Missed}
+use Rattle.plan_stage.specs.Missed.{misses, HoldBut, HoldsBut}
+use Rattle.plan_stage.proofs.Noted.{none-holds}
+use Rattle.plan_check.specs.Sound.{AreCovered, AreInTurn, AreSettled, HaveLeft, Meets, ReadEnough, ServeAsMembers}
 use Rattle.plan_cover.specs.Clauses.{in_some, chains_from, has_side, chains_clauses, is_few, retire_clauses, cover_clauses, side_covers, side_count, each_side, node_clauses}
 use Rattle.plan_check.specs.Certified.{IsCertified, ordered_by}
 use Rattle.plan_check.specs.First.{fact_clauses, first_refusal}
@@ -37,12 +42,47 @@ use Rattle.plan_check.proofs.Firsts.{holds, facts-met, facts-all, order-met, ord
 abbrev orders : List Planned → Test → Slot → ℕ → Bool
 orders plan O slot k = (k == 0) || O (slice_index (steps_of plan slot) (k - 1)) (slice_index (steps_of plan slot) k)
 
-record Parts (ring : RingValue) (plan : List Planned) (O : Test) : Type 0 where
+-- the clauses of the partitions hold, but those of steps that may fail
+pub record Parts (ring : RingValue) (plan : List Planned) (O : Test) (a : Missed) : Type 0 where
   staged : AllStaged ring plan
   ordered : (slot : Slot) → slot.partition < ring.q → slot.index < ring.n → (k : ℕ) → k < length (steps_of plan slot) → orders plan O slot k ≡ true
-  steps : (p : ℕ) → p < ring.q → (n : ℕ) (s : Step) → step_at plan n ≡ Some s → first_failing (step_clauses ring plan O p n s) ≡ None
+  steps : (p : ℕ) → p < ring.q → (n : ℕ) (s : Step) → step_at plan n ≡ Some s → HoldBut a (step_clauses ring plan O p n s)
 
-record Nodes (ring : RingValue) (plan : List Planned) (cert : Cert) (O : Test) : Type 0 where
+-- a clause whose kind may not fail holds
+held-one : (a : Missed) (b : Bool) (e : Refusal) → (b || misses a e) ≡ true → misses a e ≡ false → b ≡ true
+held-one a true e h f = refl
+held-one a false e h f = absurd (let g : misses a e ≡ true = h in cc)
+
+held-two : (a : Missed) (b c : Bool) (e f : Refusal) → HoldBut a ((b, e) ∷ (c, f) ∷ []) → (misses a e ≡ false → b ≡ true) × (misses a f ≡ false → c ≡ true)
+held-two a b c e f h =
+    let x = and_parts (b || misses a e) ((c || misses a f) && true) h in
+    let y = and_parts (c || misses a f) true x.1 in
+    (held-one a b e x.0, held-one a c f y.0)
+
+held-asked : (a : Missed) (b : Bool) (cs : List Guard) → HoldBut a (cond b cs []) → b ≡ true → HoldBut a cs
+held-asked a true cs h k = h
+held-asked a false cs h k = absurd cc
+
+-- none may fail
+abbrev nothing : Missed
+nothing = record { sources = false; settled = false; left = false; joined = false; dropped = false }
+
+misses-none : (r : Refusal) → misses nothing r ≡ false
+misses-none (BadSource n) = refl
+misses-none (MovingSource n) = refl
+misses-none (SharedInPlan n) = refl
+misses-none (NotJoined n) = refl
+misses-none (RetiredInUse n) = refl
+misses-none r = refl
+
+-- and of clauses that hold none fails
+none-fails : (cs : List Guard) → HoldBut nothing cs → first_failing cs ≡ None
+none-fails [] h = refl
+none-fails (c ∷ cs) h =
+    let b = and_parts (c.0 || misses nothing c.1) (list_all (λ g. g.0 || misses nothing g.1) cs) h in
+    push c.0 c.1 (first_failing cs) (held-one nothing c.0 c.1 b.0 (misses-none c.1)) (none-fails cs b.1)
+
+pub record Nodes (ring : RingValue) (plan : List Planned) (cert : Cert) (O : Test) : Type 0 where
   retired : (x : NodeId) → x.0 < length ring.nodes → (n : ℕ) (s : Step) → step_at plan n ≡ Some s → first_failing (retire_clauses ring plan O x n s) ≡ None
   chains : (x : NodeId) → x.0 < length ring.nodes → first_failing (chains_clauses ring plan O x 0 cert.chains) ≡ None
   cover : (x : NodeId) → x.0 < length ring.nodes → (side : Side) → has_side ring x side ≡ true → (n : ℕ) (s : Step) → step_at plan n ≡ Some s → first_failing (cover_clauses ring plan (chains_from x.0 side cert.chains) x side n s) ≡ None
@@ -58,17 +98,22 @@ slots_of ring plan O p = below (λ i. slot_clauses ring plan O (record { partiti
 part-met : (ring : RingValue) (plan : List Planned) (O : Test) → first_failing (below (partition_clauses ring plan O) ring.q) ≡ None → (p : ℕ) → p < ring.q → (first_failing (slots_of ring plan O p) ≡ None) × (first_failing (steps_clauses (step_clauses ring plan O p) 0 plan) ≡ None)
 part-met ring plan O h p l = parted (slots_of ring plan O p) (steps_clauses (step_clauses ring plan O p) 0 plan) (below-met (partition_clauses ring plan O) ring.q h p l)
 
-one-met : (ring : RingValue) (plan : List Planned) (O : Test) → first_failing (below (partition_clauses ring plan O) ring.q) ≡ None → (slot : Slot) → slot.partition < ring.q → slot.index < ring.n → first_failing (slot_clauses ring plan O slot) ≡ None
-one-met ring plan O h slot p i = below-met (λ (i : ℕ). slot_clauses ring plan O (record { partition = slot.partition; index = i })) ring.n (part-met ring plan O h slot.partition p).0 slot.index i
-
-parts-met : (ring : RingValue) (plan : List Planned) (O : Test) → first_failing (below (partition_clauses ring plan O) ring.q) ≡ None → Parts ring plan O
-parts-met ring plan O h = record {
-  staged = λ slot p i k l. (slot-met ring plan O slot (one-met ring plan O h slot p i) k l).0;
-  ordered = λ slot p i k l. (slot-met ring plan O slot (one-met ring plan O h slot p i) k l).1;
-  steps = λ p l n s at. clauses-met (step_clauses ring plan O p) plan (part-met ring plan O h p l).1 n s at;
+pub parts-held : (ring : RingValue) (plan : List Planned) (O : Test) (a : Missed) → ((p : ℕ) → p < ring.q → HoldsBut a ring plan O p) → Parts ring plan O a
+parts-held ring plan O a h = record {
+  staged = λ slot p i k l. (slot-met ring plan O slot (own slot p i) k l).0;
+  ordered = λ slot p i k l. (slot-met ring plan O slot (own slot p i) k l).1;
+  steps = λ p l n s at. (h p l).steps n s at;
 }
+  where
+    own : (slot : Slot) → slot.partition < ring.q → slot.index < ring.n → first_failing (slot_clauses ring plan O slot) ≡ None
+    own slot p i = below-met (λ (i : ℕ). slot_clauses ring plan O (record { partition = slot.partition; index = i })) ring.n (h slot.partition p).slots slot.index i
 
-parts-all : (ring : RingValue) (plan : List Planned) (O : Test) → Parts ring plan O → first_failing (below (partition_clauses ring plan O) ring.q) ≡ None
+parts-met : (ring : RingValue) (plan : List Planned) (O : Test) → first_failing (below (partition_clauses ring plan O) ring.q) ≡ None → Parts ring plan O nothing
+parts-met ring plan O h = parts-held ring plan O nothing (λ p l.
+    let b = part-met ring plan O h p l in
+    record { slots = b.0; steps = λ n s at. none-holds nothing (step_clauses ring plan O p n s) (clauses-met (step_clauses ring plan O p) plan b.1 n s at) })
+
+parts-all : (ring : RingValue) (plan : List Planned) (O : Test) → Parts ring plan O nothing → first_failing (below (partition_clauses ring plan O) ring.q) ≡ None
 parts-all ring plan O h =
     below-all (partition_clauses ring plan O) ring.q (λ p lp.
     together (slots_of ring plan O p) (steps_clauses (step_clauses ring plan O p) 0 plan)
@@ -76,7 +121,7 @@ parts-all ring plan O h =
     let slot : Slot = record { partition = p; index = i } in
     below-all (slot_step_clauses ring plan O slot) (length (steps_of plan slot)) (λ k lk.
     two-all (is_staged plan (stage ring plan slot k) (steps_of plan slot) k) (orders plan O slot k) _ _ (h.staged slot lp li k lk) (h.ordered slot lp li k lk))))
-    (clauses-all (step_clauses ring plan O p) plan (h.steps p lp)))
+    (clauses-all (step_clauses ring plan O p) plan (λ n s at. none-fails (step_clauses ring plan O p n s) (h.steps p lp n s at))))
 
 abbrev node_at : RingValue → List Planned → Cert → Test → ℕ → List Guard
 node_at ring plan cert O x = node_clauses ring plan cert O (record { 0 = x })
@@ -105,7 +150,7 @@ node-met ring plan cert O h x l =
     let c = parted (covers ring plan cert x) (fews ring cert x) b.1 in
     (a.0, b.0, c.0, c.1)
 
-nodes-met : (ring : RingValue) (plan : List Planned) (cert : Cert) (O : Test) → first_failing (below (node_at ring plan cert O) (length ring.nodes)) ≡ None → Nodes ring plan cert O
+pub nodes-met : (ring : RingValue) (plan : List Planned) (cert : Cert) (O : Test) → first_failing (below (node_at ring plan cert O) (length ring.nodes)) ≡ None → Nodes ring plan cert O
 nodes-met ring plan cert O h = record {
   retired = λ x l n s at. clauses-met (retire_clauses ring plan O x) plan (node-met ring plan cert O h x l).0 n s at;
   chains = λ x l. (node-met ring plan cert O h x l).1;
@@ -128,23 +173,24 @@ nodes-all ring plan cert O h =
 
 -- ---- a step's own clauses
 
-mirror-met : (ring : RingValue) (plan : List Planned) (O : Test) → Suits ring plan → Parts ring plan O → (n : ℕ) (slot : Slot) (x : NodeId) → step_at plan n ≡ Some (Mirror slot x) → (has_left ring plan O n slot x ≡ true) × (has_joined ring plan O n x ≡ true)
-mirror-met ring plan O suits h n slot x at =
+mirror-met : (ring : RingValue) (plan : List Planned) (O : Test) (a : Missed) → Suits ring plan → Parts ring plan O a → (n : ℕ) (slot : Slot) (x : NodeId) → step_at plan n ≡ Some (Mirror slot x) → (a.left ≡ false → has_left ring plan O n slot x ≡ true) × (a.joined ≡ false → has_joined ring plan O n x ≡ true)
+mirror-met ring plan O a suits h n slot x at =
     let w = step-within ring plan suits slot n (Mirror slot x) at (slot-same slot) in
-    two-met (has_left ring plan O n slot x) (has_joined ring plan O n x) (SharedInPlan n) (NotJoined n)
-    (asked-met (slot.partition == slot.partition) ((has_left ring plan O n slot x, SharedInPlan n) ∷ (has_joined ring plan O n x, NotJoined n) ∷ []) (h.steps slot.partition w.0 n (Mirror slot x) at) (same slot.partition))
+    held-two a (has_left ring plan O n slot x) (has_joined ring plan O n x) (SharedInPlan n) (NotJoined n)
+    (held-asked a (slot.partition == slot.partition) ((has_left ring plan O n slot x, SharedInPlan n) ∷ (has_joined ring plan O n x, NotJoined n) ∷ []) (h.steps slot.partition w.0 n (Mirror slot x) at) (same slot.partition))
 
 abbrev reads_enough : RingValue → List ℕ → Bool
 reads_enough ring from = all_different from && nat_le ring.r (length from)
 
-copy-met : (ring : RingValue) (plan : List Planned) (O : Test) → Suits ring plan → Parts ring plan O → (n : ℕ) (slot : Slot) (from : List ℕ) → step_at plan n ≡ Some (Copy slot (Slots from)) → (reads_enough ring from ≡ true) × (is_settled plan O n slot from ≡ true)
-copy-met ring plan O suits h n slot from at =
+copy-met : (ring : RingValue) (plan : List Planned) (O : Test) (a : Missed) → Suits ring plan → Parts ring plan O a → (n : ℕ) (slot : Slot) (from : List ℕ) → step_at plan n ≡ Some (Copy slot (Slots from)) → (a.sources ≡ false → reads_enough ring from ≡ true) × (a.settled ≡ false → is_settled plan O n slot from ≡ true)
+copy-met ring plan O a suits h n slot from at =
     let w = step-within ring plan suits slot n (Copy slot (Slots from)) at (slot-same slot) in
-    two-met (reads_enough ring from) (is_settled plan O n slot from) (BadSource n) (MovingSource n)
-    (asked-met (slot.partition == slot.partition) ((reads_enough ring from, BadSource n) ∷ (is_settled plan O n slot from, MovingSource n) ∷ []) (h.steps slot.partition w.0 n (Copy slot (Slots from)) at) (same slot.partition))
+    held-two a (reads_enough ring from) (is_settled plan O n slot from) (BadSource n) (MovingSource n)
+    (held-asked a (slot.partition == slot.partition) ((reads_enough ring from, BadSource n) ∷ (is_settled plan O n slot from, MovingSource n) ∷ []) (h.steps slot.partition w.0 n (Copy slot (Slots from)) at) (same slot.partition))
 
-retire-met : (ring : RingValue) (plan : List Planned) (O : Test) → Parts ring plan O → (n : ℕ) (x : NodeId) (p : ℕ) → p < ring.q → step_at plan n ≡ Some (Retire x) → has_dropped ring plan O p n x ≡ true
-retire-met ring plan O h n x p l at = (met (has_dropped ring plan O p n x) (RetiredInUse n) None (h.steps p l n (Retire x) at)).0
+retire-met : (ring : RingValue) (plan : List Planned) (O : Test) (a : Missed) → Parts ring plan O a → a.dropped ≡ false → (n : ℕ) (x : NodeId) (p : ℕ) → p < ring.q → step_at plan n ≡ Some (Retire x) → has_dropped ring plan O p n x ≡ true
+retire-met ring plan O a h off n x p l at =
+    held-one a (has_dropped ring plan O p n x) (RetiredInUse n) (and_parts (has_dropped ring plan O p n x || a.dropped) true (h.steps p l n (Retire x) at)).0 off
 
 leaves-joined : (ring : RingValue) (plan : List Planned) (cert : Cert) (O : Test) → Suits ring plan → Nodes ring plan cert O → (n : ℕ) (x : NodeId) → step_at plan n ≡ Some (Retire x) → has_joined ring plan O n x ≡ true
 leaves-joined ring plan cert O suits h n x at =
@@ -162,46 +208,63 @@ covered-met ring plan cert O h x side n l has_it among =
     let none = asked-met (is_among x (parties_on ring plan side n)) ((in_some n (chains_from x.0 side cert.chains), CoverMissing x.0 n) ∷ []) (h.cover x l side has_it n s.0 s.1) among in
     (met (in_some n (chains_from x.0 side cert.chains)) (CoverMissing x.0 n) None none).0
 
-in_order-met : (ring : RingValue) (plan : List Planned) (O : Test) → Suits ring plan → Parts ring plan O → (slot : Slot) (k : ℕ) → suc k < length (steps_of plan slot) → O (get_or (steps_of plan slot) k 0) (get_or (steps_of plan slot) (suc k) 0) ≡ true
-in_order-met ring plan O suits h slot k l =
-    let w = slot-within ring plan suits slot (omega arith) in
-    order-met (λ (i : ℕ). slice_index (steps_of plan slot) i) O k (h.ordered slot w.0 w.1 (suc k) l)
+-- ---- the parts of what a plan must meet, each from its own clauses
 
-meets-met : (ring : RingValue) (plan : List Planned) (cert : Cert) (O : Test) → IsRing ring → Suits ring plan → Parts ring plan O → Nodes ring plan cert O → Meets ring plan (holds O) (λ x side. chains_from x side cert.chains)
-meets-met ring plan cert O is suits h g = record {
+pub turn-met : (ring : RingValue) (plan : List Planned) (O : Test) (a : Missed) → Suits ring plan → Parts ring plan O a → AreInTurn ring plan (holds O)
+turn-met ring plan O a suits h = record {
   suits = suits;
-  staged = λ slot k l.
-      let w = slot-within ring plan suits slot (omega arith) in
-      h.staged slot w.0 w.1 k l;
-  in_order = in_order-met ring plan O suits h;
-  sources = λ n slot from at.
-      let b = and_parts (all_different from) (nat_le ring.r (length from)) (copy-met ring plan O suits h n slot from at).0 in
-      (b.0, leb-true ring.r (length from) b.1);
-  settled = λ n m j slot from at. settled-met plan O n slot from (copy-met ring plan O suits h n slot from at).1 m j;
-  left_first = λ t j slot x at ne owns.
+  staged = λ slot k l. (let w = slot-within ring plan suits slot (omega arith) in h.staged slot w.0 w.1 k l);
+  in_order = λ slot k l. (let w = slot-within ring plan suits slot (omega arith) in order-met (λ (i : ℕ). slice_index (steps_of plan slot) i) O k (h.ordered slot w.0 w.1 (suc k) l));
+}
+
+pub sources-met : (ring : RingValue) (plan : List Planned) (O : Test) (a : Missed) → Suits ring plan → Parts ring plan O a → a.sources ≡ false → ReadEnough ring plan
+sources-met ring plan O a suits h off n slot from at =
+    let b = and_parts (all_different from) (nat_le ring.r (length from)) ((copy-met ring plan O a suits h n slot from at).0 off) in
+    (b.0, leb-true ring.r (length from) b.1)
+
+pub all_settled-met : (ring : RingValue) (plan : List Planned) (O : Test) (a : Missed) → Suits ring plan → Parts ring plan O a → a.settled ≡ false → AreSettled plan (holds O)
+all_settled-met ring plan O a suits h off n m j slot from at = settled-met plan O n slot from ((copy-met ring plan O a suits h n slot from at).1 off) m j
+
+pub all_left-met : (ring : RingValue) (plan : List Planned) (O : Test) (a : Missed) → IsRing ring → Suits ring plan → Parts ring plan O a → a.left ≡ false → HaveLeft ring plan (holds O)
+all_left-met ring plan O a is suits h off = record {
+  first = λ t j slot x at ne owns.
       let w = owner-within ring is (sibling slot j) x owns in
-      left_first-met ring plan O t slot x (mirror-met ring plan O suits h t slot x at).0 j w.1 ne owns;
-  left_later = λ t b j slot x at ne lt before.
+      left_first-met ring plan O t slot x ((mirror-met ring plan O a suits h t slot x at).0 off) j w.1 ne owns;
+  later = λ t b j slot x at ne lt before.
       let w = step-within ring plan suits (sibling slot j) b (Mirror (sibling slot j) x) before (slot-same (sibling slot j)) in
-      left_later-met ring plan O t slot x (mirror-met ring plan O suits h t slot x at).0 j w.1 ne b lt before;
-  joined_first = λ t x out kind. elim kind [
-    | inl m ↦ joined-met ring plan O t x (mirror-met ring plan O suits h t m.0 x m.1).1 out
-    | inr at ↦ joined-met ring plan O t x (leaves-joined ring plan cert O suits g t x at) out
-  ];
+      left_later-met ring plan O t slot x ((mirror-met ring plan O a suits h t slot x at).0 off) j w.1 ne b lt before;
+}
+
+pub members-met : (ring : RingValue) (plan : List Planned) (O : Test) (a : Missed) → IsRing ring → Suits ring plan → Parts ring plan O a → a.joined ≡ false → a.dropped ≡ false → ServeAsMembers ring plan (holds O)
+members-met ring plan O a is suits h joined off = record {
+  joined = λ t slot x at. joined-met ring plan O t x ((mirror-met ring plan O a suits h t slot x at).1 joined);
   dropped_first = λ t slot x at owns.
       let w = owner-within ring is slot x owns in
-      dropped_first-met ring plan O t slot x (retire-met ring plan O h t x slot.partition w.0 at) w.1 owns;
+      dropped_first-met ring plan O t slot x (retire-met ring plan O a h off t x slot.partition w.0 at) w.1 owns;
   dropped_later = λ t b slot x at before.
       let w = step-within ring plan suits slot b (Mirror slot x) before (slot-same slot) in
-      dropped_later-met ring plan O t slot x (retire-met ring plan O h t x slot.partition w.0 at) w.1 b before;
-  covers = λ x side a e.
-      let l = allowance-within ring x side a e in
-      let has_it : has_side ring (record { 0 = x }) side ≡ true = rw e refl in
-      record {
-        few = few-met ring (record { 0 = x }) side (length (chains_from x side cert.chains)) a (g.few (record { 0 = x }) l side) e;
-        linked = (chains-good ring plan cert O g (record { 0 = x }) l side).0.0;
-        covered = λ n among. covered-met ring plan cert O g (record { 0 = x }) side n l has_it among;
-      };
+      dropped_later-met ring plan O t slot x (retire-met ring plan O a h off t x slot.partition w.0 at) w.1 b before;
+}
+
+pub all_covered-met : (ring : RingValue) (plan : List Planned) (cert : Cert) (O : Test) → Nodes ring plan cert O → AreCovered ring plan (holds O) (λ x side. chains_from x side cert.chains)
+all_covered-met ring plan cert O g x side a e =
+    let l = allowance-within ring x side a e in
+    let has_it : has_side ring (record { 0 = x }) side ≡ true = rw e refl in
+    record {
+      few = few-met ring (record { 0 = x }) side (length (chains_from x side cert.chains)) a (g.few (record { 0 = x }) l side) e;
+      linked = (chains-good ring plan cert O g (record { 0 = x }) l side).0.0;
+      covered = λ n among. covered-met ring plan cert O g (record { 0 = x }) side n l has_it among;
+    }
+
+meets-met : (ring : RingValue) (plan : List Planned) (cert : Cert) (O : Test) → IsRing ring → Suits ring plan → Parts ring plan O nothing → Nodes ring plan cert O → Meets ring plan (holds O) (λ x side. chains_from x side cert.chains)
+meets-met ring plan cert O is suits h g = record {
+  in_turn = turn-met ring plan O nothing suits h;
+  sources = sources-met ring plan O nothing suits h refl;
+  settled = all_settled-met ring plan O nothing suits h refl;
+  left = all_left-met ring plan O nothing is suits h refl;
+  members = members-met ring plan O nothing is suits h refl refl;
+  retired = λ t x at. joined-met ring plan O t x (leaves-joined ring plan cert O suits g t x at);
+  covers = all_covered-met ring plan cert O g;
 }
 
 -- ---- where the plan is certified
@@ -211,8 +274,8 @@ step-all ring plan O chains h p n (Join x) at = refl
 step-all ring plan O chains h p n (Mirror slot x) at =
     asked-all (slot.partition == p) ((has_left ring plan O n slot x, SharedInPlan n) ∷ (has_joined ring plan O n x, NotJoined n) ∷ []) (λ _.
     two-all (has_left ring plan O n slot x) (has_joined ring plan O n x) (SharedInPlan n) (NotJoined n)
-    (left-all ring plan O n slot x (λ j l ne owns. h.left_first n j slot x at ne owns) (λ j l ne b lt before. h.left_later n b j slot x at ne lt before))
-    (joined-all ring plan O n x (λ out. h.joined_first n x out (inl (slot, at)))))
+    (left-all ring plan O n slot x (λ j l ne owns. h.left.first n j slot x at ne owns) (λ j l ne b lt before. h.left.later n b j slot x at ne lt before))
+    (joined-all ring plan O n x (h.members.joined n slot x at)))
 step-all ring plan O chains h p n (Copy slot Owner) at = refl
 step-all ring plan O chains h p n (Copy slot (Slots from)) at =
     asked-all (slot.partition == p) ((reads_enough ring from, BadSource n) ∷ (is_settled plan O n slot from, MovingSource n) ∷ []) (λ _.
@@ -224,15 +287,15 @@ step-all ring plan O chains h p n (Switch slot) at = refl
 step-all ring plan O chains h p n (Drop slot x) at = refl
 step-all ring plan O chains h p n (Retire x) at =
     push (has_dropped ring plan O p n x) (RetiredInUse n) None
-    (dropped-all ring plan O p n x (λ s owns. h.dropped_first n s x at owns) (λ b s before. h.dropped_later n b s x at before)) refl
+    (dropped-all ring plan O p n x (λ s owns. h.members.dropped_first n s x at owns) (λ b s before. h.members.dropped_later n b s x at before)) refl
 
-parts-from : (ring : RingValue) (plan : List Planned) (O : Test) (chains : ℕ → Side → List (List ℕ)) → Meets ring plan (holds O) chains → Parts ring plan O
+parts-from : (ring : RingValue) (plan : List Planned) (O : Test) (chains : ℕ → Side → List (List ℕ)) → Meets ring plan (holds O) chains → Parts ring plan O nothing
 parts-from ring plan O chains h = record {
-  staged = λ slot p i k l. h.staged slot k l;
+  staged = λ slot p i k l. h.in_turn.staged slot k l;
   ordered = λ slot p i k l. order-all (λ (i : ℕ). slice_index (steps_of plan slot) i) O k (λ j e.
       let m : suc j < length (steps_of plan slot) = omega arith in
-      rw (← e) (h.in_order slot j m));
-  steps = λ p l n s at. step-all ring plan O chains h p n s at;
+      rw (← e) (h.in_turn.in_order slot j m));
+  steps = λ p l n s at. none-holds nothing (step_clauses ring plan O p n s) (step-all ring plan O chains h p n s at);
 }
 
 retired-all : (ring : RingValue) (plan : List Planned) (O : Test) (chains : ℕ → Side → List (List ℕ)) → Meets ring plan (holds O) chains → (x : NodeId) (n : ℕ) (s : Step) → step_at plan n ≡ Some s → first_failing (retire_clauses ring plan O x n s) ≡ None
@@ -240,7 +303,7 @@ retired-all ring plan O chains h x n s at =
     asked-all (is_retire_of x.0 s) ((has_joined ring plan O n x, NotJoined n) ∷ []) (λ retires.
     let e : s ≡ Retire x = retire-is x s retires in
     let here : step_at plan n ≡ Some (Retire x) = rw e at at in
-    push (has_joined ring plan O n x) (NotJoined n) None (joined-all ring plan O n x (λ out. h.joined_first n x out (inr here))) refl)
+    push (has_joined ring plan O n x) (NotJoined n) None (joined-all ring plan O n x (h.retired n x here)) refl)
 
 -- the chains of a certified plan
 good-from : (ring : RingValue) (plan : List Planned) (cert : Cert) → IsCertified ring plan cert → (x : NodeId) → x.0 < length ring.nodes → AllGood ring plan (ordered_by plan cert) x cert.chains

@@ -20,7 +20,7 @@ use Rattle.plan_check.proofs.Occupied.{node_same, ends_at, InStage, drop_push, f
 use Rattle.plan_stage.proofs.Places.{placed}
 use Rattle.plan_stage.proofs.Truth.{node-is}
 
-leaving_parts : (plan : List Planned) (x : NodeId) (a : Stage) (ss ts : List ℕ) → leaving plan x a (ss ++ ts) ≡ None → (leaving plan x a ss ≡ None) × (leaving plan x (fold (after plan) a ss) ts ≡ None)
+pub leaving_parts : (plan : List Planned) (x : NodeId) (a : Stage) (ss ts : List ℕ) → leaving plan x a (ss ++ ts) ≡ None → (leaving plan x a ss ≡ None) × (leaving plan x (fold (after plan) a ss) ts ≡ None)
 leaving_parts plan x a [] ts h = (refl, h)
 leaving_parts plan x a (s ∷ ss) ts h = by (ends_at plan x a s) h (leaving_parts plan x (after plan a s) ss ts)
   where

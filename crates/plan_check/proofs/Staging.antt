@@ -37,7 +37,7 @@ count_left D n ss out = count_same D (with_number D n) ss (λ m i. elim (eqb_tel
 ])
 
 -- the step of a number, read in two ways
-mapped : (o : Option Planned) (t : Step) → (elim o as (λ _. Option Step) [ Some z ↦ Some z.step | None ↦ None ]) ≡ Some t
+pub mapped : (o : Option Planned) (t : Step) → (elim o as (λ _. Option Step) [ Some z ↦ Some z.step | None ↦ None ]) ≡ Some t
     → option_map (λ (z : Planned). z.step) o ≡ Some t
 mapped None t e = absurd cc
 mapped (Some z) t e = e
@@ -56,7 +56,7 @@ stage_done ring plan k D n t slot c y off at on =
     (ap (step_at plan) p.2 ∙ at) in
     let more : stage ring plan slot (suc p.0) ≡ next (stage ring plan slot p.0) t = ap (stage ring plan slot) (sym (add-one p.0)) ∙ stage-more ring plan slot
     p.0 p.1 ∙ after-next plan (stage ring plan slot p.0) (get_or ss p.0 0) t is in
-    let fit : fits (stage ring plan slot p.0) t ≡ true = sym (fits_at-fits plan (stage ring plan slot p.0) (get_or ss p.0 0) t is) ∙ k.meets.staged slot p.0
+    let fit : fits (stage ring plan slot p.0) t ≡ true = sym (fits_at-fits plan (stage ring plan slot p.0) (get_or ss p.0 0) t is) ∙ k.in_turn.staged slot p.0
     p.1 in (
       ap (stage ring plan slot) e.1 ∙ more ∙ ap (λ (j : ℕ). next (stage ring plan slot j) t) (sym e.0),
       ap (λ (j : ℕ). fits (stage ring plan slot j) t) e.0

@@ -159,7 +159,7 @@ module _ (ring : RingValue) (plan : List Planned) (k : Known ring plan) (w : Wor
       → ⊥
   no_leftover s m z p i among served same =
       let le = (prefix w.done (steps_of plan s) (down ring plan k w.done r.closed s)).within in
-      let good : IsGoodStage (was s) = good-stages ring plan s (λ q f g. k.meets.staged q) p i (count w.done (steps_of plan s)) le in
+      let good : IsGoodStage (was s) = good-stages ring plan s (λ q f g. k.in_turn.staged q) p i (count w.done (steps_of plan s)) le in
       let listed : is_among (record { 0 = z }) (was s).leftovers ≡ true = subst (λ (q : ℕ). is_among (record { 0 = q }) (was s).leftovers ≡ true) (sym same) among in
       elim served [
         | inl e ↦ (let f = subst (λ (q : ℕ). is_among (record { 0 = q }) (was s).leftovers ≡ false) (sym e) good.0 in cc)
@@ -178,7 +178,7 @@ module _ (ring : RingValue) (plan : List Planned) (k : Known ring plan) (w : Wor
   here (Switch t) s at on kept = switched_over s t at on (λ z v e. kept z v (λ q f. absurd cc) e)
   here (Drop t m) s at on kept =
       let d = stage_done ring plan k w.done n (Drop t m) s r.closed y off at on in
-      let i = step-within ring plan k.meets.suits s n (Drop t m) at on in
+      let i = step-within ring plan k.in_turn.suits s n (Drop t m) at on in
       keeping s (still s (ap (λ (c : Stage). c.owner) d.0) (ap (λ (c : Stage). c.mirror) d.0)
       (λ z g v e. kept z v (λ q f h. no_leftover s m z i.0 i.1 d.1 g (h ∙ (let j : m ≡ q = cc in ap (λ (c : NodeId). c.0) (sym j)))) e))
       (mirrors_left plan w.done n s (λ h. ap (λ (q : Option Step). is_some (option_and_then mirror_of q)) at))

@@ -3,6 +3,7 @@ pub mod Safe
 pub mod Sound
 pub mod Certified
 pub mod Headline
+pub mod Kept
 pub mod First
 pub mod Occupies
 pub mod Firm

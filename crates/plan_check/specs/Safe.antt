@@ -9,7 +9,7 @@ use Rattle.ring_table.specs.Value.{RingValue, allowance_of}
 use Rattle.plan_text.specs.declared.step.Source.{Source}
 use Rattle.plan_text.specs.declared.step.Planned.{Planned}
 use Rattle.plan_stage.specs.Parties.{source_slots}
-use Rattle.plan_runs.specs.World.{World, passing_below, is_acked, copy_at, slot_at, stage_now, mirrors, is_in_group}
+use Rattle.plan_runs.specs.World.{World, passing_below, is_acked, copy_at, slot_at, stage_now, is_member_now, mirrors, is_served, is_in_group}
 use Rattle.plan_runs.specs.Versions.{put_slot, IsHeld}
 
 -- of any R different slots of its key's partition one holds the put
@@ -48,8 +48,14 @@ open_copies plan w test = length (passing_below (length plan) (is_open_copy plan
 abbrev pub TransfersAreFew : RingValue → List Planned → World → Type 0
 TransfersAreFew ring plan w = (x : ℕ) (side : Side) (a : ℕ) → allowance_of ring x side ≡ Some a → open_copies plan w (takes_part_now ring plan w x side) ≤ a
 
+-- each slot's owner and mirror are members
+abbrev pub ServersAreMembers : RingValue → List Planned → World → Type 0
+ServersAreMembers ring plan w = (p i x : ℕ) → p < ring.q → i < ring.n → is_served (stage_now ring plan w (slot_at p i)) x ≡ true
+    → is_member_now ring plan w x ≡ true
+
 -- what is promised
 pub record Safe (ring : RingValue) (plan : List Planned) (w : World) : Type 0 where
   pub held : (v : ℕ) → is_acked w v ≡ true → MeetsEveryRead ring plan w v
   pub apart : GroupsAreApart ring plan w
   pub few : TransfersAreFew ring plan w
+  pub members : ServersAreMembers ring plan w

@@ -52,12 +52,8 @@ HaveOnly is_one chains = (n : ℕ) → in_some n chains ≡ true → is_one n �
 abbrev pub is_party_of : RingValue → List Planned → ℕ → Side → ℕ → Bool
 is_party_of ring plan x side n = is_among (record { 0 = x }) (parties_on ring plan side n)
 
--- the step mirrors the node or retires it
-abbrev pub NeedsMember : List Planned → NodeId → ℕ → Type 0
-NeedsMember plan x t = ((slot : Slot) × (step_at plan t ≡ Some (Mirror slot x))) ⊎ (step_at plan t ≡ Some (Retire x))
-
--- what a plan must meet, by an order of its steps and chains for each side of a node
-pub record Meets (ring : RingValue) (plan : List Planned) (O : Order) (chains : ℕ → Side → List (List ℕ)) : Type 0 where
+-- the steps of each slot act in order
+pub record AreInTurn (ring : RingValue) (plan : List Planned) (O : Order) : Type 0 where
   -- its steps are about nodes and slots of the ring
   pub suits : Suits ring plan
   -- each step of a slot fits the stage before it
@@ -65,30 +61,56 @@ pub record Meets (ring : RingValue) (plan : List Planned) (O : Order) (chains : 
   -- and comes after the slot's step before it
   pub in_order : (slot : Slot) (k : ℕ) → suc k < length (steps_of plan slot)
       → O (get_or (steps_of plan slot) k 0) (get_or (steps_of plan slot) (suc k) 0)
-  -- a copy reads its owner, or at least R slots, all different
-  pub sources : (n : ℕ) (slot : Slot) (from : List ℕ) → step_at plan n ≡ Some (Copy slot (Slots from))
-      → (all_different from ≡ true) × (ring.r ≤ length from)
-  -- each switch of a listed slot comes before or after the copy
-  pub settled : (n m j : ℕ) (slot : Slot) (from : List ℕ) → step_at plan n ≡ Some (Copy slot (Slots from)) → has j from ≡ true
-      → step_at plan m ≡ Some (Switch (sibling slot j)) → O m n ⊎ O n m
-  -- a mirrored node has left each other slot of the partition that it served from the start
-  pub left_first : (t j : ℕ) (slot : Slot) (x : NodeId) → step_at plan t ≡ Some (Mirror slot x) → j ≢ slot.index
+
+-- a copy reads its owner, or at least R slots, all different
+abbrev pub ReadEnough : RingValue → List Planned → Type 0
+ReadEnough ring plan = (n : ℕ) (slot : Slot) (from : List ℕ) → step_at plan n ≡ Some (Copy slot (Slots from))
+    → (all_different from ≡ true) × (ring.r ≤ length from)
+
+-- each switch of a listed slot comes before or after the copy
+abbrev pub AreSettled : List Planned → Order → Type 0
+AreSettled plan O = (n m j : ℕ) (slot : Slot) (from : List ℕ) → step_at plan n ≡ Some (Copy slot (Slots from)) → has j from ≡ true
+    → step_at plan m ≡ Some (Switch (sibling slot j)) → O m n ⊎ O n m
+
+-- a mirrored node has left each other slot of the partition
+pub record HaveLeft (ring : RingValue) (plan : List Planned) (O : Order) : Type 0 where
+  -- that it served from the start
+  pub first : (t j : ℕ) (slot : Slot) (x : NodeId) → step_at plan t ≡ Some (Mirror slot x) → j ≢ slot.index
       → owner_of ring (sibling slot j) ≡ Some x → EndsBefore O (first_end ring plan (sibling slot j)) t
-  -- and each that it served from an earlier step on
-  pub left_later : (t b j : ℕ) (slot : Slot) (x : NodeId) → step_at plan t ≡ Some (Mirror slot x) → j ≢ slot.index
+  -- and that it served from an earlier step on
+  pub later : (t b j : ℕ) (slot : Slot) (x : NodeId) → step_at plan t ≡ Some (Mirror slot x) → j ≢ slot.index
       → b < t → step_at plan b ≡ Some (Mirror (sibling slot j) x)
       → EndsBefore O (mirror_end ring plan (sibling slot j) (place_in plan (sibling slot j) b) x) t
-  -- a node that is `out` joins before it is mirrored or retires
-  pub joined_first : (t : ℕ) (x : NodeId) → is_member ring.nodes x ≡ false → NeedsMember plan x t
-      → (j : ℕ) × (step_at plan j ≡ Some (Join x)) × O j t
+
+-- a node that is `out` joins before the step
+abbrev pub JoinsBefore : RingValue → List Planned → Order → ℕ → NodeId → Type 0
+JoinsBefore ring plan O t x = is_member ring.nodes x ≡ false → (j : ℕ) × (step_at plan j ≡ Some (Join x)) × O j t
+
+-- nodes serve slots after they have joined and before they retire
+pub record ServeAsMembers (ring : RingValue) (plan : List Planned) (O : Order) : Type 0 where
+  -- a node joins before it is mirrored
+  pub joined : (t : ℕ) (slot : Slot) (x : NodeId) → step_at plan t ≡ Some (Mirror slot x) → JoinsBefore ring plan O t x
   -- a node that retires has dropped what it held from the start
   pub dropped_first : (t : ℕ) (slot : Slot) (x : NodeId) → step_at plan t ≡ Some (Retire x)
       → owner_of ring slot ≡ Some x → EndsBefore O (first_drop ring plan slot) t
   -- and what it held since it was mirrored
   pub dropped_later : (t b : ℕ) (slot : Slot) (x : NodeId) → step_at plan t ≡ Some (Retire x)
       → step_at plan b ≡ Some (Mirror slot x) → EndsBefore O (mirror_drop plan slot (place_in plan slot b) x) t
-  -- of each side that a declared node's allowance counts at most so many chains have all copies in which it takes part on that side
-  pub covers : (x : ℕ) (side : Side) (a : ℕ) → allowance_of ring x side ≡ Some a → Covers O a (is_party_of ring plan x side) (chains x side)
+
+-- of each side that a declared node's allowance counts at most so many chains have all copies in which it takes part on that side
+abbrev pub AreCovered : RingValue → List Planned → Order → (ℕ → Side → List (List ℕ)) → Type 0
+AreCovered ring plan O chains = (x : ℕ) (side : Side) (a : ℕ) → allowance_of ring x side ≡ Some a → Covers O a (is_party_of ring plan x side) (chains x side)
+
+-- what a plan must meet, by an order of its steps and chains for each side of a node
+pub record Meets (ring : RingValue) (plan : List Planned) (O : Order) (chains : ℕ → Side → List (List ℕ)) : Type 0 where
+  pub in_turn : AreInTurn ring plan O
+  pub sources : ReadEnough ring plan
+  pub settled : AreSettled plan O
+  pub left : HaveLeft ring plan O
+  pub members : ServeAsMembers ring plan O
+  -- a node joins before it retires
+  pub retired : (t : ℕ) (x : NodeId) → step_at plan t ≡ Some (Retire x) → JoinsBefore ring plan O t x
+  pub covers : AreCovered ring plan O chains
 
 -- a plan is sound where it meets this by "before", with some chains
 abbrev pub Sound : RingValue → List Planned → Type 0

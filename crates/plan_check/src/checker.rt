@@ -29,9 +29,9 @@ use std::thread::Threads;
 ///
 /// A plan that is accepted is sound, and so it keeps its promises at every moment of every run of it. For each acknowledged put, any R slots of its
 /// partition include one whose owner or hint keeper holds it or a causal successor. No two slots of a partition share a node, no node has more transfers
-/// open than its allowance, and gets see what was acknowledged before they started. Any other plan is refused by the first clause that does not hold, and
-/// comes back with its ring as it was. So does one for which there was no memory, once all facts are verified. The cost is about that of
-/// reading the texts: of each two steps that a clause compares one comes directly before the other or by a fact, or the check ends.
+/// open than its allowance, each slot's owner and mirror are members, and gets see what was acknowledged before they started. Any other plan is
+/// refused by the first clause that does not hold, and comes back with its ring as it was. So does one for which there was no memory, once all
+/// facts are verified. The cost is about that of reading the texts: of each two steps that a clause compares one comes directly before the other or by a fact, or the check ends.
 pub fn check(alloc: Global, ring: Ring, plan: Plan, cert: &Cert) -> Result<Approved, Turned>
     requires { Suits ring plan }
     ensures same { IfOk result (λ a. (a.ring ≡ ring) × (a.plan ≡ plan)) }

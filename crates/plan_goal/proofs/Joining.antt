@@ -28,7 +28,7 @@ use Rattle.plan_stage.specs.Stage.{is_among}
 use Rattle.plan_stage.specs.Parties.{on_side, target_of, sources_of}
 use Rattle.plan_stage.proofs.Truth.{list_all-all}
 use Rattle.plan_check.specs.Certified.{IsCertified, ordered_by}
-use Rattle.plan_check.specs.Sound.{Order, Meets, NeedsMember, is_party_of}
+use Rattle.plan_check.specs.Sound.{Order, Meets, is_party_of}
 use Rattle.plan_check.proofs.Quorums.{meet}
 use Rattle.plan_goal.specs.Joins.{join_alone, joins_alone, no_claims}
 use Rattle.plan_goal.specs.Proposals.{Makes}
@@ -159,25 +159,28 @@ module _ (ring : RingValue) (nodes : List NodeId) where
   no-retire : (A : Type 0) (t : ℕ) (x : NodeId) → step_at (joins_alone nodes) t ≡ Some (Retire x) → A
   no-retire A t x at = other A t (Retire x) at (λ y e. cc)
 
-  no-need : (A : Type 0) (x : NodeId) (t : ℕ) → NeedsMember (joins_alone nodes) x t → A
-  no-need A x t (inl m) = no-mirror A t m.0 x m.1
-  no-need A x t (inr r) = no-retire A t x r
-
   no-party : (A : Type 0) (x : ℕ) (side : Side) (n : ℕ) → is_party_of ring (joins_alone nodes) x side n ≡ true → A
   no-party A x side n h = absurd (let e = party-none ring nodes x side n in let f : false ≡ true = sym e ∙ h in cc)
 
   joins-meet : PlanSuits ring (joins_alone nodes) → Meets ring (joins_alone nodes) O (λ x side. [])
   joins-meet suits = record {
-    suits = suits;
-    staged = λ slot k l. no-step _ slot k l;
-    in_order = λ slot k l. no-step _ slot (suc k) l;
+    in_turn = record {
+      suits = suits;
+      staged = λ slot k l. no-step _ slot k l;
+      in_order = λ slot k l. no-step _ slot (suc k) l;
+    };
     sources = λ n slot from at. other _ n (Copy slot (Slots from)) at (λ y e. cc);
     settled = λ n m j slot from at has_it s. other _ n (Copy slot (Slots from)) at (λ y e. cc);
-    left_first = λ t j slot x at apart o. no-mirror _ t slot x at;
-    left_later = λ t b j slot x at apart l s. no-mirror _ t slot x at;
-    joined_first = λ t x out h. no-need _ x t h;
-    dropped_first = λ t slot x at o. no-retire _ t x at;
-    dropped_later = λ t b slot x at s. no-retire _ t x at;
+    left = record {
+      first = λ t j slot x at apart o. no-mirror _ t slot x at;
+      later = λ t b j slot x at apart l s. no-mirror _ t slot x at;
+    };
+    members = record {
+      joined = λ t slot x at. no-mirror _ t slot x at;
+      dropped_first = λ t slot x at o. no-retire _ t x at;
+      dropped_later = λ t b slot x at s. no-retire _ t x at;
+    };
+    retired = λ t x at. no-retire _ t x at;
     covers = λ x side a e. record { few = omega arith; linked = tt; covered = λ n h. no-party _ x side n h };
   }
 

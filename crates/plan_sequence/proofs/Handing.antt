@@ -21,7 +21,8 @@ use Rattle.plan_runs.proofs.Lasting.{Extends, names_ended, succeeds_stays}
 use Rattle.plan_runs.proofs.Places.{partition_within}
 use Rattle.plan_check.specs.Firm.{FirmSlots, Holding, IsFirm, IsFirmEnough}
 use Rattle.plan_check.proofs.Apart.{count_zero}
-use Rattle.plan_check.proofs.Entering.{Apart, Inv}
+use Rattle.plan_check.proofs.Apart.{Inv}
+use Rattle.plan_check.proofs.Entering.{Apart}
 use Rattle.plan_check.proofs.Fresh.{SeesPut, Watched}
 use Rattle.plan_check.proofs.Mirrored.{Known}
 use Rattle.plan_check.proofs.Standing.{held_exists, successor_stays}
@@ -85,7 +86,7 @@ in_group_before ring next plan more w o p i x l m (inl (inl e)) = inl (inl (e �
 in_group_before ring next plan more w o p i x l m (inl (inr e)) = absurd (let f : None ≡ Some (record { 0 = x }) = sym (ap (λ a. a.mirror) (opens next more w (slot_at p i))) ∙ e in cc)
 in_group_before ring next plan more w o p i x l m (inr (v, below, h)) = inr (v, (let e = as_many w.puts in omega arith), h)
 
-handed_apart : (ring next : RingValue) (plan more : List Planned) (w : World) → HasNumbers ring next → HasOwners ring plan w next → Apart ring plan w → Apart next more (handed_on w)
+pub handed_apart : (ring next : RingValue) (plan more : List Planned) (w : World) → HasNumbers ring next → HasOwners ring plan w next → Apart ring plan w → Apart next more (handed_on w)
 handed_apart ring next plan more w t o a p i j x l m n ne g h =
     let l' : p < ring.q = (let e = t.q in omega arith) in
     let m' : i < ring.n = (let e = t.n in omega arith) in
@@ -124,7 +125,7 @@ handed_reached ring next plan more w t r = record {
 }
 
 pub handed_inv : (ring next : RingValue) (plan more : List Planned) (w : World) → HasNumbers ring next → HasOwners ring plan w next → Inv ring plan w → Inv next more (handed_on w)
-handed_inv ring next plan more w t o i = record { reached = handed_reached ring next plan more w t i.reached; apart = handed_apart ring next plan more w t o i.apart }
+handed_inv ring next plan more w t o i = record { reached = handed_reached ring next plan more w t i.reached; apart = λ l. handed_apart ring next plan more w t o (i.apart (let e = t.loss in omega arith)) }
 
 -- ---- what is held
 

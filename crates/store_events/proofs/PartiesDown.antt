@@ -231,7 +231,7 @@ module _ (ring : RingValue) (plan : List Planned) (k : Kept) (w : World) (m : Te
   owners_are ready off Owner e suits = (owner_is slot fits.0 ∙ ap (λ (a : Stage). Some a.owner) (own ready off), tt)
   owners_are ready off (Slots from) e suits = listed_owners ring plan k.rows n slot from (λ j h.
       owner_is (sibling slot j) (and_from (nat_lt slot.partition ring.q) (nat_lt j ring.n) (and_parts (nat_lt slot.partition ring.q) (nat_lt slot.index ring.n) fits.0).0 (list_all-met (λ i. nat_lt i ring.n) from suits j h))
-      ∙ ap (λ (y : NodeId). Some y) (owner_same ring plan is_known w.done n (sibling slot j) (reached_of ring plan k w m).closed ready off (λ i s. is_known.meets.settled n i j slot from e h s)))
+      ∙ ap (λ (y : NodeId). Some y) (owner_same ring plan is_known w.done n (sibling slot j) (reached_of ring plan k w m).closed ready off (λ i s. m.approved.sound.1.settled n i j slot from e h s)))
 
   -- the least of its nodes that is down is told by the slots that are kept
   pub party_tested : Ready plan w.done n → w.done n ≡ false → (o : Option Refusal) → o ≡ option_map (λ (x : NodeId). NodeDown x.0) (least_down (is_up_at k.nodes) (party_kept k.rows slot source))

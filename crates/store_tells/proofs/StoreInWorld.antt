@@ -41,7 +41,7 @@ module _ (ring : RingValue) (plan : List Planned) (k : Kept) (w : World) (m : Te
 
   -- the plan suits the ring
   pub suits_of : Suits ring plan
-  suits_of = m.approved.sound.1.suits
+  suits_of = m.approved.sound.1.in_turn.suits
 
   -- an event that is answered prolongs the run
   pub run_on : (u : World) (e : Event) (r : Reply) → answer ring plan w e ≡ Ok (u, r) → (run : List Entry) × IsRun ring plan run u
@@ -68,7 +68,7 @@ module _ (ring : RingValue) (plan : List Planned) (k : Kept) (w : World) (m : Te
   mirror_apart s x y e of same_node =
       let within = within_ring ring s (kept_within ring plan k.rows w s x m.slots e) in
       let now = kept_is ring plan k.rows w s x m.slots e in
-      let good = good-stages ring plan s (λ t q j. m.approved.sound.1.staged t) within.0 within.1 (count w.done (steps_of plan s)) (count_within w.done (steps_of plan s)) in
+      let good = good-stages ring plan s (λ t q j. m.approved.sound.1.in_turn.staged t) within.0 within.1 (count w.done (steps_of plan s)) (count_within w.done (steps_of plan s)) in
       let mirrored : IsGoodMirror (stage_now ring plan w s) (Some y) = subst (λ (o : Option NodeId). IsGoodMirror (stage_now ring plan w s) o) (sym now.mirror ∙ of) good.1 in
       let apart : (y.0 == (stage_now ring plan w s).owner.0) ≡ false = mirrored.0 in
       let one : y.0 ≡ (stage_now ring plan w s).owner.0 = same_node ∙ ap (λ (z : NodeId). z.0) now.owner in
