@@ -283,7 +283,7 @@ With `--format json` an object in one line instead: `answer`, and of a no `name`
 
 Exit status:
   0  the history is a run of the plan
-  1  the plan is refused, or the history is no run of it (`no 70`)
+  1  the plan is refused, or the history is not a run of it (`no 70`)
   2  a text or the command line is refused
   3  out of memory (at an entry too), or an input or output failed";
 
@@ -309,7 +309,7 @@ A plan or a text in FILE that is refused is refused as by `check`, before any en
 
 Exit status:
   0  the history is a run of the plan
-  1  the plan is refused, or the history is no run of it (`no 70`)
+  1  the plan is refused, or the history is not a run of it (`no 70`)
   2  a text or the command line is refused
   3  out of memory (at an entry too), or an input or output failed";
 
@@ -342,11 +342,11 @@ pub(crate) const WHY_STREAMS: &str = "\
 Example: ringplan why examples/node_enters_before_it_left.bundle
 
 Input: a bundle: a ring with a change, or with a plan and its certificate, and perhaps a history.
-Standard output: the line that `ringplan check` prints of a ring, a plan and its certificate, and then words: the lines concerned, with `^` under
-the fault and `-` under what belongs to it, and new lines in place of some of them. New lines are shown only where the checker was asked about the
-bundle with them: `then the checker says yes` where it does.
+Standard output: the line that `ringplan check` prints of a ring, a plan and its certificate. If the plan is refused, the promises that its certificate
+shows all the same. Then words: the lines concerned, with `^` under the fault and `-` under what belongs to it, and new lines in place of some of them.
+New lines are shown only if the checker was asked about the bundle with them: `then the checker says yes` if it does.
 
-Exit status: 0 yes, 1 no plan, one that is refused, or a history that is no run, 2 a text or the command line is refused, 3 memory, input or output";
+Exit status: 0 yes, 1 no plan, one that is refused, or a history that is not a run, 2 a text or the command line is refused, 3 memory, input or output";
 
 pub(crate) const CERT_STREAMS: &str = "\
 Example: ringplan cert examples/no_certificate.bundle -o certified.bundle
@@ -424,7 +424,7 @@ the place of the old one from here on. Steps that are done are in both plans, wi
 it changes bundles, and finds what it holds of a step by the step's kind, partition, slot and node. Standard error: how many slots do not go where
 they were to go, by node, and with --all each of them; or why there is no such plan.
 
-Exit status: 0 printed, 1 no plan, or one that is refused, or no run of it, 2 a text or the command line is refused, 3 memory, input or output";
+Exit status: 0 printed, 1 no plan, or one that is refused, or not a run of it, 2 a text or the command line is refused, 3 memory, input or output";
 
 pub(crate) const WINDOWS_STREAMS: &str = "\
 Example: ringplan windows --rounds 1 examples/plan_replace.bundle

@@ -29,11 +29,11 @@ pub check_no : (bytes : List ℕ) (b : Bundle) (e : Refusal) → whole_text (bun
 check_no bytes b e read is other = (rw (verdict-good bytes b read, is other) refl, tt)
 
 -- a status 0 of a check comes with promises that are kept
-pub yes_of_check : (bytes text : List ℕ) (status : ℕ) → AnswersCheck bytes text status → status ≡ 0 → HasKept bytes
-yes_of_check bytes text status (Ok found, makes, begins) zero =
+pub yes_of_check : (bytes : List ℕ) (b : Bundle) (text : List ℕ) (status : ℕ) → AnswersCheck bytes b text status → status ≡ 0 → HasKept bytes
+yes_of_check bytes b text status (Ok found, lines, makes, adds, begins) zero =
     let b = makes.1.0 in
     (b.ring, b.plan, unbegun (of_plan b makes.1.1 refl refl), makes.1.2)
-yes_of_check bytes text status (Err e, makes, begins) zero = absurd (not_zero _ _ (sym begins.2 ∙ zero))
+yes_of_check bytes b text status (Err e, lines, makes, adds, begins) zero = absurd (not_zero _ _ (sym begins.2 ∙ zero))
 
 -- an approved plan keeps its promises
 pub yes_of_study : (bytes : List ℕ) → HasApproved bytes → HasKept bytes
@@ -50,5 +50,5 @@ status_few (Ok text) = omega arith
 status_few (Err e) = few _ _
 
 -- and so has a check, with words behind its line
-pub few_of_check : (bytes text : List ℕ) (status : ℕ) → AnswersCheck bytes text status → status ≤ 3
-few_of_check bytes text status (found, makes, begins) = subst (λ (s : ℕ). s ≤ 3) (sym begins.2) (status_few found)
+pub few_of_check : (bytes : List ℕ) (b : Bundle) (text : List ℕ) (status : ℕ) → AnswersCheck bytes b text status → status ≤ 3
+few_of_check bytes b text status (found, lines, makes, adds, begins) = subst (λ (s : ℕ). s ≤ 3) (sym begins.2) (status_few found)

@@ -1,5 +1,5 @@
 -- What is said of a bundle's verdict.
-use Rattle.std.specs.Prelude.{◌≡◌, ℕ, List, ◌++◌, Result, Ok}
+use Rattle.std.specs.Prelude.{◌≡◌, ℕ, List, [], ◌++◌, Result, Ok, Err}
 use Rattle.ring_names.specs.declared.refusal.Refusal.{Refusal}
 use Rattle.texts.specs.Left.{whole_text}
 use Rattle.ring_table.specs.Value.{RingValue}
@@ -11,22 +11,28 @@ use Rattle.ring_script.specs.declared.bundle.Kind.TheVariants as kind
 use Rattle.ringplan_jobs.specs.Answers.{output_of, status_of}
 use Rattle.ringplan_jobs.specs.Verdict.{MakesIf}
 use Rattle.ringplan_job.specs.declared.job.Job.TheVariants.{Check}
+use Rattle.ringplan_people.specs.Kept.{SaysKept}
 use Rattle.ringplan_people.specs.Studies.{IsStudyOf}
 
--- the text begins with what was found, and the status is that of it
-abbrev pub BeginsWith : Result (List ℕ) Refusal → List ℕ → ℕ → Type 0
-BeginsWith found text status = (words : List ℕ) × (text ≡ output_of found ++ words) × (status ≡ status_of found)
+-- the text begins with what was found and these lines, and the status is that of what was found
+abbrev pub BeginsWith : Result (List ℕ) Refusal → List ℕ → List ℕ → ℕ → Type 0
+BeginsWith found lines text status = (words : List ℕ) × (text ≡ output_of found ++ lines ++ words) × (status ≡ status_of found)
 
--- the text begins with what a check of the bytes prints, and the status is that of the check
-abbrev pub AnswersCheck : List ℕ → List ℕ → ℕ → Type 0
-AnswersCheck bytes text status = (found : Result (List ℕ) Refusal) × MakesIf Check bytes found × BeginsWith found text status
+-- the lines after what was found of a bundle: none after a yes, and after a refusal which promises the plan keeps
+abbrev pub AddsKept : Bundle → Result (List ℕ) Refusal → List ℕ → Type 0
+AddsKept b (Ok text) lines = lines ≡ []
+AddsKept b (Err refusal) lines = SaysKept b.ring b.plan b.cert lines
+
+-- the text begins with what a check of the bytes prints and these lines, and the status is that of the check
+abbrev pub AnswersCheck : List ℕ → Bundle → List ℕ → ℕ → Type 0
+AnswersCheck bytes b text status = (found : Result (List ℕ) Refusal) × (lines : List ℕ) × MakesIf Check bytes found × AddsKept b found lines × BeginsWith found lines text status
 
 -- the bundle's plan keeps its promises
 abbrev pub HasKept : List ℕ → Type 0
 HasKept bytes = (ring : RingValue) × (plan : List Planned) × IsStudyOf bytes ring plan × KeepsPromises ring plan
 
 -- what is said of a bundle, and why: status 0 comes only where its plan keeps its promises; of the texts of a ring, a plan and a certificate it begins as a
--- check does, with the status of that
+-- check does, with the status of that, and after a refusal says which promises the plan keeps
 pub record IsWhy (bytes text : List ℕ) (status : ℕ) : Type 0 where
   pub yes : status ≡ 0 → HasKept bytes
-  pub check : (b : Bundle) → whole_text (bundle_at kind.Check) bytes ≡ Ok b → AnswersCheck bytes text status
+  pub check : (b : Bundle) → whole_text (bundle_at kind.Check) bytes ≡ Ok b → AnswersCheck bytes b text status

@@ -5,6 +5,7 @@ mod after;
 mod cert;
 mod goal_words;
 mod history_words;
+mod keeping;
 mod layout_words;
 mod object;
 mod painting;

@@ -7,6 +7,7 @@ ghost use Rattle.ringplan_people.specs.Studies.{HasApproved, IsShown};
 
 use crate::goal_words::push_goal_words;
 use crate::history_words::unless_memory;
+use crate::keeping::kept_value;
 use crate::object::{Object, text_value};
 use crate::racks::{is_of_options, push_misfits, racking_of};
 use crate::reporting::goal_status;
@@ -93,7 +94,7 @@ fn refused_answer(object: Object, refusal: &Refusal) -> Result<Answer, Refusal>
     object.answer(status_of(refusal))
 }
 
-// What is stated of a bundle that is refused: the refusal, the words of `why`, the lines at fault, and a mend where there is one.
+// What is stated of a bundle that is refused: the refusal, the words of `why`, the lines at fault, the promises that its plan keeps, and a mend if there is one.
 fn state_refusal(alloc: Global, bytes: &[u8], refusal: &Refusal) -> Result<Answer, Refusal>
     ensures { IfOk result (λ answer. (answer.status ≢ 0) × (answer.status ≤ 3)) }
 {
@@ -104,6 +105,9 @@ fn state_refusal(alloc: Global, bytes: &[u8], refusal: &Refusal) -> Result<Answe
     let mut object = refused_object(alloc, refusal, words)?;
     let lines = said.faults(alloc)?;
     object.put("lines", numbers_value(alloc, lines.as_slice())?)?;
+    if let Some(kept) = kept_value(alloc, bytes)? {
+        object.put("kept", kept)?;
+    }
     if outcome != Outcome::Same {
         object.put("mend", mend_value(alloc, &said, outcome)?)?;
     }

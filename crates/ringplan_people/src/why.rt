@@ -1,16 +1,19 @@
 //! Why a bundle is refused.
 
-ghost use Rattle.std.specs.Prelude.{◌≡◌, ◌≢◌, ◌≤◌, ◌++◌, ◌∷◌, [], Ok, Err, IfOk, IfNone, OnOk, codes};
+ghost use Rattle.std.specs.Prelude.{◌≡◌, ◌≢◌, ◌≤◌, ◌++◌, ◌∷◌, ℕ, List, [], Ok, Err, IfOk, IfNone, OnOk, codes};
 ghost use Rattle.ring_names.specs.declared.refusal.Refusal.TheVariants.{OutOfMemory};
 ghost use Rattle.texts.specs.Left.{whole_text};
+ghost use Rattle.plan_text.specs.Valid.{Suits};
 ghost use Rattle.ring_script.specs.Bundles.{IsOfRing, bundle_at};
 ghost use Rattle.ring_script.specs.declared.bundle.Kind.TheVariants as kind;
 ghost use Rattle.ringplan_jobs.specs.Answers.{texts_of};
 ghost use Rattle.ringplan_jobs.specs.Verdict.{TextsKeepPromises};
+ghost use Rattle.ringplan_people.specs.Kept.{SaysKept};
 ghost use Rattle.ringplan_people.specs.Studies.{HasApproved};
 ghost use Rattle.ringplan_people.specs.Why.{AnswersCheck, BeginsWith, IsWhy};
 
 use crate::history_words::{tell_history, unless_memory};
+use crate::keeping::say_kept;
 use crate::painting::painted;
 use crate::study::{Study, studied, study_change};
 use change_text::{Options, Wanted, read_wanted};
@@ -300,36 +303,38 @@ pub(crate) fn push_accepted(out: &mut Words, found: &Study) {
         out.fill(b",\n  with # lost between", &[], &[ring.loss()]);
     }
     let end =
-        b";\n  no two slots of a partition share a node;\n  no node has more transfers open than its allowance.\n";
+        b";\n  no two slots of a partition share a node;\n  no node has more transfers open than its allowance;\n  each slot's owner and mirror are members.\n";
     out.text(end);
     if found.history.is_some() {
         out.text(b"  The history is a run of it.\n");
     }
 }
 
-// The answer that tells what was found, with words after it.
+// The answer that tells what was found, with these lines and words after it.
 fn answer_with(
     alloc: Global,
     found: Result<Vec<u8>, Refusal>,
+    lines: &[u8],
     words: Words,
     color: Color,
 ) -> Result<Answer, Refusal>
-    ensures { IfOk result (λ a. BeginsWith (texts_of found) a.output.items a.status) }
+    ensures { IfOk result (λ a. BeginsWith (texts_of found) lines.now a.output.items a.status) }
 {
     let words = painted(alloc, words.end()?, color)?;
     let mut answer = answer_of(alloc, found)?;
+    answer.output.extend_from_slice(lines)?;
     answer.output.extend_from_slice(words.as_slice())?;
     Ok(answer)
 }
 
 // The answer to a plan that is accepted.
 fn answer_accepted(alloc: Global, found: &Study, color: Color) -> Result<Answer, Refusal>
-    ensures { IfOk result (λ a. BeginsWith (Ok (codes "yes" ++ 10 ∷ [])) a.output.items a.status) }
+    ensures { IfOk result (λ a. BeginsWith (Ok (codes "yes" ++ 10 ∷ [])) [] a.output.items a.status) }
 {
     let mut words = Words::new(alloc);
     push_accepted(&mut words, found);
     let yes = Vec::from_slice(alloc, b"yes\n")?;
-    answer_with(alloc, Ok(yes), words, color)
+    answer_with(alloc, Ok(yes), b"", words, color)
 }
 
 // The answer to a plan that the checker gave back, read of the bytes with this certificate.
@@ -340,9 +345,13 @@ fn answer_turned(
     cert: &Cert,
     color: Color,
 ) -> Result<Answer, Refusal>
-    ensures { IfOk result (λ a. BeginsWith (Err turned.now.refusal) a.output.items a.status) }
+    requires { Suits turned.now.ring turned.now.plan }
+    ensures { IfOk result (λ a. (lines : List ℕ) × SaysKept turned.now.ring turned.now.plan cert.now lines
+        × BeginsWith (Err turned.now.refusal) lines a.output.items a.status) }
 {
     let refusal = &turned.refusal;
+    unless_memory(*refusal)?;
+    let lines = say_kept(alloc, &turned.ring, &turned.plan, cert)?;
     let mut said = Said::new(alloc);
     let read = Read {
         bytes,
@@ -354,14 +363,15 @@ fn answer_turned(
     let _ = tell_plan(alloc, &mut said, read, refusal)?;
     let mut words = Words::new(alloc);
     let _ = push_said(alloc, &mut words, &said, bytes, refusal)?;
-    answer_with(alloc, Err(*refusal), words, color)
+    words.text(b"  `ringplan-break FILE` looks for a run in which this plan does harm.\n");
+    answer_with(alloc, Err(*refusal), lines.as_slice(), words, color)
 }
 
 // Why a ring, a plan and its certificate, as they were read, are accepted or refused.
 fn why_read(alloc: Global, bytes: &[u8], bundle: Bundle, color: Color) -> Result<Answer, Refusal>
     requires read { whole_text (bundle_at kind.Check) bytes.now ≡ Ok bundle }
     requires parts { IsOfRing bundle }
-    ensures { IfOk result (λ a. AnswersCheck bytes.now a.output.items a.status) }
+    ensures { IfOk result (λ a. AnswersCheck bytes.now bundle a.output.items a.status) }
 {
     let Bundle {
         ring,
@@ -411,7 +421,7 @@ fn why_more(alloc: Global, bytes: &[u8], color: Color) -> Result<Answer, Refusal
         Some(refusal) => Err(refusal),
         None => Ok(Vec::from_slice(alloc, b"yes\n")?),
     };
-    answer_with(alloc, found, words, color)
+    answer_with(alloc, found, b"", words, color)
 }
 
 // Why a bundle whose texts are not those of a ring, a plan and a certificate is accepted or refused.
@@ -430,7 +440,7 @@ fn why_unread(
         Kind::Plan => {
             let mut words = Words::new(alloc);
             push_words_of(alloc, &mut words, bytes, refusal)?;
-            answer_with(alloc, Err(*refusal), words, color)
+            answer_with(alloc, Err(*refusal), b"", words, color)
         }
         Kind::Change | Kind::History => why_more(alloc, bytes, color),
     }

@@ -1,5 +1,7 @@
-use Rattle.std.proofs.Common.{sym, ◌∙◌}
+use Rattle.std.proofs.Common.{◌≡◌, sym, subst, ◌∙◌}
 use Rattle.std.proofs.lemmas.Result.{IfOk-weaker}
+use Rattle.ring_script.specs.declared.bundle.Bundle.{Bundle}
+use Rattle.ringplan_people.specs.Why.{AnswersCheck}
 use Rattle.ringplan_people.proofs.Kept.{both}
 use Rattle.ringplan_people.proofs.Whys.{few_of_check, yes_of_check, yes_of_study}
 use Rattle.ringplan_people.proofs.why.why_bundle.Goals as goal
@@ -7,8 +9,13 @@ use Rattle.ringplan_people.proofs.why.why_bundle.Goals as goal
 pub returns-in-Ok : goal.returns-in-Ok
 returns-in-Ok c =
     record {
-      why = IfOk-weaker c.why_read.result _ _ (λ a is. record { yes = yes_of_check _ _ _ is; check = λ b read. is }) c.why_read.ensures;
-      few = IfOk-weaker c.why_read.result _ _ (λ a is. few_of_check _ _ _ is) c.why_read.ensures;
+      why = IfOk-weaker c.why_read.result _ _ (λ a is. record {
+        yes = yes_of_check c.args.bytes.now c.in-Ok.bundle a.output.items a.status is;
+        check = λ b read. (
+            let e : c.in-Ok.bundle ≡ b = (let f = sym c.in-Ok.ensures.read ∙ read in cc) in
+            subst (λ (z : Bundle). AnswersCheck c.args.bytes.now z a.output.items a.status) e is);
+      }) c.why_read.ensures;
+      few = IfOk-weaker c.why_read.result _ _ (λ a is. few_of_check c.args.bytes.now c.in-Ok.bundle a.output.items a.status is) c.why_read.ensures;
     }
 
 pub returns-in-Err : goal.returns-in-Err
