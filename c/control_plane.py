@@ -1,7 +1,8 @@
 """A control plane that starts no change of a ring without a yes: control_plane.py RING CHANGE
 
-It plans the change, asks the checker about the very bytes that it is going to hand out, and only then writes them to standard output,
-for whoever runs the steps. Anything else than a yes ends it with a line on standard error, and nothing is written.
+It plans the change, asks the checker about the very bytes that it is going to hand out, and only
+then writes them to standard output, for whoever runs the steps. Anything else than a yes ends it
+with a line on standard error, and nothing is written.
 """
 
 import pathlib
@@ -11,7 +12,10 @@ from ringplan import library
 
 
 def approved_plan(ring: bytes, change: bytes) -> bytes:
-    """Returns the ring with a plan and a certificate, to which the checker said yes. Raises RuntimeError where there is none."""
+    """Returns the ring with a plan and a certificate, to which the checker said yes.
+
+    Raises RuntimeError where there is none.
+    """
     planned = library.plan(ring + change)
     if planned.status is not library.Status.DONE:
         raise RuntimeError(f"no plan: {planned.text.decode().strip()}")
@@ -23,7 +27,9 @@ def approved_plan(ring: bytes, change: bytes) -> bytes:
 
 
 def main(paths: list[str]) -> int:
-    """Writes the approved plan of the ring and the change in two files, and returns the exit status."""
+    """Writes the approved plan of the ring and the change in two files, and returns the exit
+    status.
+    """
     ring, change = (pathlib.Path(path).read_bytes() for path in paths)
     try:
         bundle = approved_plan(ring, change)

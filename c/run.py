@@ -1,4 +1,6 @@
-"""run.py COMMAND OPTION.. < bundle: prints and ends as the program does, by the package's `ringplan.library`. For comparing the two."""
+"""run.py COMMAND OPTION.. < bundle: prints and ends as the program does, by the package's
+`ringplan.library`. For comparing the two.
+"""
 
 import sys
 

@@ -1,6 +1,8 @@
 #!/usr/bin/env python3
-"""Writes the table of crates in docs/ARCHITECTURE.md from the comments of crates.txt: docs/crates.py [--compare]. With --compare it writes nothing, and ends with 0 only where the table is
-that of crates.txt."""
+"""Writes the table of crates in docs/ARCHITECTURE.md from the comments of crates.txt:
+docs/crates.py [--compare]. With --compare it writes nothing, and ends with 0 only where the table
+is that of crates.txt.
+"""
 import pathlib
 import sys
 

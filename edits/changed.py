@@ -1,13 +1,19 @@
 #!/usr/bin/env python3
-"""The edits that the prover must refuse, of the crates that changed since their edits were last refused.
+"""The edits that the prover must refuse, of the crates that changed since their edits were last
+refused.
 
     edits/changed.py            names these crates and their edits
-    edits/changed.py lay        puts their edits where `rt ci` and `rt must-fail` look for them: crates/CRATE/must-fail
+    edits/changed.py lay        puts their edits where `rt ci` and `rt must-fail` look for them:
+                                crates/CRATE/must-fail
     edits/changed.py clear      takes them away
-    edits/changed.py record     notes in edits/refused.txt that the edits that are laid were refused: after a gate that passed
+    edits/changed.py record     notes in edits/refused.txt that the edits that are laid were
+                                refused: after a gate that passed
 
-A crate has changed where the sum of its sources, definitions, proofs and edits is another one than edits/refused.txt has. At most EDITS are laid at once,
-since an edit costs some 50 processor seconds with the check of its crate, but for a crate that has more; the crates that are left out are named, and stay due."""
+A crate has changed where the sum of its sources, definitions, proofs and edits is another one than
+edits/refused.txt has. At most EDITS are laid at once, since an edit costs some 50 processor seconds
+with the check of its crate, but for a crate that has more; the crates that are left out are named,
+and stay due.
+"""
 import hashlib
 import shutil
 import sys
@@ -20,10 +26,17 @@ EDITS = 8
 
 def sum_of(crate: str) -> str:
     """The sum of all that the crate's edits are about, and of the edits."""
-    files = [path for part in ("src", "specs", "proofs") for path in (TOP / "crates" / crate / part).rglob("*") if path.is_file()]
+    files = [
+        path
+        for part in ("src", "specs", "proofs")
+        for path in (TOP / "crates" / crate / part).rglob("*")
+        if path.is_file()
+    ]
     total = hashlib.sha256()
     for path in sorted([*files, *(TOP / "edits" / crate).glob("*.edit")]):
-        total.update(f"{path.relative_to(TOP)}\n".encode() + hashlib.sha256(path.read_bytes()).digest())
+        total.update(
+            f"{path.relative_to(TOP)}\n".encode() + hashlib.sha256(path.read_bytes()).digest()
+        )
     return total.hexdigest()[:16]
 
 
@@ -52,7 +65,7 @@ def laid(crate: str) -> Path:
 
 
 def lay() -> None:
-    """Lays the edits of the crates that are due, the least crates first, so that most crates fit."""
+    """Lays the edits of the crates that are due, the least first, so that most crates fit."""
     count = 0
     for crate in sorted(due(), key=lambda crate: (len(edits(crate)), crate)):
         if count and count + len(edits(crate)) > EDITS:

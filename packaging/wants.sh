@@ -1,8 +1,8 @@
 #!/bin/sh
 # Installs the Debian packages that the tests use, where one is missing and the caller is root: in three tries. Else it fails, and its last line names them.
 set -eu
-wanted='chromium dpkg-dev etcd-server faketime fish gcc gdb groff-base iproute2 man-db mypy parallel pkg-config postgresql procps prometheus
-    python3-argcomplete python3-psycopg2 python3-pytest python3-pytest-xdist python3-redis python3-rich python3-typeshed redis-server zsh'
+wanted='black chromium dpkg-dev etcd-server faketime fish flake8 gcc gdb groff-base iproute2 man-db mypy parallel pkg-config postgresql procps
+    prometheus python3-argcomplete python3-psycopg2 python3-pytest python3-pytest-xdist python3-redis python3-rich python3-typeshed redis-server zsh'
 # Sets `missing`.
 look() {
     missing=

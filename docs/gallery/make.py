@@ -1,8 +1,12 @@
 #!/usr/bin/env python3
-"""Makes the pictures of docs/GALLERY.md by `ringplan draw`, from examples and from two larger rings that it writes. It wants the program as it is built.
-With `--compare` it writes nothing, and ends with 1 where a picture is not what `ringplan draw` makes of its bundle. With a folder it writes the bundles of
-the two rings there, and a PNG of each picture by Chromium."""
-import os, subprocess, sys
+"""Makes the pictures of docs/GALLERY.md by `ringplan draw`, from examples and from two larger rings
+that it writes. It wants the program as it is built. With `--compare` it writes nothing, and ends
+with 1 where a picture is not what `ringplan draw` makes of its bundle. With a folder it writes the
+bundles of the two rings there, and a PNG of each picture by Chromium.
+"""
+import os
+import subprocess
+import sys
 
 here = os.path.dirname(os.path.abspath(__file__))
 top = os.path.dirname(os.path.dirname(here))
@@ -12,20 +16,49 @@ PROGRAM = f"{top}/crates/ringplan/out/ringplan"
 def large() -> str:
     """1,024 nodes, 4,096 partitions of 3 slots; 60 nodes leave and 24 join."""
     old, new = [f"s{k:04}" for k in range(1000)], [f"t{k:02}" for k in range(24)]
-    out = ["ring 1", "space 4096", "quorum 3 2 2"] + [f"node {x} 2 in" for x in old] + [f"node {x} 2 out" for x in new]
-    out += [f"slots {p} " + " ".join(old[(p * 7 + i * 131 + p // 143) % 1000] for i in range(3)) for p in range(4096)]
-    out += ["end", "change 1"] + [f"join {x}" for x in new] + [f"leave {x}" for x in old[40:100]] + ["end"]
+    out = (
+        ["ring 1", "space 4096", "quorum 3 2 2"]
+        + [f"node {x} 2 in" for x in old]
+        + [f"node {x} 2 out" for x in new]
+    )
+    out += [
+        f"slots {p} " + " ".join(old[(p * 7 + i * 131 + p // 143) % 1000] for i in range(3))
+        for p in range(4096)
+    ]
+    out += (
+        ["end", "change 1"]
+        + [f"join {x}" for x in new]
+        + [f"leave {x}" for x in old[40:100]]
+        + ["end"]
+    )
     return "\n".join(out) + "\n"
 
 
 def rounds(moves: int) -> str:
     """A slot that goes to and fro between two nodes."""
-    out = ["ring 1", "space 1", "quorum 3 2 2", "node a 4 in", "node b 4 in", "node c 4 in", "node d 4 out", "slots 0 a b c", "end", "plan 1", "join d"]
+    out = [
+        "ring 1",
+        "space 1",
+        "quorum 3 2 2",
+        "node a 4 in",
+        "node b 4 in",
+        "node c 4 in",
+        "node d 4 out",
+        "slots 0 a b c",
+        "end",
+        "plan 1",
+        "join d",
+    ]
     owner, other, last = "a", "d", 0
     copies: list[int] = []
     for k in range(1, 4 * moves, 4):
         mirror = f"mirror 0 0 {other} after 0" + (f" {last}" if last else "")
-        out += [mirror, f"copy 0 0 owner after " + " ".join(map(str, copies[-1:] + [k])), f"switch 0 0 after {k + 1}", f"drop 0 0 {owner} after {k + 2}"]
+        out += [
+            mirror,
+            "copy 0 0 owner after " + " ".join(map(str, copies[-1:] + [k])),
+            f"switch 0 0 after {k + 1}",
+            f"drop 0 0 {owner} after {k + 2}",
+        ]
         copies.append(k + 1)
         last, owner, other = k + 3, other, owner
     chain = " ".join(map(str, copies))
@@ -58,7 +91,9 @@ OPTIONS = {"map64": ["--map"]}
 only_compares = sys.argv[1:] == ["--compare"]
 old = []
 for name, bundle in PICTURES.items():
-    drawn = subprocess.run([PROGRAM, "draw", *OPTIONS.get(name, [])], input=bundle.encode(), capture_output=True)
+    drawn = subprocess.run(
+        [PROGRAM, "draw", *OPTIONS.get(name, [])], input=bundle.encode(), capture_output=True
+    )
     if drawn.returncode:
         sys.exit(f"{name}: {drawn.stdout.decode()}{drawn.stderr.decode()}")
     if only_compares:
@@ -73,7 +108,15 @@ for name, bundle in PICTURES.items():
             text.write(bundle)
         size = drawn.stdout.split(b'width="', 1)[1]
         wide, high = int(size.split(b'"')[0]), int(size.split(b'height="', 1)[1].split(b'"')[0])
-        words = ["chromium", "--headless", "--no-sandbox", "--disable-gpu", f"--window-size={wide},{high}", f"--screenshot={sys.argv[1]}/{name}.png", f"file://{here}/{name}.svg"]
+        words = [
+            "chromium",
+            "--headless",
+            "--no-sandbox",
+            "--disable-gpu",
+            f"--window-size={wide},{high}",
+            f"--screenshot={sys.argv[1]}/{name}.png",
+            f"file://{here}/{name}.svg",
+        ]
         subprocess.run(words, stderr=subprocess.DEVNULL, timeout=120)
 if only_compares:
     print(f"pictures: {len(PICTURES)}, {len(old)} are old {' '.join(old)}")

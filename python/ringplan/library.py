@@ -1,11 +1,14 @@
-"""ringplan's commands as functions: the bytes of a bundle in, what the program prints and its exit status out.
+"""ringplan's commands as functions: the bytes of a bundle in, what the program prints and its exit
+status out.
 
     >>> from ringplan import library
     >>> library.check(open("examples/move_one_slot.bundle", "rb").read())
     Answer(status=<Status.DONE: 0>, text=b'yes\\n', errors='')
 
-Each is a call of the C library in this process, where it is there: the file that the environment's RINGPLAN_LIBRARY names, else what the tree has built or `make install` has installed. Else, and
-where an option names a file, the program `ringplan` runs. Both give the same bytes. Calls may run in any number of threads: ctypes lets go of the interpreter's lock while one runs. A refusal is an
+Each is a call of the C library in this process, where it is there: the file that the environment's
+RINGPLAN_LIBRARY names, else what the tree has built or `make install` has installed. Else, and
+where an option names a file, the program `ringplan` runs. Both give the same bytes. Calls may run
+in any number of threads: ctypes lets go of the interpreter's lock while one runs. A refusal is an
 `Answer` too; `Answer.demand` makes an exception of it.
 """
 
@@ -55,7 +58,9 @@ class Refused(Exception):
     """An answer that is a refusal. Its text is the refusal's line, or the words of the program."""
 
     def __init__(self, answer: Answer) -> None:
-        super().__init__((answer.text.decode(errors="replace") if answer.text else answer.errors).strip())
+        super().__init__(
+            (answer.text.decode(errors="replace") if answer.text else answer.errors).strip()
+        )
         self.answer = answer
 
 
@@ -74,14 +79,19 @@ class Answer(NamedTuple):
 
 
 def places() -> list[pathlib.Path]:
-    """Where the C library may be: in the tree, or where `make install` puts it beside the package."""
+    """Where the C library may be: in the tree, or beside the installed package."""
     here = pathlib.Path(__file__).resolve().parents
-    return [programs.TOP / "crates/ringplan_c/out" / FILE, *([here[3] / FILE] if here[2].name == "python3" else [])]
+    return [
+        programs.TOP / "crates/ringplan_c/out" / FILE,
+        *([here[3] / FILE] if here[2].name == "python3" else []),
+    ]
 
 
 @functools.cache
 def load(named: str | None) -> ctypes.CDLL | None:
-    """The C library that is named; None for the empty name, and where none is named and there is none."""
+    """The C library that is named; None for the empty name, and where none is named and there is
+    none.
+    """
     there = [str(place) for place in places() if place.exists()] if named is None else [named]
     if not there or not there[0]:
         return None
@@ -96,14 +106,18 @@ def load(named: str | None) -> ctypes.CDLL | None:
     return found
 
 
-def by_library(library: ctypes.CDLL, command: str, bundle: bytes, options: Sequence[str] = ()) -> Answer:
+def by_library(
+    library: ctypes.CDLL, command: str, bundle: bytes, options: Sequence[str] = ()
+) -> Answer:
     call = getattr(library, f"ringplan_{command}" if command in JOBS else "ringplan_call")
     call.restype, call.argtypes = ctypes.c_uint8, None
     length, errors, size = ctypes.c_size_t(), ctypes.c_size_t(), ctypes.c_size_t
     given: list[object] = [bundle, size(len(bundle))]
     told, room = [ctypes.byref(length)], LINE
     if command not in JOBS:
-        word, words = os.fsencode(command), b"".join(os.fsencode(option) + b"\0" for option in options)
+        word, words = os.fsencode(command), b"".join(
+            os.fsencode(option) + b"\0" for option in options
+        )
         given = [word, size(len(word)), words, size(len(words)), *given]
         told, room = [*told, ctypes.byref(errors)], max(1 << 16, 4 * len(bundle))
     while True:
@@ -135,7 +149,9 @@ def call_or_run(command: str, bundle: bytes, options: Sequence[str] = ()) -> Ans
 
 
 def check(bundle: bytes) -> Answer:
-    """Of a ring, a plan and its certificate: `yes`, and then the plan keeps its promises, or the first refusal."""
+    """Of a ring, a plan and its certificate: `yes`, and then the plan keeps its promises, or the
+    first refusal.
+    """
     return call_or_run("check", bundle)
 
 
@@ -145,37 +161,54 @@ def plan(bundle: bytes) -> Answer:
 
 
 def play(bundle: bytes) -> Answer:
-    """Of a ring, a plan, its certificate and a script: what each event is answered and the owners at the end, or a refusal."""
+    """Of a ring, a plan, its certificate and a script: what each event is answered and the owners
+    at the end, or a refusal.
+    """
     return call_or_run("play", bundle)
 
 
 def replay(bundle: bytes) -> Answer:
-    """Of a ring, a plan, its certificate and a history: `yes` and the owners at the end, or the first fault."""
+    """Of a ring, a plan, its certificate and a history: `yes` and the owners at the end, or the
+    first fault.
+    """
     return call_or_run("replay", bundle)
 
 
 def migrate(bundle: bytes) -> Answer:
-    """Of a ring, a plan and its certificate: the same in the ring's next format, with nothing checked, or a refusal."""
+    """Of a ring, a plan and its certificate: the same in the ring's next format, with nothing
+    checked, or a refusal.
+    """
     return call_or_run("migrate", bundle)
 
 
 def goal(bundle: bytes, *options: str) -> Answer:
-    """Of a ring and a change or a goal ring: the ring, a plan and its certificate. Options as `--dead`, `b` or `--racks-behind`, `none`."""
+    """Of a ring and a change or a goal ring: the ring, a plan and its certificate.
+
+    Options as `--dead`, `b` or `--racks-behind`, `none`.
+    """
     return call_or_run("goal", bundle, options)
 
 
 def around(bundle: bytes, *options: str) -> Answer:
-    """Another plan around nodes that died in the middle of a change, and the history that goes on by it. Options: `--dead`, `b`, and `--back`."""
+    """Another plan around nodes that died in the middle of a change, and the history that goes on
+    by it. Options: `--dead`, `b`, and `--back`.
+    """
     return call_or_run("around", bundle, options)
 
 
 def why(bundle: bytes, *options: str) -> Answer:
-    """Why a bundle is refused, in words, with lines that may mend it. Options: `--color`, `--format`."""
+    """Why a bundle is refused, in words, with lines that may mend it.
+
+    Options: `--color`, `--format`.
+    """
     return call_or_run("why", bundle, options)
 
 
 def show(bundle: bytes, *options: str) -> Answer:
-    """What the plan does, and with a history how far it has come. Options: `--all`, `--racks-behind`."""
+    """What the plan does, and with a history how far it has come.
+
+    Options: `--all`, `--racks-behind`.
+    """
     return call_or_run("show", bundle, options)
 
 
@@ -185,7 +218,10 @@ def draw(bundle: bytes, *options: str) -> Answer:
 
 
 def steps(bundle: bytes, *options: str) -> Answer:
-    """The plan's steps as lines of JSON, which `ringplan.texts.read_steps` reads. Option: `--moves`."""
+    """The plan's steps as lines of JSON, which `ringplan.texts.read_steps` reads.
+
+    Option: `--moves`.
+    """
     return call_or_run("steps", bundle, options)
 
 
@@ -195,7 +231,10 @@ def cert(bundle: bytes, *options: str) -> Answer:
 
 
 def windows(bundle: bytes, *options: str) -> Answer:
-    """The plan cut into bundles that are done one after the other. Options: `--rounds`, `--only`."""
+    """The plan cut into bundles that are done one after the other.
+
+    Options: `--rounds`, `--only`.
+    """
     return call_or_run("windows", bundle, options)
 
 

@@ -1,15 +1,20 @@
 """Merges the logs of a store's nodes or threads to one history: `ringplan-merge LOG..`.
 
-A log's line is `PLACE EVENT = REPLY`. PLACE is a decimal number. Within a log places never go back. Entries of equal places touch nothing in common; they come
-in the order of the logs on the command line. EVENT and REPLY are spelled as in a history, with any name where a history has the number of a put or a get: 1 to
-255 bytes without spaces and control bytes. The reply of `put` and of `get` gives the name. Names of puts and of gets are two tables.
-A line has at most 263,168 bytes.
+A log's line is `PLACE EVENT = REPLY`. PLACE is a decimal number. Within a log places never go back.
+Entries of equal places touch nothing in common; they come in the order of the logs on the command
+line. EVENT and REPLY are spelled as in a history, with any name where a history has the number of a
+put or a get: 1 to 255 bytes without spaces and control bytes. The reply of `put` and of `get` gives
+the name. Names of puts and of gets are two tables. A line has at most 263,168 bytes.
 
-A line `PLACE` is a mark: no later line of the log has a lesser place. A line `end` closes the log, and no line follows it. With `--follow` logs may grow: at the end
-of one the next line is waited for, up to its `end`. An entry is written once no log can have one that comes before it. Only that log is read for which all others wait.
+A line `PLACE` is a mark: no later line of the log has a lesser place. A line `end` closes the log,
+and no line follows it. With `--follow` logs may grow: at the end of one the next line is waited
+for, up to its `end`. An entry is written once no log can have one that comes before it. Only that
+log is read for which all others wait.
 
-Puts and gets are numbered in the merged order, so no coordinator has to count those of the whole store. Whether the history is right is for `ringplan replay`.
-The logs are read as streams, and no entry is kept. `--number-writers` names the writers of each key `w0`, `w1` and so on: a bundle has at most 1,024 names.
+Puts and gets are numbered in the merged order, so no coordinator has to count those of the whole
+store. Whether the history is right is for `ringplan replay`. The logs are read as streams, and no
+entry is kept. `--number-writers` names the writers of each key `w0`, `w1` and so on: a bundle has
+at most 1,024 names.
 """
 
 from __future__ import annotations
@@ -28,12 +33,16 @@ from collections.abc import Callable, Iterable, Iterator
 from dataclasses import dataclass, field
 from enum import IntEnum
 
+from ringplan import texts
 from ringplan.options import complete
 
-# The most bytes of a line, its end included. A reply lists puts of which none succeeds another, so at most one of each writer, and a bundle has at most 1,024 writers.
-# Each has a name of at most 255 bytes and a space before it. As much as four names is left for the place and the event.
+# The most bytes of a line, its end included. A reply lists puts of which none succeeds another, so
+# at most one of each writer, and a bundle has at most 1,024 writers.
+# Each has a name of at most 255 bytes and a space before it. As much as four names is left for the
+# place and the event.
 LONGEST = (1024 + 4) * 256
-# How long a log that has not grown is left before it is read again, and how long it may hold up the others before standard error says so, in seconds.
+# How long a log that has not grown is left before it is read again, and how long it may hold up the
+# others before standard error says so, in seconds.
 PAUSE, PATIENCE = 0.02, 3.0
 # How many bytes of a log that grows are read at once.
 PIECE = 1 << 18
@@ -58,33 +67,47 @@ class BadLine(Exception):
     """What is wrong with a line of a log."""
 
 
-# A place, the log's number, the line's number, and the line without its place: the empty line for a mark.
+# A place, the log's number, the line's number, and the line without its place: the empty line for a
+# mark.
 Placed = tuple[int, int, int, bytes]
 
-NUMBER, WORD = "(?:0|[1-9][0-9]*)", "[a-z0-9_.:-]"
-NODE, KEY, VALUE, NAME = WORD + "{1,32}", WORD + "{1,64}", "x(?:[0-9a-f]{2}){0,1024}", r"[^\x00-\x20\x7f]{1,255}"
+NUMBER, NODE = f"(?:{texts.NUMBER.pattern})", texts.NAME.pattern
+KEY, VALUE, NAME = "[a-z0-9_.:-]{1,64}", "x(?:[0-9a-f]{2}){0,1024}", r"[^\x00-\x20\x7f]{1,255}"
 REPLY = f" = (?:(ok|ticket {NUMBER} {NUMBER} {NUMBER})|(found|reply)((?: {NAME})*))\n"
 PLACE, MARK = re.compile(b"0|[1-9][0-9]{0,254}"), re.compile(b"(?:0|[1-9][0-9]{0,254})\n")
 PUT = re.compile(f"(put {NODE} {KEY} {VALUE})(?: seen((?: {NAME})+))? = put ({NAME})\n".encode())
 GET = re.compile(f"(get {KEY}) = get ({NAME})\n".encode())
-# Events that name no put and no get, and those that name one, with what follows the name.
-PLAIN = {**dict.fromkeys(("do", "open", "close", "abort"), NUMBER), **dict.fromkeys(("down", "up", "lose"), NODE)}
-PLAIN |= {"chunk": f"{NUMBER} {NUMBER}", "handoff": f"{NODE} {NUMBER} {NUMBER}"}
-OF_A_PUT, OF_A_GET = {"write": f" {NUMBER}", "hint": f" {NUMBER} {NODE}", "ack": ""}, {"read": f" {NUMBER}", "endget": ""}
-OTHERS = {kind.encode(): re.compile(f"({kind} {fields})()(){REPLY}".encode()) for kind, fields in PLAIN.items()}
-OTHERS |= {kind.encode(): re.compile(f"({kind} )({NAME})({rest}){REPLY}".encode()) for kind, rest in (OF_A_PUT | OF_A_GET).items()}
+FIELDS = {"node": NODE, "put": NAME, "get": NAME}
+
+
+def shape_of(event: str) -> re.Pattern[bytes]:
+    """The line of an event: what precedes its name, the name, the rest."""
+    first, *rest = (FIELDS.get(field, NUMBER) for field in texts.EVENTS[event].split())
+    tail = "".join(f" {field}" for field in rest)
+    is_named = event in (*texts.OF_PUTS, *texts.OF_GETS)
+    words = f"({event} )({first})({tail})" if is_named else f"({event} {first}{tail})()()"
+    return re.compile(f"{words}{REPLY}".encode())
+
+
+# The lines of all other events.
+OTHERS = {it.encode(): shape_of(it) for it in texts.EVENTS if it not in ("put", "get")}
 
 
 @dataclass(slots=True)
 class Counter:
-    """The names of one prefix whose digits count up: by the digits less `base` the name's number plus one, or 0 where there is no such name."""
+    """The names of one prefix whose digits count up: by the digits less `base` the name's number
+    plus one, or 0 where there is no such name.
+    """
 
     base: int
     filled: int = 0
     numbers: array[int] = field(default_factory=lambda: array("I"))
 
     def add(self, place: int, number: int) -> bool:
-        """Whether the name is kept here. A place takes 4 bytes, and a name in a dictionary more than 16 times as many."""
+        """Whether the name is kept here.
+
+        A place takes 4 bytes, and a name in a dictionary more than 16 times as many.
+        """
         gap = place - len(self.numbers)
         if place < 0 or place > 16 * self.filled + 64:
             return False
@@ -96,7 +119,10 @@ class Counter:
 
 
 class Names:
-    """The puts, or the gets, by name. A name that is a prefix with a counter's digits is kept in an array, any other in a dictionary."""
+    """The puts, or the gets, by name.
+
+    A name that is a prefix with a counter's digits is kept in an array, any other in a dictionary.
+    """
 
     # An array has numbers below this one.
     MOST = 2**32 - 1
@@ -104,7 +130,12 @@ class Names:
     PREFIXES = 65536
 
     def __init__(self, kind: str) -> None:
-        self.kind, self.count, self.counters, self.others = kind, 0, dict[bytes, Counter](), dict[bytes, int]()
+        self.kind, self.count, self.counters, self.others = (
+            kind,
+            0,
+            dict[bytes, Counter](),
+            dict[bytes, int](),
+        )
 
     @staticmethod
     def split(name: bytes) -> tuple[bytes, int]:
@@ -116,7 +147,11 @@ class Names:
         """The number of a name, or -1."""
         prefix, digits = self.split(name)
         counter = self.counters.get(prefix)
-        if counter is not None and 0 <= digits - counter.base < len(counter.numbers) and (found := counter.numbers[digits - counter.base]):
+        if (
+            counter is not None
+            and 0 <= digits - counter.base < len(counter.numbers)
+            and (found := counter.numbers[digits - counter.base])
+        ):
             return found - 1
         return self.others.get(name, -1)
 
@@ -143,7 +178,9 @@ class Names:
 
     def ascending(self, names: bytes) -> bytes:
         """The numbers of a list of names, each name after a space."""
-        return b"".join(b" %d" % number for number in sorted(map(self.number, names.split(b" ")[1:])))
+        return b"".join(
+            b" %d" % number for number in sorted(map(self.number, names.split(b" ")[1:]))
+        )
 
 
 def shown(name: bytes) -> str:
@@ -157,7 +194,10 @@ class Merger:
         self.puts, self.gets = Names("put"), Names("get")
         # By key the number of each writer, where writers are numbered.
         self.writers: dict[bytes, dict[bytes, int]] | None = {} if numbers_writers else None
-        self.tables = {**dict.fromkeys(map(str.encode, OF_A_PUT), self.puts), **dict.fromkeys(map(str.encode, OF_A_GET), self.gets)}
+        self.tables = {
+            **dict.fromkeys(map(str.encode, texts.OF_PUTS), self.puts),
+            **dict.fromkeys(map(str.encode, texts.OF_GETS), self.gets),
+        }
 
     def entry(self, line: bytes) -> bytes:
         """The history's line of an entry."""
@@ -186,7 +226,10 @@ class Merger:
 
 
 class Growing:
-    """Reads logs that grow. `flush` is called before a log is waited for, so that all that can be written has been written."""
+    """Reads logs that grow.
+
+    `flush` is called before a log is waited for, so that all that can be written has been written.
+    """
 
     def __init__(self) -> None:
         self.flush: Callable[[], object] = lambda: None
@@ -194,8 +237,11 @@ class Growing:
     def piece(self, path: str, handle: int) -> bytes:
         """The next bytes of a log."""
         late = time.monotonic() + PATIENCE
-        # A pipe without bytes is not readable. At the end of a file, or of a pipe that no process writes to, nothing is read.
-        while not (piece := os.read(handle, PIECE) if select.select([handle], [], [], 0)[0] else b""):
+        # A pipe without bytes is not readable. At the end of a file, or of a pipe that no process
+        # writes to, nothing is read.
+        while not (
+            piece := os.read(handle, PIECE) if select.select([handle], [], [], 0)[0] else b""
+        ):
             self.flush()
             if time.monotonic() > late:
                 print(f"ringplan-merge: waits for {path}", file=sys.stderr, flush=True)
@@ -204,7 +250,10 @@ class Growing:
         return piece
 
     def lines(self, path: str) -> Iterator[bytes]:
-        """The lines of a log, without end. A line that has no end yet is kept back, up to one that is too long."""
+        """The lines of a log, without end.
+
+        A line that has no end yet is kept back, up to one that is too long.
+        """
         handle, kept = 0 if path == "-" else os.open(path, os.O_RDONLY | os.O_NONBLOCK), b""
         try:
             while len(kept) <= LONGEST:
@@ -245,11 +294,15 @@ def read_log(number: int, path: str, growing: Growing | None) -> Iterator[Placed
         raise Stop(Status.NO_FILE, f"{path}: {error.strerror}") from error
 
 
-def merge(paths: list[str], growing: Growing | None = None, numbers_writers: bool = False) -> Iterator[bytes]:
+def merge(
+    paths: list[str], growing: Growing | None = None, numbers_writers: bool = False
+) -> Iterator[bytes]:
     """The lines of the history's text."""
     merger = Merger(numbers_writers)
     yield b"history 1\n"
-    for _, number, at, line in heapq.merge(*(read_log(number, path, growing) for number, path in enumerate(paths))):
+    for _, number, at, line in heapq.merge(
+        *(read_log(number, path, growing) for number, path in enumerate(paths))
+    ):
         try:
             if line:
                 yield merger.entry(line)
@@ -259,18 +312,27 @@ def merge(paths: list[str], growing: Growing | None = None, numbers_writers: boo
 
 
 def write(path: str, lines: Iterable[bytes], growing: Growing | None = None) -> None:
-    """Writes lines to a file: all of them, or where one cannot be had or written none. To a device or standard output they are written as they come."""
-    target, is_stream = os.path.realpath(path), path == "-" or os.path.exists(path) and not os.path.isfile(path)
+    """Writes lines to a file: all of them, or where one cannot be had or written none.
+
+    To a device or standard output they are written as they come.
+    """
+    target, is_stream = os.path.realpath(path), path == "-" or os.path.exists(
+        path
+    ) and not os.path.isfile(path)
     part = f"{target}.{os.getpid()}.part"
     try:
-        with open(1, "wb", closefd=False) if path == "-" else open(path if is_stream else part, "wb" if is_stream else "xb") as file:
+        with open(1, "wb", closefd=False) if path == "-" else open(
+            path if is_stream else part, "wb" if is_stream else "xb"
+        ) as file:
             if growing is not None:
                 growing.flush = file.flush
             file.writelines(lines)
         if not is_stream:
             os.replace(part, target)
     except OSError as error:
-        raise Stop(Status.NO_FILE, f"{'standard output' if path == '-' else path}: {error.strerror}") from error
+        raise Stop(
+            Status.NO_FILE, f"{'standard output' if path == '-' else path}: {error.strerror}"
+        ) from error
     finally:
         if not is_stream:
             with contextlib.suppress(OSError):
@@ -278,13 +340,38 @@ def write(path: str, lines: Iterable[bytes], growing: Growing | None = None) -> 
 
 
 def command_line() -> argparse.ArgumentParser:
-    parser = argparse.ArgumentParser(prog="ringplan-merge", description=(__doc__ or "").split("\n")[0])
-    parser.epilog = "Exit status: 0 the history is written, 2 the command line or a log is refused, 3 a file cannot be read or written"
-    lines = f"lines `PLACE EVENT = REPLY` of at most {LONGEST} bytes; a put or a get has a name of 1 to 255 bytes without spaces and control bytes; `-` is standard input"
-    written = "writes to FILE all of the history, or at a fault nothing; standard output may have lines already when a fault is found"
+    parser = argparse.ArgumentParser(
+        prog="ringplan-merge", description=(__doc__ or "").split("\n")[0]
+    )
+    parser.epilog = (
+        "Exit status: 0 the history is written, 2 the command line or a log is refused, 3 a file"
+        " cannot be read or written"
+    )
+    lines = (
+        f"lines `PLACE EVENT = REPLY` of at most {LONGEST} bytes; a put or a get has a name of 1 to"
+        " 255 bytes without spaces and control bytes; `-` is standard input"
+    )
+    written = (
+        "writes to FILE all of the history, or at a fault nothing; standard output may have lines"
+        " already when a fault is found"
+    )
     parser.add_argument("logs", nargs="+", metavar="LOG", help=lines)
-    parser.add_argument("--follow", action="store_true", help="waits for further lines of each log, up to its line `end`; a line `PLACE` says that no lesser place comes")
-    parser.add_argument("--number-writers", action="store_true", help="names the writers of each key w0, w1 and so on, for stores with more than 1,024 writers")
+    parser.add_argument(
+        "--follow",
+        action="store_true",
+        help=(
+            "waits for further lines of each log, up to its line `end`; a line `PLACE` says that no"
+            " lesser place comes"
+        ),
+    )
+    parser.add_argument(
+        "--number-writers",
+        action="store_true",
+        help=(
+            "names the writers of each key w0, w1 and so on, for stores with more than 1,024"
+            " writers"
+        ),
+    )
     parser.add_argument("-o", "--output", default="-", metavar="FILE", help=written)
     return parser
 

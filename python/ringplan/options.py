@@ -9,7 +9,10 @@ import os
 
 
 def complete(parser: argparse.ArgumentParser) -> None:
-    """Answers a shell that asks how to complete a command line, if argcomplete is installed. Then the process ends."""
+    """Answers a shell that asks how to complete a command line, if argcomplete is installed.
+
+    Then the process ends.
+    """
     if "_ARGCOMPLETE" in os.environ:
         with contextlib.suppress(ModuleNotFoundError):
             importlib.import_module("argcomplete").autocomplete(parser)

@@ -1,6 +1,7 @@
 """Where the package finds the program that it runs, and how it asks it.
 
-It is the path that the environment gives under the program's name, else what the tree has built that this file is in, else what the search path has.
+It is the path that the environment gives under the program's name, else what the tree has built
+that this file is in, else what the search path has.
 """
 
 from __future__ import annotations
@@ -16,7 +17,9 @@ NAME = "ringplan"
 
 
 class Answer(NamedTuple):
-    """What the program printed on standard output and on standard error, and the status with which it ended."""
+    """What the program printed on standard output and on standard error, and the status with which
+    it ended.
+    """
 
     text: str
     errors: str
@@ -36,15 +39,24 @@ def find() -> str:
     built = TOP / "crates" / NAME / "out" / NAME
     path = os.environ.get(NAME) or (str(built) if built.exists() else shutil.which(NAME))
     if path is None:
-        raise NoProgram(f"there is no program {NAME}: put it on the search path, or its path into the variable {NAME}")
+        raise NoProgram(
+            f"there is no program {NAME}: put it on the search path, or its path into the variable"
+            f" {NAME}"
+        )
     return path
 
 
 def run(command: str, data: bytes, *options: str) -> subprocess.CompletedProcess[bytes]:
-    """Runs a command on bytes. A program that is not there, or that was killed, is `NoProgram`. A signal from the terminal does not reach it."""
+    """Runs a command on bytes.
+
+    A program that is not there, or that was killed, is `NoProgram`. A signal from the terminal does
+    not reach it.
+    """
     path = find()
     try:
-        ran = subprocess.run([path, command, *options], input=data, capture_output=True, start_new_session=True)
+        ran = subprocess.run(
+            [path, command, *options], input=data, capture_output=True, start_new_session=True
+        )
     except OSError as error:
         raise NoProgram(f"{path} cannot be run: {error.strerror}") from error
     if ran.returncode < 0:

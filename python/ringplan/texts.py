@@ -1,16 +1,19 @@
-"""The texts of docs/FORMATS.md as values: rings, plans, certificates, changes, scripts, histories, and the lines of steps.
+"""The texts of docs/FORMATS.md as values: rings, plans, certificates, changes, scripts, histories,
+and the lines of steps.
 
-A reader takes a text and returns a value. The value's `lines` are the lines that were read, byte for byte. A text that does not read is a `BadText` with the
-number of its line. Limits and meanings are not looked at here: `ringplan` decides whether a ring, a plan or a history is right.
+A reader takes a text and returns a value. The value's `lines` are the lines that were read, byte
+for byte. A text that does not read is a `BadText` with the number of its line. Limits and meanings
+are not looked at here: `ringplan` decides whether a ring, a plan or a history is right.
 """
 
 from __future__ import annotations
 
+import dataclasses
 import hashlib
 import json
 import re
-from collections.abc import Callable, Iterator
-from dataclasses import dataclass, fields
+from collections.abc import Callable, Container, Iterable, Iterator, Mapping
+from dataclasses import dataclass
 from typing import Any, Protocol
 
 NUMBER = re.compile("0|[1-9][0-9]*")
@@ -28,7 +31,8 @@ class BadText(Exception):
 class Text(Protocol):
     """One text of a bundle."""
 
-    def lines(self) -> Iterator[str]: ...
+    def lines(self) -> Iterator[str]:
+        ...
 
 
 class Reader:
@@ -52,7 +56,10 @@ class Reader:
         return self.rows[self.at].split(" ")
 
     def until_end(self) -> Iterator[list[str]]:
-        """The fields of each line before `end`. The line is passed once the caller asks for the next one."""
+        """The fields of each line before `end`.
+
+        The line is passed once the caller asks for the next one.
+        """
         while (fields := self.fields()) != ["end"]:
             yield fields
             self.at += 1
@@ -80,14 +87,20 @@ def joined(*words: object) -> str:
 
 
 def place(key: str, partitions: int) -> tuple[int, int]:
-    """The partition of a key, and its chunk: the first bits of the key's MD5 are the partition, the next four the chunk (section 6.2, strategy 3)."""
+    """The partition of a key, and its chunk: the first bits of the key's MD5 are the partition, the
+    next four the chunk (section 6.2, strategy 3).
+    """
     digest = int(hashlib.md5(key.encode()).hexdigest(), 16) >> (125 - partitions.bit_length())
     return digest >> 4, digest & 15
 
 
 @dataclass(frozen=True)
 class RingNode:
-    """A node of a ring. Its allowances are one number for all its transfers, or two: for those that it takes and for those that it gives."""
+    """A node of a ring.
+
+    Its allowances are one number for all its transfers, or two: for those that it takes and for
+    those that it gives.
+    """
 
     name: str
     allowances: tuple[int, ...]
@@ -96,12 +109,34 @@ class RingNode:
 
 @dataclass(frozen=True)
 class Ring:
-    """A ring: its format, the quorum's numbers, the nodes, and the names of the owners of each partition's slots."""
+    """A ring: its format, the quorum's numbers, the nodes, and the names of the owners of each
+    partition's slots.
+    """
 
     form: int
     quorum: tuple[int, ...]
     nodes: tuple[RingNode, ...]
     rows: tuple[tuple[str, ...], ...]
+
+    @staticmethod
+    def of(
+        names: Iterable[str],
+        members: Container[str],
+        rows: Iterable[Iterable[str]],
+        quorum: Iterable[int],
+        allowances: int | Mapping[str, tuple[int, ...]],
+        form: int = 1,
+    ) -> Ring:
+        """The ring of these nodes and rows. Each node has the same allowance, or its own."""
+        nodes = tuple(
+            RingNode(
+                name,
+                (allowances,) if isinstance(allowances, int) else allowances[name],
+                name in members,
+            )
+            for name in names
+        )
+        return Ring(form, tuple(quorum), nodes, tuple(map(tuple, rows)))
 
     @staticmethod
     def read(reader: Reader, form: int) -> Ring:
@@ -111,9 +146,25 @@ class Ring:
                 space = reader.number(fields[0])
             elif place == 1 and word == "quorum" and len(fields) in (3, 4):
                 quorum = reader.numbers(fields)
-            elif place > 1 and word == "node" and len(fields) in (3, 4) and fields[-1] in ("in", "out") and not rows:
-                nodes.append(RingNode(reader.name(fields[0]), reader.numbers(fields[1:-1]), fields[-1] == "in"))
-            elif place > 1 and word == "slots" and fields and fields[0] == str(len(rows)) and len(fields) == 1 + quorum[0]:
+            elif (
+                place > 1
+                and word == "node"
+                and len(fields) in (3, 4)
+                and fields[-1] in ("in", "out")
+                and not rows
+            ):
+                nodes.append(
+                    RingNode(
+                        reader.name(fields[0]), reader.numbers(fields[1:-1]), fields[-1] == "in"
+                    )
+                )
+            elif (
+                place > 1
+                and word == "slots"
+                and fields
+                and fields[0] == str(len(rows))
+                and len(fields) == 1 + quorum[0]
+            ):
                 rows.append(reader.names(fields[1:]))
             else:
                 raise reader.bad("no such line of a ring")
@@ -155,10 +206,23 @@ class Step:
         if kind == "switch" and len(fields) == 2:
             return Step(kind, reader.number(fields[0]), reader.number(fields[1]), None, None, after)
         if kind in ("mirror", "drop") and len(fields) == 3:
-            return Step(kind, reader.number(fields[0]), reader.number(fields[1]), reader.name(fields[2]), None, after)
-        if kind == "copy" and len(fields) >= 3 and (fields[2:] == ["owner"] or (fields[2] == "slots" and len(fields) > 3)):
+            return Step(
+                kind,
+                reader.number(fields[0]),
+                reader.number(fields[1]),
+                reader.name(fields[2]),
+                None,
+                after,
+            )
+        if (
+            kind == "copy"
+            and len(fields) >= 3
+            and (fields[2:] == ["owner"] or (fields[2] == "slots" and len(fields) > 3))
+        ):
             slots = None if fields[2] == "owner" else reader.numbers(fields[3:])
-            return Step(kind, reader.number(fields[0]), reader.number(fields[1]), None, slots, after)
+            return Step(
+                kind, reader.number(fields[0]), reader.number(fields[1]), None, slots, after
+            )
         raise reader.bad("no such step")
 
     def place(self) -> tuple[int, int]:
@@ -170,10 +234,14 @@ class Step:
     def reads(self) -> list[tuple[int, int]]:
         """The slots that a copy reads, each once."""
         partition, slot = self.place()
-        return [(partition, it) for it in dict.fromkeys((slot,) if self.slots is None else self.slots)]
+        return [
+            (partition, it) for it in dict.fromkeys((slot,) if self.slots is None else self.slots)
+        ]
 
     def line(self) -> str:
-        words: list[object] = [word for word in (self.kind, self.partition, self.slot, self.node) if word is not None]
+        words: list[object] = [
+            word for word in (self.kind, self.partition, self.slot, self.node) if word is not None
+        ]
         if self.kind == "copy":
             words += ["owner"] if self.slots is None else ["slots", *self.slots]
         return joined(*words, *(["after", *self.after] if self.after else []))
@@ -199,7 +267,9 @@ class Plan:
 
 @dataclass(frozen=True)
 class CertificateLine:
-    """A line of a certificate: a fact, or the chain of a node (`chain`, `take` or `give`), with the numbers of its steps."""
+    """A line of a certificate: a fact, or the chain of a node (`chain`, `take` or `give`), with the
+    numbers of its steps.
+    """
 
     kind: str
     node: str | None
@@ -227,7 +297,9 @@ class Certificate:
 
     @staticmethod
     def read(reader: Reader, form: int) -> Certificate:
-        return Certificate(form, tuple(CertificateLine.read(reader, line) for line in reader.until_end()))
+        return Certificate(
+            form, tuple(CertificateLine.read(reader, line) for line in reader.until_end())
+        )
 
     def lines(self) -> Iterator[str]:
         yield f"cert {self.form}"
@@ -246,7 +318,12 @@ class Change:
     def read(reader: Reader, form: int) -> Change:
         joins, leaves = list[str](), list[str]()
         for word, *fields in reader.until_end():
-            if form != 1 or len(fields) != 1 or word not in ("join", "leave") or (word == "join" and leaves):
+            if (
+                form != 1
+                or len(fields) != 1
+                or word not in ("join", "leave")
+                or (word == "join" and leaves)
+            ):
                 raise reader.bad("no such line of a change")
             (joins if word == "join" else leaves).append(reader.name(fields[0]))
         return Change(tuple(joins), tuple(leaves))
@@ -258,7 +335,30 @@ class Change:
         yield "end"
 
 
-EVENTS = "do open chunk close abort put write hint ack get read endget down up handoff lose".split()
+# The fields of each event, after its word.
+EVENTS = {
+    "do": "step",
+    "open": "step",
+    "chunk": "step chunk",
+    "close": "step",
+    "abort": "step",
+    "put": "node key value",
+    "write": "put slot",
+    "hint": "put slot node",
+    "ack": "put",
+    "get": "key",
+    "read": "get slot",
+    "endget": "get",
+    "down": "node",
+    "up": "node",
+    "handoff": "node partition slot",
+    "lose": "node",
+}
+# The events that name a put first, and those that name a get.
+OF_PUTS, OF_GETS = (
+    [event for event, fields in EVENTS.items() if fields.split()[0] == kind]
+    for kind in ("put", "get")
+)
 REPLIES = "ok put ticket get found reply".split()
 
 
@@ -294,7 +394,13 @@ class Entry:
     def read(reader: Reader, words: list[str]) -> Entry:
         cut = words.index("=") if "=" in words else 0
         event, reply = tuple(words[:cut]), tuple(words[cut + 1 :])
-        if not event or event[0] not in EVENTS or not reply or reply[0] not in REPLIES or "" in words:
+        if (
+            not event
+            or event[0] not in EVENTS
+            or not reply
+            or reply[0] not in REPLIES
+            or "" in words
+        ):
             raise reader.bad("no such entry of a history")
         return Entry(event, reply)
 
@@ -343,7 +449,7 @@ def read_texts(bundle: str) -> list[Text]:
     return texts
 
 
-def write_texts(texts: list[Text]) -> str:
+def write_texts(texts: Iterable[Text]) -> str:
     """The bundle of these texts."""
     return "".join(f"{line}\n" for text in texts for line in text.lines())
 
@@ -377,12 +483,28 @@ class StepLine:
     def of(members: dict[str, Any]) -> StepLine:
         found = members.get
         sources, slots = found("from"), found("slots")
-        lists = (None if sources is None else tuple(sources), None if slots is None else tuple(slots))
-        return StepLine(members["step"], members["do"], tuple(members["after"]), found("partition"), found("slot"), found("node"), found("to"), *lists)
+        lists = (
+            None if sources is None else tuple(sources),
+            None if slots is None else tuple(slots),
+        )
+        return StepLine(
+            members["step"],
+            members["do"],
+            tuple(members["after"]),
+            found("partition"),
+            found("slot"),
+            found("node"),
+            found("to"),
+            *lists,
+        )
 
     def members(self) -> dict[str, object]:
         """The line's members by their names."""
-        found = {field.name: value for field in fields(self) if (value := getattr(self, field.name)) is not None}
+        found = {
+            field.name: value
+            for field in dataclasses.fields(self)
+            if (value := getattr(self, field.name)) is not None
+        }
         if "sources" in found:
             found["from"] = found.pop("sources")
         return found

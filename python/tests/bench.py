@@ -23,10 +23,12 @@ TOP = pathlib.Path(__file__).parents[2]
 REPLACE = (TOP / "examples/planned_replace.bundle").read_text()
 KINDS = ("join", "mirror", "copy", "switch", "drop", "retire")
 GROW = (TOP / "examples/planned_grow.bundle").read_text()
-# How long a test waits for what must come, in seconds: long enough for a slow machine that does much else.
+# How long a test waits for what must come, in seconds: long enough for a slow machine that does
+# much else.
 LONG = 240.0
-# A hook: one line for each begin and end of a step in the file `log`; `twice` where another hook of the step runs; `fail` names steps that fail. It goes on once
-# there is no file `hold` with its number.
+# A hook: one line for each begin and end of a step in the file `log`; `twice` where another hook of
+# the step runs; `fail` names steps that fail. It goes on once there is no file `hold` with its
+# number.
 HOOK = """#!{python}
 import fcntl, json, os, sys, time
 line = json.load(sys.stdin)
@@ -34,7 +36,8 @@ step, pause = line["step"], {pause}
 def log(word):
     with open("{folder}/log", "a") as file:
         file.write(word + " " + json.dumps(line) + "\\n")
-running = open("{folder}/running-" + "-".join(str(line.get(name)) for name in ("do", "partition", "slot", "node", "to")), "w")
+names = ("do", "partition", "slot", "node", "to")
+running = open("{folder}/running-" + "-".join(str(line.get(name)) for name in names), "w")
 try:
     fcntl.flock(running, fcntl.LOCK_EX | fcntl.LOCK_NB)
 except BlockingIOError:
@@ -56,7 +59,9 @@ sys.exit(status)
 
 
 def free_port() -> int:
-    """A port of loopback that nobody has, below those that the system gives to connections: while an etcd is down, one of these might take its place."""
+    """A port of loopback that nobody has, below those that the system gives to connections: while
+    an etcd is down, one of these might take its place.
+    """
     while True:
         with socket.socket() as one, contextlib.suppress(OSError):
             one.bind(("127.0.0.1", random.randrange(10000, 32000)))
@@ -64,21 +69,31 @@ def free_port() -> int:
 
 
 def certify(folder: pathlib.Path) -> None:
-    """An authority, and a certificate of it for 127.0.0.1, which servers and clients may use. It has no common name: etcd takes none by its gateway if it has users."""
-    (folder / "extra").write_text("subjectAltName=IP:127.0.0.1\nextendedKeyUsage=serverAuth,clientAuth\n")
+    """An authority, and a certificate of it for 127.0.0.1, which servers and clients may use.
+
+    It has no common name: etcd takes none by its gateway if it has users.
+    """
+    (folder / "extra").write_text(
+        "subjectAltName=IP:127.0.0.1\nextendedKeyUsage=serverAuth,clientAuth\n"
+    )
     new = ["openssl", "req", "-newkey", "rsa:2048", "-nodes", "-days", "2"]
     for words in (
         [*new, "-x509", "-keyout", "authority.pem", "-out", "ca.pem", "-subj", "/CN=authority"],
         [*new, "-keyout", "key.pem", "-out", "request.pem", "-subj", "/O=ringplan"],
-        "openssl x509 -req -in request.pem -CA ca.pem -CAkey authority.pem -CAcreateserial -out cert.pem -days 2 -extfile extra".split(),
+        "openssl x509 -req -in request.pem -CA ca.pem -CAkey authority.pem -CAcreateserial -out"
+        " cert.pem -days 2 -extfile extra".split(),
     ):
         subprocess.run(words, cwd=folder, check=True, capture_output=True)
 
 
 class Server:
-    """An etcd on loopback, of one member or more, over a folder of its own, with options of its own."""
+    """An etcd on loopback, of one member or more, over a folder of its own, with options of its
+    own.
+    """
 
-    def __init__(self, folder: pathlib.Path, *options: str, members: int = 1, is_tls: bool = False) -> None:
+    def __init__(
+        self, folder: pathlib.Path, *options: str, members: int = 1, is_tls: bool = False
+    ) -> None:
         if shutil.which("etcd") is None:
             pytest.skip("etcd is not installed")
         self.folder, self.ports = folder, [free_port() for _ in range(members)]
@@ -87,14 +102,45 @@ class Server:
             certify(folder)
             files = {name: str(folder / f"{name}.pem") for name in ("ca", "cert", "key")}
             self.access = dataclasses.replace(self.access, is_tls=True, **files)
-            options += ("--cert-file", files["cert"], "--key-file", files["key"], "--trusted-ca-file", files["ca"], "--client-cert-auth")
+            options += (
+                "--cert-file",
+                files["cert"],
+                "--key-file",
+                files["key"],
+                "--trusted-ca-file",
+                files["ca"],
+                "--client-cert-auth",
+            )
         peers = [f"http://127.0.0.1:{free_port()}" for _ in range(members)]
         cluster = ",".join(f"m{number}={peer}" for number, peer in enumerate(peers))
         self.words, self.processes = list[list[str]](), dict[int, subprocess.Popen[bytes]]()
         for number, (port, peer) in enumerate(zip(self.ports, peers)):
-            client, data = f"http{'s' * is_tls}://127.0.0.1:{port}", str(folder / (f"data{number}" if number else "data"))
-            words = ["etcd", "--name", f"m{number}", "--data-dir", data, "--listen-client-urls", client, "--advertise-client-urls", client]
-            self.words.append([*words, "--listen-peer-urls", peer, "--initial-advertise-peer-urls", peer, "--initial-cluster", cluster, *options])
+            client, data = f"http{'s' * is_tls}://127.0.0.1:{port}", str(
+                folder / (f"data{number}" if number else "data")
+            )
+            words = [
+                "etcd",
+                "--name",
+                f"m{number}",
+                "--data-dir",
+                data,
+                "--listen-client-urls",
+                client,
+                "--advertise-client-urls",
+                client,
+            ]
+            self.words.append(
+                [
+                    *words,
+                    "--listen-peer-urls",
+                    peer,
+                    "--initial-advertise-peer-urls",
+                    peer,
+                    "--initial-cluster",
+                    cluster,
+                    *options,
+                ]
+            )
         self.start()
 
     def start(self, is_awaited: bool = True) -> None:
@@ -120,10 +166,18 @@ class Server:
 
 
 class Bench:
-    """A folder with a bundle, hooks and their log; a board; the lease of runners, where the board has leases; and the words before each command."""
+    """A folder with a bundle, hooks and their log; a board; the lease of runners, where the board
+    has leases; and the words before each command.
+    """
 
     def __init__(self, folder: pathlib.Path, board: str, prefix: Sequence[str] = ()) -> None:
-        self.folder, self.board, self.lease, self.prefix, self.options = folder, board, "10", prefix, list[str]()
+        self.folder, self.board, self.lease, self.prefix, self.options = (
+            folder,
+            board,
+            "10",
+            prefix,
+            list[str](),
+        )
         self.bundle = folder / "bundle"
         self.bundle.write_text(REPLACE)
         self.hooks(0.0)
@@ -148,15 +202,45 @@ class Bench:
 
     def command(self, *words: str) -> list[str]:
         if words[0] == "apply":
-            words = ("apply", str(self.bundle), "--do", str(self.folder / "hooks"), "--new", "--pause", "0.05", "--lease", self.lease, *words[1:])
-        words = (*words, "--lease", self.lease) if words[0] in ("around", "rest", "leave") else words
-        return [*self.prefix, sys.executable, "-m", "ringplan.run", *words, "--board", self.board, *self.options]
+            words = (
+                "apply",
+                str(self.bundle),
+                "--do",
+                str(self.folder / "hooks"),
+                "--new",
+                "--pause",
+                "0.05",
+                "--lease",
+                self.lease,
+                *words[1:],
+            )
+        words = (
+            (*words, "--lease", self.lease) if words[0] in ("around", "rest", "leave") else words
+        )
+        return [
+            *self.prefix,
+            sys.executable,
+            "-m",
+            "ringplan.run",
+            *words,
+            "--board",
+            self.board,
+            *self.options,
+        ]
 
     def start(self, *words: str, machine: str = "machine") -> subprocess.Popen[str]:
         """Starts a command. Runners of two machines do not see the locks of each other's hooks."""
         place, folder = {**os.environ, "PYTHONPATH": str(TOP / "python")}, self.folder / machine
         folder.mkdir(exist_ok=True)
-        return subprocess.Popen(self.command(*words), stdout=subprocess.PIPE, stderr=subprocess.PIPE, text=True, errors="replace", env=place, cwd=folder)
+        return subprocess.Popen(
+            self.command(*words),
+            stdout=subprocess.PIPE,
+            stderr=subprocess.PIPE,
+            text=True,
+            errors="replace",
+            env=place,
+            cwd=folder,
+        )
 
     def run(self, *words: str) -> tuple[int, str, str]:
         process = self.start(*words)
@@ -166,12 +250,20 @@ class Bench:
     def children(self, process: int) -> list[int]:
         """The processes that a process has started, by any of its threads."""
         with contextlib.suppress(OSError):
-            return [int(word) for path in pathlib.Path(f"/proc/{process}/task").glob("*/children") for word in path.read_text().split()]
+            return [
+                int(word)
+                for path in pathlib.Path(f"/proc/{process}/task").glob("*/children")
+                for word in path.read_text().split()
+            ]
         return []
 
     def supervisors(self, process: subprocess.Popen[str]) -> list[int]:
         """The supervisors of a runner."""
-        return [child for child in self.children(process.pid) if b"supervisor.py" in pathlib.Path(f"/proc/{child}/cmdline").read_bytes()]
+        return [
+            child
+            for child in self.children(process.pid)
+            if b"supervisor.py" in pathlib.Path(f"/proc/{child}/cmdline").read_bytes()
+        ]
 
     def hooks_of(self, process: subprocess.Popen[str]) -> list[int]:
         """The hooks of a runner that run."""

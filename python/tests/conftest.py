@@ -1,4 +1,6 @@
-"""What all tests share: with `--skip-none` a test that would be skipped fails, so that what is not installed is seen."""
+"""What all tests share: with `--skip-none` a test that would be skipped fails, so that what is not
+installed is seen.
+"""
 
 from __future__ import annotations
 

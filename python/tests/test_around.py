@@ -1,4 +1,6 @@
-"""Another plan on a board, around nodes that died: while copies run, with a runner that goes on, and where the command is killed by signal 9."""
+"""Another plan on a board, around nodes that died: while copies run, with a runner that goes on,
+and where the command is killed by signal 9.
+"""
 
 from __future__ import annotations
 
@@ -33,7 +35,9 @@ def server(tmp_path_factory: pytest.TempPathFactory) -> Iterator[Server]:
 
 
 @pytest.fixture
-def address(request: pytest.FixtureRequest, tmp_path: pathlib.Path, monkeypatch: pytest.MonkeyPatch) -> str:
+def address(
+    request: pytest.FixtureRequest, tmp_path: pathlib.Path, monkeypatch: pytest.MonkeyPatch
+) -> str:
     monkeypatch.chdir(tmp_path)
     if request.param == "file":
         return str(tmp_path / "board")
@@ -57,7 +61,10 @@ def record_of(bench: Bench) -> Record:
 
 
 def begin_copies(bench: Bench, lease: str = "100") -> "subprocess.Popen[str]":
-    """A runner whose two workers have a copy open each. Its lease is longer than that of other commands."""
+    """A runner whose two workers have a copy open each.
+
+    Its lease is longer than that of other commands.
+    """
     bench.hold(OTHER, DEAD)
     short, bench.lease = bench.lease, lease
     process = bench.start("apply", "--workers", "2")
@@ -71,9 +78,13 @@ def begin_copies(bench: Bench, lease: str = "100") -> "subprocess.Popen[str]":
 
 
 def program_that(bench: Bench, monkeypatch: pytest.MonkeyPatch, lines: str) -> None:
-    """Lets the commands of the bench run a program that does `around` by these lines of the shell, and all else as the right one does."""
+    """Lets the commands of the bench run a program that does `around` by these lines of the shell,
+    and all else as the right one does.
+    """
     path = bench.folder / "program"
-    path.write_text(f'#!/bin/sh\nreal={programs.find()}\n[ "$1" = around ] || exec $real "$@"\n{lines}\n')
+    path.write_text(
+        f'#!/bin/sh\nreal={programs.find()}\n[ "$1" = around ] || exec $real "$@"\n{lines}\n'
+    )
     path.chmod(0o755)
     monkeypatch.setenv("ringplan", str(path))
 
@@ -84,7 +95,9 @@ def see_the_end(bench: Bench) -> None:
     assert bench.steps("twice") == []
     record = record_of(bench)
     assert programs.ask("replay", record.text()).first() == "yes"
-    assert sum(line.split()[0] in ("do", "close") for line in record.entries) == len(read_steps(record.bundle)[0])
+    assert sum(line.split()[0] in ("do", "close") for line in record.entries) == len(
+        read_steps(record.bundle)[0]
+    )
     assert bench.run("history")[1].splitlines()[1:-1] == record.entries
 
 
@@ -94,25 +107,43 @@ def test_a_runner_goes_on_by_another_plan(bench: Bench) -> None:
     before = record_of(bench)
     marked = before._replace(entries=[*before.entries, "down birch = ok"])
     asked = programs.ask("around", marked.text(), "--dead", "birch")
-    assert bench.run("around", "--dead", "birch") == (Status.DONE, "3 of 16 steps of the new plan are done\n", asked.errors)
+    assert bench.run("around", "--dead", "birch") == (
+        Status.DONE,
+        "3 of 16 steps of the new plan are done\n",
+        asked.errors,
+    )
     after = record_of(bench)
     # The runner may have begun the copy anew by now.
     kept = [line for line in marked.entries if line != f"open {DEAD} = ok"]
-    assert after.text().startswith(asked.text.removesuffix("end\n")) and after.entries[: len(kept)] == kept
+    assert (
+        after.text().startswith(asked.text.removesuffix("end\n"))
+        and after.entries[: len(kept)] == kept
+    )
     # The copy that read birch is told to stop. The other one goes on.
     bench.wait_for("begin", DEAD, 2)
     bench.let_go(DEAD)
     bench.let_go(OTHER)
     out, err = process.communicate(timeout=LONG)
     assert process.returncode == Status.DONE, err
-    assert "the board has another plan: " in out and out.endswith("16 of 16 steps are done, and the judge says yes\n")
-    begun = [(line["step"], line.get("from"), line.get("slots"), line.get("again")) for word, line in bench.log() if word == "begin" and line["do"] == "copy"]
-    assert begun.count((OTHER, ["amber"], None, None)) == 1 and begun.count((DEAD, ["birch"], None, None)) == 1
+    assert "the board has another plan: " in out and out.endswith(
+        "16 of 16 steps are done, and the judge says yes\n"
+    )
+    begun = [
+        (line["step"], line.get("from"), line.get("slots"), line.get("again"))
+        for word, line in bench.log()
+        if word == "begin" and line["do"] == "copy"
+    ]
+    assert (
+        begun.count((OTHER, ["amber"], None, None)) == 1
+        and begun.count((DEAD, ["birch"], None, None)) == 1
+    )
     assert begun.count((DEAD, ["cedar", "dune"], [1, 2], True)) == 1 and len(begun) == 5
     assert len(bench.steps("end")) == 16
     # The bundle with which it began has become the other one; a third one has not.
     see_the_end(bench)
-    bench.bundle.write_text((bench.bundle.read_text()).replace("node amber 2 in", "node amber 3 in"))
+    bench.bundle.write_text(
+        (bench.bundle.read_text()).replace("node amber 2 in", "node amber 3 in")
+    )
     assert bench.run("apply")[0] == Status.OTHER_PLAN
 
 
@@ -136,7 +167,9 @@ def test_a_dead_node_is_down_in_the_history_once_it_is_a_member(bench: Bench) ->
     assert bench.run("apply", "--give-up", "1")[0] == Status.GIVEN_UP
     code, _, err = bench.run("around", "--dead", "elm", "--dead", "birch")
     assert code == Status.DONE, err
-    assert [line for line in record_of(bench).entries if line.startswith("down")] == ["down birch = ok"]
+    assert [line for line in record_of(bench).entries if line.startswith("down")] == [
+        "down birch = ok"
+    ]
     # A second plan finds it down already.
     code, _, err = bench.run("around", "--dead", "birch", "--dead", "elm")
     assert code == Status.DONE, err
@@ -160,7 +193,9 @@ def test_a_change_comes_to_rest(bench: Bench) -> None:
         bench.let_go(step)
     see_the_end(bench)
     steps, _ = read_steps(record_of(bench).bundle)
-    assert [step.do for step in steps].count("copy") == 2 and len(steps) < len(read_steps(before.bundle)[0])
+    assert [step.do for step in steps].count("copy") == 2 and len(steps) < len(
+        read_steps(before.bundle)[0]
+    )
     assert programs.ask("after", record_of(bench).text()).status == 0
 
 
@@ -171,9 +206,15 @@ def test_a_step_that_is_no_copy_is_waited_for(bench: Bench) -> None:
     process = bench.start("apply")
     bench.wait_for("begin", 1)
     around = bench.start("around", "--dead", "birch")
-    assert around.stderr is not None and around.stderr.readline() == "waits until 1 mirror 0 0 elm is done, or failed\n"
+    assert (
+        around.stderr is not None
+        and around.stderr.readline() == "waits until 1 mirror 0 0 elm is done, or failed\n"
+    )
     code, _, err = bench.run("around", "--dead", "birch")
-    assert (code, err) == (Status.OTHER_RUNNER, f"ringplan-run: another `around` works with the board {bench.board}\n")
+    assert (code, err) == (
+        Status.OTHER_RUNNER,
+        f"ringplan-run: another `around` works with the board {bench.board}\n",
+    )
     bench.let_go(1)
     out, err = around.communicate(timeout=LONG)
     assert (around.returncode, out.split(" steps")[0][-5:]) == (Status.DONE, "of 16"), err
@@ -190,21 +231,38 @@ def test_a_step_that_the_new_plan_has_no_more_is_named(bench: Bench) -> None:
     code, _, err = bench.run("around", "--dead", "elm")
     assert code == Status.DONE
     # The runner may have begun other steps since.
-    assert "mirror 0 0 elm: its hook has begun, and no step of the new plan does this" in err.splitlines(), err
+    assert (
+        "mirror 0 0 elm: its hook has begun, and no step of the new plan does this"
+        in err.splitlines()
+    ), err
     assert process.wait(timeout=LONG) == Status.DONE
     see_the_end(bench)
 
 
 @over_both
-def test_where_there_is_no_plan_the_board_stays(bench: Bench, monkeypatch: pytest.MonkeyPatch) -> None:
-    assert bench.run("around", "--dead", "birch")[::2] == (Status.FAULT, f"ringplan-run: there is no board {bench.board}\n")
+def test_where_there_is_no_plan_the_board_stays(
+    bench: Bench, monkeypatch: pytest.MonkeyPatch
+) -> None:
+    assert bench.run("around", "--dead", "birch")[::2] == (
+        Status.FAULT,
+        f"ringplan-run: there is no board {bench.board}\n",
+    )
     process = begin_copies(bench)
     before = record_of(bench)
     code, _, err = bench.run("around", "--dead", "nobody")
-    assert code == Status.FAULT and err.startswith("ringplan-run: the board is as it was:\nno 3 0\n") and "no such node" in err, err
-    program_that(bench, monkeypatch, "echo no 28\necho refused: no other plan was found >&2\nexit 1")
+    assert (
+        code == Status.FAULT
+        and err.startswith("ringplan-run: the board is as it was:\nno 3 0\n")
+        and "no such node" in err
+    ), err
+    program_that(
+        bench, monkeypatch, "echo no 28\necho refused: no other plan was found >&2\nexit 1"
+    )
     code, _, err = bench.run("around", "--dead", "birch")
-    assert (code, err) == (Status.REFUSED, "ringplan-run: the board is as it was:\nno 28\nrefused: no other plan was found\n")
+    assert (code, err) == (
+        Status.REFUSED,
+        "ringplan-run: the board is as it was:\nno 28\nrefused: no other plan was found\n",
+    )
     assert record_of(bench) == before
     for step in (OTHER, DEAD):
         bench.let_go(step)
@@ -213,7 +271,9 @@ def test_where_there_is_no_plan_the_board_stays(bench: Bench, monkeypatch: pytes
 
 
 @over_both
-def test_killed_after_it_asked_nothing_is_changed(bench: Bench, monkeypatch: pytest.MonkeyPatch) -> None:
+def test_killed_after_it_asked_nothing_is_changed(
+    bench: Bench, monkeypatch: pytest.MonkeyPatch
+) -> None:
     process = begin_copies(bench)
     before = record_of(bench)
     with monkeypatch.context() as patch:
@@ -228,7 +288,9 @@ def test_killed_after_it_asked_nothing_is_changed(bench: Bench, monkeypatch: pyt
         bench.wait_for("end", OTHER)
         time.sleep(0.5)
         assert sorted(map(str, bench.steps("begin"))) == ["0", "1", "2", "5", "6"]
-        (asking,) = pathlib.Path(f"/proc/{around.pid}/task/{around.pid}/children").read_text().split()
+        (asking,) = (
+            pathlib.Path(f"/proc/{around.pid}/task/{around.pid}/children").read_text().split()
+        )
         around.kill()
         subprocess.run(["kill", "-9", asking], check=True)
         around.communicate()
@@ -282,7 +344,9 @@ def see_swap(address: str) -> None:
     edition, other = board.record().edition, open_board(address)
     with other.pausing():
         assert board.claim("w", edition, names) is None
-        with pytest.raises(Stop, match="another `around` works with"), open_board(address).pausing():
+        with pytest.raises(Stop, match="another `around` works with"), open_board(
+            address
+        ).pausing():
             pass
         known = other.record()
         board.note(one, [Note("chunk", 4)])
@@ -290,8 +354,18 @@ def see_swap(address: str) -> None:
         assert swap(other, "--dead", "birch")
     assert board.claim("w", edition, names) is None
     record = board.record()
-    assert record.entries == ["do 0 = ok", "do 1 = ok", "do 5 = ok", "open 2 = ok", "chunk 2 3 = ok", "chunk 2 4 = ok"]
-    assert programs.ask("replay", record.text()).first() == "yes" and "copy 1 0 slots 1 2" in record.bundle
+    assert record.entries == [
+        "do 0 = ok",
+        "do 1 = ok",
+        "do 5 = ok",
+        "open 2 = ok",
+        "chunk 2 3 = ok",
+        "chunk 2 4 = ok",
+    ]
+    assert (
+        programs.ask("replay", record.text()).first() == "yes"
+        and "copy 1 0 slots 1 2" in record.bundle
+    )
     # A claim of the copy that is open goes on, and the one of the copy that begins anew ends.
     until = time.monotonic() + LONG
     while board.until(two) > now():
@@ -300,12 +374,24 @@ def see_swap(address: str) -> None:
     with pytest.raises(ClaimEnded):
         board.note(two, [Note("abort")])
     assert board.until(one) > now()
-    board.note(one, [*(Note("chunk", chunk) for chunk in range(16) if chunk not in (3, 4)), Note("close")], is_done=True)
+    board.note(
+        one,
+        [*(Note("chunk", chunk) for chunk in range(16) if chunk not in (3, 4)), Note("close")],
+        is_done=True,
+    )
     again = claim_of(board, "w3", [names[DEAD]])
-    assert isinstance(again, Claim) and (again.is_again, again.is_open, again.marks) == (True, False, frozenset())
+    assert isinstance(again, Claim) and (again.is_again, again.is_open, again.marks) == (
+        True,
+        False,
+        frozenset(),
+    )
     edition, states = board.states()
     assert edition != known.edition and [state.number for state in states] == list(range(16))
-    assert {state.number: state.tries.failures for state in states if state.is_begun and not state.is_done} == {3: 0, 6: 0}
+    assert {
+        state.number: state.tries.failures
+        for state in states
+        if state.is_begun and not state.is_done
+    } == {3: 0, 6: 0}
     assert isinstance(claim_of(board, "w", [names[3]]), Claim)
     # A board that has the plan, and had the other one.
     board.end()
@@ -323,7 +409,9 @@ def test_a_plan_takes_the_place_of_another(bench: Bench) -> None:
 
 @over_etcd
 @pytest.mark.parametrize("what", ["before", "after"])
-def test_a_plan_takes_the_place_of_another_whichever_answer_is_lost(bench: Bench, what: str, monkeypatch: pytest.MonkeyPatch) -> None:
+def test_a_plan_takes_the_place_of_another_whichever_answer_is_lost(
+    bench: Bench, what: str, monkeypatch: pytest.MonkeyPatch
+) -> None:
     for bound, value in (("PIECE", 200), ("WRITTEN", 2), ("PAGE", 3)):
         monkeypatch.setattr(etcd, bound, value)
     for number in itertools.count():
@@ -337,7 +425,9 @@ def test_a_plan_takes_the_place_of_another_whichever_answer_is_lost(bench: Bench
 
 
 @over_etcd
-def test_a_plan_takes_the_place_of_another_where_answers_are_lost(bench: Bench, monkeypatch: pytest.MonkeyPatch) -> None:
+def test_a_plan_takes_the_place_of_another_where_answers_are_lost(
+    bench: Bench, monkeypatch: pytest.MonkeyPatch
+) -> None:
     lost = lose_answers(monkeypatch, at_random(3))
     see_swap(bench.board)
     assert lost["before"] > 9 and lost["after"] > 9

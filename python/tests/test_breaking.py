@@ -1,5 +1,5 @@
-"""What refused plans break: kinds of harm, scripts that the program reads, plans that keep their promises, input that is not a plan, and the judge of
-scripts.
+"""What refused plans break: kinds of harm, scripts that the program reads, plans that keep their
+promises, input that is not a plan, and the judge of scripts.
 """
 
 from __future__ import annotations
@@ -19,15 +19,27 @@ from ringplan.texts import Script, read_plan, read_texts
 
 TOP = pathlib.Path(__file__).parents[2]
 CASES = TOP / "crates/tests_cases/data"
-LOST = "broken: an acknowledged put of k0 is not at slots 1 and 2 of partition 0, and a get may read only these"
+LOST = (
+    "broken: an acknowledged put of k0 is not at slots 1 and 2 of partition 0, and a get may read"
+    " only these"
+)
 BROKEN = {
     "too_few_sources": ("no 23 2", LOST),
     "switch_without_copy": ("no 21 2", LOST),
     "copy_out_of_order": ("no 22 2", LOST),
-    "node_enters_before_it_left": ("no 25 8", "broken: d serves slots 1 and 2 of partition 0 at once"),
+    "node_enters_before_it_left": (
+        "no 25 8",
+        "broken: d serves slots 1 and 2 of partition 0 at once",
+    ),
     "more_chains_than_allowance": ("no 34 1", "broken: b has 2 transfers open, and it bears 1"),
-    "more_give_chains_than_allowance": ("no 34 1", "broken: b has 2 transfers from it open, and it bears 1"),
-    "more_take_chains_than_allowance": ("no 34 3", "broken: d has 2 transfers to it open, and it bears 1"),
+    "more_give_chains_than_allowance": (
+        "no 34 1",
+        "broken: b has 2 transfers from it open, and it bears 1",
+    ),
+    "more_take_chains_than_allowance": (
+        "no 34 3",
+        "broken: d has 2 transfers to it open, and it bears 1",
+    ),
     "retired_in_use": ("no 27 0", "broken: b serves slot 1 of partition 0, and is not a member"),
 }
 
@@ -68,7 +80,12 @@ def test_a_lost_put_is_told_line_by_line() -> None:
 
 
 def test_the_script_ends_with_a_get_of_the_slots() -> None:
-    assert script_of(ask("too_few_sources")[1])[-4:] == [("get", "k0"), ("read", "0", "1"), ("read", "0", "2"), ("endget", "0")]
+    assert script_of(ask("too_few_sources")[1])[-4:] == [
+        ("get", "k0"),
+        ("read", "0", "1"),
+        ("read", "0", "2"),
+        ("endget", "0"),
+    ]
 
 
 @pytest.mark.parametrize("name", ["moving_source", "node_that_has_not_joined"])
@@ -81,7 +98,11 @@ def test_a_refused_plan_without_harm(name: str) -> None:
 @pytest.mark.parametrize("name", ["copy_in_no_chain", "fact_that_skips_a_step", "chain_backwards"])
 def test_a_plan_that_lacks_only_a_certificate(name: str) -> None:
     words, bundle, status = ask(name)
-    assert words.split("\n")[1].startswith("unbroken: the plan keeps its promises; `ringplan cert` ") and not bundle and status == 1
+    assert (
+        words.split("\n")[1].startswith("unbroken: the plan keeps its promises; `ringplan cert` ")
+        and not bundle
+        and status == 1
+    )
     certified = programs.ask("cert", (CASES / f"{name}.bundle").read_text()).text
     assert programs.ask("check", certified).text == "yes\n"
 
@@ -91,21 +112,35 @@ def test_an_accepted_plan_has_no_script() -> None:
 
 
 # A move of a slot, with one dependency that is left out: the move's steps, and what breaks.
-RING = "ring {form}\nspace 1\nquorum {quorum}\nnode a 4 in\nnode b 4 in\nnode c 4 in\nnode d 4 out\nslots 0 a b c\nend\n"
-MOVE = "plan 1\njoin d\nmirror 0 1 d after 0\ncopy 0 1 {sources} after 1\nswitch 0 1{switch}\nend\ncert {form}\nend\n"
+RING = (
+    "ring {form}\nspace 1\nquorum {quorum}\nnode a 4 in\nnode b 4 in\nnode c 4 in\nnode d 4"
+    " out\nslots 0 a b c\nend\n"
+)
+MOVE = (
+    "plan 1\njoin d\nmirror 0 1 d after 0\ncopy 0 1 {sources} after 1\nswitch 0"
+    " 1{switch}\nend\ncert {form}\nend\n"
+)
 
 
-def moved(quorum: str = "3 2 2", sources: str = "owner", switch: str = " after 2", form: int = 1) -> str:
-    return RING.format(form=form, quorum=quorum) + MOVE.format(sources=sources, switch=switch, form=min(form, 2))
+def moved(
+    quorum: str = "3 2 2", sources: str = "owner", switch: str = " after 2", form: int = 1
+) -> str:
+    return RING.format(form=form, quorum=quorum) + MOVE.format(
+        sources=sources, switch=switch, form=min(form, 2)
+    )
 
 
 @pytest.mark.parametrize(
     ("bundle", "words"),
     [
-        # The switch does not wait for the copy: it is done first, and the put is lost. By the count the slot's owner stays, so only the order is broken.
+        # The switch does not wait for the copy: it is done first, and the put is lost. By the count
+        # the slot's owner stays, so only the order is broken.
         (moved(switch=" after 1"), "broken: step 3 is done before step 2"),
         # A copy of one slot whose node lost its store.
-        (moved("3 2 3 1", "slots 0", form=3), "broken: an acknowledged put of k0 is not at slots 0 and 1 of partition 0"),
+        (
+            moved("3 2 3 1", "slots 0", form=3),
+            "broken: an acknowledged put of k0 is not at slots 0 and 1 of partition 0",
+        ),
         # Quorums that bear one bad move.
         (moved("3 2 3", "slots 0"), "unbroken: no run was found"),
     ],
@@ -122,7 +157,13 @@ def test_moves_of_one_slot(bundle: str, words: str) -> None:
 
 def command(*words: str, given: bytes = b"") -> tuple[str, str, int]:
     environment = {**os.environ, "PYTHONPATH": str(TOP / "python")}
-    ran = subprocess.run([sys.executable, "-m", "ringplan.breaks", *words], input=given, capture_output=True, env=environment, cwd=TOP)
+    ran = subprocess.run(
+        [sys.executable, "-m", "ringplan.breaks", *words],
+        input=given,
+        capture_output=True,
+        env=environment,
+        cwd=TOP,
+    )
     return ran.stdout.decode(), ran.stderr.decode(), ran.returncode
 
 
@@ -138,7 +179,9 @@ def test_without_a_run_a_reader_of_the_script_gets_nothing() -> None:
     assert command("--script", str(CASES / "moving_source.bundle")) == ("", words, 1)
 
 
-@pytest.mark.parametrize("given", [b"", b"ring 1\n", b"\xff\xfe\n", (CASES / "move_one_slot.bundle").read_bytes()[:-5]])
+@pytest.mark.parametrize(
+    "given", [b"", b"ring 1\n", b"\xff\xfe\n", (CASES / "move_one_slot.bundle").read_bytes()[:-5]]
+)
 def test_input_that_is_no_plan(given: bytes) -> None:
     try:
         wanted = programs.run("check", given)
@@ -149,7 +192,11 @@ def test_input_that_is_no_plan(given: bytes) -> None:
 
 
 def test_a_file_that_is_not_there() -> None:
-    assert command("nowhere") == ("", "ringplan-break: [Errno 2] No such file or directory: 'nowhere'\n", 3)
+    assert command("nowhere") == (
+        "",
+        "ringplan-break: [Errno 2] No such file or directory: 'nowhere'\n",
+        3,
+    )
 
 
 HARMS: list[tuple[str, Harm]] = [
@@ -166,25 +213,62 @@ def test_the_judge_needs_each_event(name: str, harm: Harm) -> None:
     frame = Frame(*read_plan(bundle))
     script = [event for event in script_of(bundle) if event[0] not in ("get", "read", "endget")]
     assert harm_words(harm) in words and shows(frame, script, harm)
-    assert not [place for place in range(len(script)) if shows(frame, script[:place] + script[place + 1 :], harm)]
+    assert not [
+        place
+        for place in range(len(script))
+        if shows(frame, script[:place] + script[place + 1 :], harm)
+    ]
 
 
 def test_the_judge_refuses_what_is_not_so() -> None:
     bundle = ask("too_few_sources")[1]
     frame, script = Frame(*read_plan(bundle)), script_of(bundle)[:-4]
-    others: list[Harm] = [Lost("k0", 0, (0, 1)), Lost("k0", 0, (1,)), Lost("k0", 1, (1, 2)), Shared("d", 0, (1, 1)), Stranger("d", (0, 1))]
+    others: list[Harm] = [
+        Lost("k0", 0, (0, 1)),
+        Lost("k0", 0, (1,)),
+        Lost("k0", 1, (1, 2)),
+        Shared("d", 0, (1, 1)),
+        Stranger("d", (0, 1)),
+    ]
     others += [OutOfTurn(2, 3), TooMany("a", "both", 0, 4)]
     assert not [harm for harm in others if shows(frame, script, harm)]
-    wrong = [("close", "2"), ("do", "2"), ("open", "3"), ("ack", "0"), ("lose", "a"), ("put", "w1", "k0", "x31"), ("chunk", "2", "3"), ("up", "a")]
+    wrong = [
+        ("close", "2"),
+        ("do", "2"),
+        ("open", "3"),
+        ("ack", "0"),
+        ("lose", "a"),
+        ("put", "w1", "k0", "x31"),
+        ("chunk", "2", "3"),
+        ("up", "a"),
+    ]
     assert not [event for event in wrong if shows(frame, [*script, event], Lost("k0", 0, (1, 2)))]
 
 
 def test_a_plan_of_a_hundred_thousand_steps() -> None:
-    """Each of 4,096 partitions of 7 slots goes from 64 nodes to 64 others. One copy in the middle does not wait for its mirror."""
+    """Each of 4,096 partitions of 7 slots goes from 64 nodes to 64 others.
+
+    One copy in the middle does not wait for its mirror.
+    """
     old, new = [f"a{k}" for k in range(64)], [f"b{k}" for k in range(64)]
-    lines = ["ring 1", "space 4096", "quorum 7 3 5", *(f"node {it} 4 in" for it in old), *(f"node {it} 4 out" for it in new)]
-    lines += [f"slots {p} " + " ".join(old[(p + 9 * i) % 64] for i in range(7)) for p in range(4096)]
-    lines += ["end", "change 1", *(f"join {it}" for it in new), *(f"leave {it}" for it in old), "end", ""]
+    lines = [
+        "ring 1",
+        "space 4096",
+        "quorum 7 3 5",
+        *(f"node {it} 4 in" for it in old),
+        *(f"node {it} 4 out" for it in new),
+    ]
+    lines += [
+        f"slots {p} " + " ".join(old[(p + 9 * i) % 64] for i in range(7)) for p in range(4096)
+    ]
+    lines += [
+        "end",
+        "change 1",
+        *(f"join {it}" for it in new),
+        *(f"leave {it}" for it in old),
+        "end",
+        "",
+    ]
     try:
         rows = programs.ask("goal", "\n".join(lines)).text.split("\n")
     except programs.NoProgram as error:
@@ -193,7 +277,9 @@ def test_a_plan_of_a_hundred_thousand_steps() -> None:
     rows[copies[len(copies) // 2]] = rows[copies[len(copies) // 2]].split(" after")[0]
     words, bundle, status = answer("\n".join(rows).encode())
     assert len(copies) == 28672 and status == 1
-    assert words.split("\n")[0].startswith("no 22 ") and words.split("\n")[1].startswith("broken: an acknowledged put of ")
+    assert words.split("\n")[0].startswith("no 22 ") and words.split("\n")[1].startswith(
+        "broken: an acknowledged put of "
+    )
     # The mirror waits for thousands of steps: the words are cut short, and the script is not.
     assert len(words.split("\n")) < 50 and " lines more; --script prints all events" in words
     assert len(script_of(bundle)) > 10_000

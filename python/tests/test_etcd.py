@@ -1,4 +1,6 @@
-"""An etcd as people run it: three members over TLS with certificates on both sides, a user with a password, and members that die."""
+"""An etcd as people run it: three members over TLS with certificates on both sides, a user with a
+password, and members that die.
+"""
 
 from __future__ import annotations
 
@@ -13,7 +15,7 @@ from ringplan import programs
 from ringplan.run import gateway
 from ringplan.run.board import Status
 
-PASSWORD = "a word with spaces, and \"quotes\""
+PASSWORD = 'a word with spaces, and "quotes"'
 
 
 @pytest.fixture(scope="module")
@@ -31,7 +33,17 @@ def cluster(tmp_path_factory: pytest.TempPathFactory) -> Iterator[Server]:
         ("user/grant", {"user": "root", "role": "root"}),
         ("user/add", {"name": "runner", "password": PASSWORD}),
         ("role/add", {"name": "runner"}),
-        ("role/grant", {"name": "runner", "perm": {"permType": "READWRITE", "key": gateway.coded("plan/"), "range_end": gateway.coded("plan0")}}),
+        (
+            "role/grant",
+            {
+                "name": "runner",
+                "perm": {
+                    "permType": "READWRITE",
+                    "key": gateway.coded("plan/"),
+                    "range_end": gateway.coded("plan0"),
+                },
+            },
+        ),
         ("user/grant", {"user": "runner", "role": "runner"}),
         ("enable", {}),
     ]
@@ -45,7 +57,11 @@ def cluster(tmp_path_factory: pytest.TempPathFactory) -> Iterator[Server]:
 def bench(cluster: Server, tmp_path: pathlib.Path) -> Bench:
     it = Bench(tmp_path, cluster.address("plan"))
     (tmp_path / "password").write_text(f"{PASSWORD}\n")
-    files = [word for name in ("ca", "cert", "key") for word in (f"--{name}", str(cluster.folder / f"{name}.pem"))]
+    files = [
+        word
+        for name in ("ca", "cert", "key")
+        for word in (f"--{name}", str(cluster.folder / f"{name}.pem"))
+    ]
     it.options = [*files, "--user", "runner", "--password-file", str(tmp_path / "password")]
     return it
 
@@ -65,10 +81,15 @@ def test_a_plan_ends_while_members_die(cluster: Server, bench: Bench) -> None:
     assert bench.steps("twice") == [] and set(bench.steps("end")) == set(range(18))
     assert bench.run("judge")[0] == 0 and bench.run("status")[1].startswith("18 of 18")
     assert bench.run("forget")[0] == Status.DONE
-    assert bench.run("status")[::2] == (Status.FAULT, f"ringplan-run: there is no board {bench.board}\n")
+    assert bench.run("status")[::2] == (
+        Status.FAULT,
+        f"ringplan-run: there is no board {bench.board}\n",
+    )
 
 
-def test_without_the_right_words_it_is_refused_in_one_line(bench: Bench, tmp_path: pathlib.Path) -> None:
+def test_without_the_right_words_it_is_refused_in_one_line(
+    bench: Bench, tmp_path: pathlib.Path
+) -> None:
     (tmp_path / "wrong").write_text("wrong")
     (tmp_path / "binary").write_bytes(b"\xff\xfe")
     known = bench.options
@@ -84,7 +105,14 @@ def test_without_the_right_words_it_is_refused_in_one_line(bench: Bench, tmp_pat
         bench.options = options
         for words in (["status"], ["apply"]):
             code, out, err = bench.run(*words)
-            assert (code, out, len(err.splitlines())) == (Status.FAULT, "", 1) and err.startswith("ringplan-run: ") and what in err, err
+            assert (
+                (code, out, len(err.splitlines())) == (Status.FAULT, "", 1)
+                and err.startswith("ringplan-run: ")
+                and what in err
+            ), err
     bench.options, bench.board = known, bench.board.replace("/plan", "/other")
     code, _, err = bench.run("status")
-    assert (code, err) == (Status.FAULT, "ringplan-run: etcd refuses a request: etcdserver: permission denied\n")
+    assert (code, err) == (
+        Status.FAULT,
+        "ringplan-run: etcd refuses a request: etcdserver: permission denied\n",
+    )

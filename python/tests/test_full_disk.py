@@ -1,4 +1,6 @@
-"""A full disk, and an etcd without room: the runner says so and loses nothing, and goes on once there is room. A small file system takes root."""
+"""A full disk, and an etcd without room: the runner says so and loses nothing, and goes on once
+there is room. A small file system takes root.
+"""
 
 from __future__ import annotations
 
@@ -42,7 +44,12 @@ def test_a_disk_that_is_full_from_the_start(disk: pathlib.Path, tmp_path: pathli
     bench = Bench(tmp_path, str(disk / "board"))
     fill(disk)
     code, _, err = bench.run("apply")
-    assert code == Status.FAULT and err.startswith("ringplan-run: ") and "full" in err and len(err.splitlines()) == 1, err
+    assert (
+        code == Status.FAULT
+        and err.startswith("ringplan-run: ")
+        and "full" in err
+        and len(err.splitlines()) == 1
+    ), err
     assert bench.log() == []
     (disk / "other").unlink()
     assert bench.run("apply")[0] == Status.DONE
@@ -57,7 +64,11 @@ def test_a_disk_that_becomes_full(disk: pathlib.Path, tmp_path: pathlib.Path, le
     fill(disk, left)
     bench.let_go(0)
     _, err = process.communicate(timeout=LONG)
-    assert process.returncode == Status.FAULT and err.startswith("ringplan-run: ") and len(err.splitlines()) == 1, err
+    assert (
+        process.returncode == Status.FAULT
+        and err.startswith("ringplan-run: ")
+        and len(err.splitlines()) == 1
+    ), err
     assert "full" in err or "No space left" in err
     # What hooks have done, but for those of the two workers that could not note it, is known.
     (disk / "other").unlink()
@@ -80,7 +91,10 @@ def test_an_etcd_without_room(tmp_path: pathlib.Path) -> None:
     try:
         bench = Bench(tmp_path, server.address("plan"))
         code, _, err = bench.run("apply")
-        assert (code, err) == (Status.FAULT, "ringplan-run: etcd refuses a request: etcdserver: mvcc: database space exceeded\n")
+        assert (code, err) == (
+            Status.FAULT,
+            "ringplan-run: etcd refuses a request: etcdserver: mvcc: database space exceeded\n",
+        )
         assert 0 < len(bench.steps("end")) < 18
         assert bench.run("judge")[1].startswith("yes\n")
         server.kill()

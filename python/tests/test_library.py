@@ -1,4 +1,6 @@
-"""The commands as functions: by the C library and by the program, byte for byte beside the program itself."""
+"""The commands as functions: by the C library and by the program, byte for byte beside the program
+itself.
+"""
 
 from __future__ import annotations
 
@@ -14,12 +16,24 @@ from ringplan.library import Answer, NoLibrary, Refused, Status
 
 TOP = pathlib.Path(__file__).parents[2]
 EXAMPLES = sorted((TOP / "examples").glob("*.bundle"))
-CALLS = {"check": library.check, "plan": library.plan, "play": library.play, "replay": library.replay, "migrate": library.migrate}
+CALLS = {
+    "check": library.check,
+    "plan": library.plan,
+    "play": library.play,
+    "replay": library.replay,
+    "migrate": library.migrate,
+}
 OTHERS: dict[str, tuple[Callable[..., Answer], list[list[str]]]] = {
-    "goal": (library.goal, [[], ["--dead", "b"], ["--racks-behind", "none"], ["--exit-code"], ["--none"]]),
+    "goal": (
+        library.goal,
+        [[], ["--dead", "b"], ["--racks-behind", "none"], ["--exit-code"], ["--none"]],
+    ),
     "around": (library.around, [["--dead", "b"], ["--dead", "c", "--back"], []]),
     "why": (library.why, [[], ["--color", "always"], ["--format", "json"]]),
-    "show": (library.show, [[], ["--all"], ["--racks-behind", "."], ["--format", "json"], ["--help"]]),
+    "show": (
+        library.show,
+        [[], ["--all"], ["--racks-behind", "."], ["--format", "json"], ["--help"]],
+    ),
     "draw": (library.draw, [[], ["--map"]]),
     "steps": (library.steps, [[], ["--moves"]]),
     "cert": (library.cert, [[]]),
@@ -53,7 +67,9 @@ def test_calls_answer_as_the_program_does(command: str, way: str) -> None:
     examples = EXAMPLES if way == "library" else EXAMPLES[::6]
     for bundle in [path.read_bytes() for path in examples] + hostile:
         status, text, errors = wanted(command, bundle)
-        assert CALLS[command](bundle) == Answer(Status(status), text, errors if way == "program" else ""), (command, bundle)
+        assert CALLS[command](bundle) == Answer(
+            Status(status), text, errors if way == "program" else ""
+        ), (command, bundle)
 
 
 @pytest.mark.parametrize("command", OTHERS)
@@ -62,12 +78,17 @@ def test_commands_with_options_answer_as_the_program_does(command: str, way: str
     for path in EXAMPLES if way == "library" else EXAMPLES[::8]:
         for options in choices:
             status, text, errors = wanted(command, path.read_bytes(), *options)
-            assert call(path.read_bytes(), *options) == Answer(Status(status), text, errors), (path, options)
+            assert call(path.read_bytes(), *options) == Answer(Status(status), text, errors), (
+                path,
+                options,
+            )
 
 
 def test_options_may_name_files(tmp_path: pathlib.Path) -> None:
     bundle, target = (TOP / "examples/plan_replace.bundle").read_bytes(), tmp_path / "planned"
-    assert library.goal(bundle, "--racks-behind", "none", "-o", str(target)) == Answer(Status.DONE, b"")
+    assert library.goal(bundle, "--racks-behind", "none", "-o", str(target)) == Answer(
+        Status.DONE, b""
+    )
     assert target.read_bytes() == library.goal(bundle, "--racks-behind", "none").demand()
     assert library.cert(b"", str(target)) == library.cert(target.read_bytes())
     with pytest.raises(ValueError, match="an option has a NUL"):
@@ -84,17 +105,23 @@ def test_a_refusal_is_an_exception_where_that_is_asked_for() -> None:
     with pytest.raises(Refused, match="^no 22 2\n"):
         library.steps(refused).demand()
     planned = library.goal((TOP / "examples/plan_replace.bundle").read_bytes(), "--exit-code")
-    assert planned.status is Status.HAS_STEPS and library.check(planned.demand()).demand() == b"yes\n"
+    assert (
+        planned.status is Status.HAS_STEPS and library.check(planned.demand()).demand() == b"yes\n"
+    )
     assert len(texts.read_steps(library.steps(planned.text).demand().decode())) == 18
 
 
 def test_threads_may_call_at_once() -> None:
     bundles = [path.read_bytes() for path in EXAMPLES[::4]] * 3
     with concurrent.futures.ThreadPoolExecutor(8) as pool:
-        assert list(pool.map(library.check, bundles)) == [library.check(bundle) for bundle in bundles]
+        assert list(pool.map(library.check, bundles)) == [
+            library.check(bundle) for bundle in bundles
+        ]
 
 
-def test_what_is_no_bundle_or_no_library_is_told(monkeypatch: pytest.MonkeyPatch, tmp_path: pathlib.Path) -> None:
+def test_what_is_no_bundle_or_no_library_is_told(
+    monkeypatch: pytest.MonkeyPatch, tmp_path: pathlib.Path
+) -> None:
     with pytest.raises(TypeError, match="a bundle is bytes, and not str"):
         library.check("ring 1\n")  # type: ignore[arg-type]
     monkeypatch.setenv("RINGPLAN_LIBRARY", str(tmp_path / "none"))

@@ -1,4 +1,6 @@
-"""Logs merged to one history: histories that are split over logs and come back, names, faults with their words, and where the history is written."""
+"""Logs merged to one history: histories that are split over logs and come back, names, faults with
+their words, and where the history is written.
+"""
 
 from __future__ import annotations
 
@@ -31,7 +33,9 @@ Naming = Callable[[str, int], str]
 
 
 def by_counters(kind: str, number: int) -> str:
-    """Five coordinators, each with one counter for puts and gets that counts up a little out of order."""
+    """Five coordinators, each with one counter for puts and gets that counts up a little out of
+    order.
+    """
     return f"c{number % 5}.{(number // 5 ^ 3) * 2 + (kind == 'get')}"
 
 
@@ -44,34 +48,56 @@ def descending(kind: str, number: int) -> str:
 
 
 def odd(kind: str, number: int) -> str:
-    return ("=", "seen", "put", "0", "00", "\u00e9/\"", "x" * 255)[number] if number < 7 else f"{random.Random(number).getrandbits(80):x}"
+    return (
+        ("=", "seen", "put", "0", "00", '\u00e9/"', "x" * 255)[number]
+        if number < 7
+        else f"{random.Random(number).getrandbits(80):x}"
+    )
 
 
 NAMINGS = [by_counters, padded, descending, odd]
 
 
 def numbers(draw: random.Random, count: int) -> str:
-    return "".join(f" {number}" for number in sorted(draw.sample(range(count), min(count, draw.randrange(4)))))
+    return "".join(
+        f" {number}" for number in sorted(draw.sample(range(count), min(count, draw.randrange(4))))
+    )
 
 
 def random_history(draw: random.Random) -> list[str]:
     """Entries of each kind, as a history has them, with numbers of puts and gets that are there."""
     entries, puts, gets = list[str](), 0, 0
     for _ in range(draw.randrange(400)):
-        kind = draw.choice("do open chunk close abort put write hint ack get read endget down up handoff lose".split())
-        others = {"chunk": "chunk 5 15", "down": "down n1", "up": "up n1", "lose": "lose n1", "handoff": "handoff n2 3 1"}
+        kind = draw.choice(list(texts.EVENTS))
+        others = {
+            "chunk": "chunk 5 15",
+            "down": "down n1",
+            "up": "up n1",
+            "lose": "lose n1",
+            "handoff": "handoff n2 3 1",
+        }
         event = others.get(kind, f"{kind} {draw.randrange(20)}")
-        reply = draw.choice(["ok", "ticket 3 1 10", "found" + numbers(draw, puts), "reply" + numbers(draw, puts)])
+        reply = draw.choice(
+            ["ok", "ticket 3 1 10", "found" + numbers(draw, puts), "reply" + numbers(draw, puts)]
+        )
         if kind == "put":
             known = numbers(draw, gets)
-            event, reply, puts = f"put w.1 k:{draw.randrange(9)} x0a" + (" seen" + known if known else ""), f"put {puts}", puts + 1
+            event, reply, puts = (
+                f"put w.1 k:{draw.randrange(9)} x0a" + (" seen" + known if known else ""),
+                f"put {puts}",
+                puts + 1,
+            )
         elif kind == "get":
             event, reply, gets = "get k:1", f"get {gets}", gets + 1
         elif kind in ("write", "hint", "ack", "read", "endget"):
             count = gets if kind in ("read", "endget") else puts
             if not count:
                 continue
-            event = f"{kind} {draw.randrange(count)}" + {"write": " 2", "hint": " 0 n4", "read": " 1"}.get(kind, "")
+            event = f"{kind} {draw.randrange(count)}" + {
+                "write": " 2",
+                "hint": " 0 n4",
+                "read": " 1",
+            }.get(kind, "")
         entries.append(f"{event} = {reply}")
     return entries
 
@@ -79,25 +105,38 @@ def random_history(draw: random.Random) -> list[str]:
 def named(entry: str, naming: Naming) -> str:
     """An entry with names in the place of numbers."""
     event, reply = (half.split(" ") for half in entry.split(" = "))
-    kind = {"write": "put", "hint": "put", "ack": "put", "read": "get", "endget": "get"}.get(event[0])
+    kind = {"write": "put", "hint": "put", "ack": "put", "read": "get", "endget": "get"}.get(
+        event[0]
+    )
     if kind:
         event[1] = naming(kind, int(event[1]))
     if event[0] == "put":
         event[5:] = [naming("get", int(number)) for number in event[5:]]
     if reply[0] in ("put", "get", "found", "reply"):
-        reply[1:] = [naming("get" if reply[0] == "get" else "put", int(number)) for number in reply[1:]]
+        reply[1:] = [
+            naming("get" if reply[0] == "get" else "put", int(number)) for number in reply[1:]
+        ]
     return " ".join(event) + " = " + " ".join(reply)
 
 
-def split(entries: list[str], count: int, naming: Naming, draw: random.Random, folder: pathlib.Path) -> list[str]:
-    """The logs over which entries are split at random, some with equal places. Names after `found`, `reply` and `seen` are in any order."""
+def split(
+    entries: list[str], count: int, naming: Naming, draw: random.Random, folder: pathlib.Path
+) -> list[str]:
+    """The logs over which entries are split at random, some with equal places.
+
+    Names after `found`, `reply` and `seen` are in any order.
+    """
     logs, place, last = [list[str]() for _ in range(count)], draw.randrange(3), 0
     for entry in entries:
         log = draw.randrange(count)
         # Of equal places those of an earlier log come first.
         if log < last or draw.random() < 0.5:
             place += draw.choice([1, 1, 10**20])
-        event, reply = named(entry, naming).split(" = ", 1) if naming is not odd else named(entry, naming).rsplit(" = ", 1)
+        event, reply = (
+            named(entry, naming).split(" = ", 1)
+            if naming is not odd
+            else named(entry, naming).rsplit(" = ", 1)
+        )
         first, *rest = reply.split(" ")
         if first in ("found", "reply"):
             draw.shuffle(rest)
@@ -125,7 +164,9 @@ def test_a_history_split_over_logs_comes_back(naming: Naming, tmp_path: pathlib.
 def test_an_example_comes_back(tmp_path: pathlib.Path) -> None:
     text = (TOP / "examples/replay_a_move.bundle").read_text()
     entries = text[text.index("history 1\n") :].splitlines()[1:-1]
-    assert b"".join(merge(split(entries, 3, by_counters, random.Random(1), tmp_path))).decode() == text_of(entries)
+    assert b"".join(
+        merge(split(entries, 3, by_counters, random.Random(1), tmp_path))
+    ).decode() == text_of(entries)
 
 
 def test_the_history_of_a_store_comes_back_and_is_judged_yes(tmp_path: pathlib.Path) -> None:
@@ -137,7 +178,9 @@ def test_the_history_of_a_store_comes_back_and_is_judged_yes(tmp_path: pathlib.P
     text, _ = run(bundle, steps, Load(operations=60, faults=0.2, outage=0.1, limit=600))
     entries = text[text.index("history 1\n") :].splitlines()[1:-1]
     for number, naming in enumerate(NAMINGS):
-        merged = b"".join(merge(split(entries, 2 + number, naming, random.Random(number), tmp_path))).decode()
+        merged = b"".join(
+            merge(split(entries, 2 + number, naming, random.Random(number), tmp_path))
+        ).decode()
         assert bundle + merged == text
         assert programs.ask("replay", bundle + merged).first() == "yes"
 
@@ -146,13 +189,20 @@ def test_writers_are_numbered_by_key(tmp_path: pathlib.Path) -> None:
     log = tmp_path / "log"
     puts = [f"{key} {writer}" for key in range(3) for writer in range(1500)] * 2
     random.Random(1).shuffle(puts)
-    log.write_text("".join(f"{place} put c{put.split()[1]} k{put.split()[0]} x = put p{place}\n" for place, put in enumerate(puts)))
+    log.write_text(
+        "".join(
+            f"{place} put c{put.split()[1]} k{put.split()[0]} x = put p{place}\n"
+            for place, put in enumerate(puts)
+        )
+    )
     entries, seen = list(merge([str(log)], numbers_writers=True))[1:-1], dict[str, dict[str, str]]()
     for put, entry in zip(puts, entries):
         _, writer, named, *_ = entry.decode().split()
         key, own = put.split()
         assert named == f"k{key}" and seen.setdefault(key, {}).setdefault(own, writer) == writer
-    assert all(list(names.values()) == [f"w{number}" for number in range(1500)] for names in seen.values())
+    assert all(
+        list(names.values()) == [f"w{number}" for number in range(1500)] for names in seen.values()
+    )
 
 
 def grow(path: str, text: bytes, draw: random.Random) -> None:
@@ -166,7 +216,9 @@ def grow(path: str, text: bytes, draw: random.Random) -> None:
 
 
 @pytest.mark.parametrize("naming", NAMINGS)
-def test_logs_that_grow_are_merged_as_whole_ones(naming: Naming, tmp_path: pathlib.Path, monkeypatch: pytest.MonkeyPatch) -> None:
+def test_logs_that_grow_are_merged_as_whole_ones(
+    naming: Naming, tmp_path: pathlib.Path, monkeypatch: pytest.MonkeyPatch
+) -> None:
     """With marks between the lines, and without any."""
     monkeypatch.setattr(merging, "PAUSE", 0.001)
     for seed in range(8):
@@ -176,10 +228,16 @@ def test_logs_that_grow_are_merged_as_whole_ones(naming: Naming, tmp_path: pathl
         texts = [pathlib.Path(path).read_bytes() for path in paths]
         for number, path in enumerate(paths):
             lines = [line + b"\n" for line in texts[number].split(b"\n")[:-1]]
-            marked = [line + line.split(b" ")[0] + b"\n" if seed % 2 and draw.random() < 0.3 else line for line in lines]
+            marked = [
+                line + line.split(b" ")[0] + b"\n" if seed % 2 and draw.random() < 0.3 else line
+                for line in lines
+            ]
             texts[number] = b"".join(marked) + b"end\n"
             pathlib.Path(path).write_bytes(b"")
-        threads = [threading.Thread(target=grow, args=[path, text, random.Random(seed)]) for path, text in zip(paths, texts)]
+        threads = [
+            threading.Thread(target=grow, args=[path, text, random.Random(seed)])
+            for path, text in zip(paths, texts)
+        ]
         for thread in threads:
             thread.start()
         assert b"".join(merge(paths, Growing())).decode() == text_of(entries)
@@ -191,7 +249,13 @@ def test_logs_that_grow_are_merged_as_whole_ones(naming: Naming, tmp_path: pathl
 
 def follow(*logs: str, into: pathlib.Path) -> subprocess.Popen[bytes]:
     words = [sys.executable, "-m", "ringplan.merging", "--follow", *logs]
-    return subprocess.Popen(words, stdout=subprocess.PIPE, stderr=subprocess.PIPE, cwd=into, env={**os.environ, "PYTHONPATH": str(TOP / "python")})
+    return subprocess.Popen(
+        words,
+        stdout=subprocess.PIPE,
+        stderr=subprocess.PIPE,
+        cwd=into,
+        env={**os.environ, "PYTHONPATH": str(TOP / "python")},
+    )
 
 
 def add(path: pathlib.Path, text: str) -> None:
@@ -233,7 +297,10 @@ def test_an_entry_goes_out_once_no_log_can_have_one_before_it(tmp_path: pathlib.
     add(first, "end\nno line\n")
     add(second, "10 do 0 = ok\nend\n")
     come(b"do 0 = ok\nend\n")
-    assert (process.wait(timeout=60), process.stderr.read()) in ((0, b""), (0, b"ringplan-merge: waits for b\n"))
+    assert (process.wait(timeout=60), process.stderr.read()) in (
+        (0, b""),
+        (0, b"ringplan-merge: waits for b\n"),
+    )
 
 
 def test_pipes_are_followed(tmp_path: pathlib.Path) -> None:
@@ -245,15 +312,30 @@ def test_pipes_are_followed(tmp_path: pathlib.Path) -> None:
             pipe.write(text)
         time.sleep(0.2)
     assert process.communicate(timeout=60) == (b"history 1\ndo 0 = ok\ndo 1 = ok\nend\n", b"")
-    assert command("--follow", "-", given=b"1 do 0 = ok\nend\n") == (b"history 1\ndo 0 = ok\nend\n", "", 0)
+    assert command("--follow", "-", given=b"1 do 0 = ok\nend\n") == (
+        b"history 1\ndo 0 = ok\nend\n",
+        "",
+        0,
+    )
 
 
 def test_a_fault_in_a_log_that_grows(tmp_path: pathlib.Path) -> None:
     (tmp_path / "log").write_text("1 do 0 = ok\n0\n")
-    assert command("--follow", tmp_path / "log") == (b"history 1\ndo 0 = ok\n", f"ringplan-merge: {tmp_path}/log:2: place 0 comes after place 1\n", 2)
-    assert command("--follow", tmp_path) == (b"history 1\n", f"ringplan-merge: {tmp_path}: Is a directory\n", 3)
+    assert command("--follow", tmp_path / "log") == (
+        b"history 1\ndo 0 = ok\n",
+        f"ringplan-merge: {tmp_path}/log:2: place 0 comes after place 1\n",
+        2,
+    )
+    assert command("--follow", tmp_path) == (
+        b"history 1\n",
+        f"ringplan-merge: {tmp_path}: Is a directory\n",
+        3,
+    )
     (tmp_path / "log").write_text("1 do 0 = found" + " x" * LONGEST)
-    assert command("--follow", tmp_path / "log")[1:] == (f"ringplan-merge: {tmp_path}/log:1: a line of more than {LONGEST} bytes\n", 2)
+    assert command("--follow", tmp_path / "log")[1:] == (
+        f"ringplan-merge: {tmp_path}/log:1: a line of more than {LONGEST} bytes\n",
+        2,
+    )
 
 
 def test_the_logs_of_a_store_are_judged_while_it_runs(tmp_path: pathlib.Path) -> None:
@@ -267,7 +349,11 @@ def test_the_logs_of_a_store_are_judged_while_it_runs(tmp_path: pathlib.Path) ->
     node = choose("sqlite")
     store = Store(texts.read_plan(bundle)[0], lambda name: node(str(tmp_path), name))
     store.history = logs = Logs(paths, pause=0.1)
-    one = Run(store, Executor(store, steps), Load(clients=3, operations=60, faults=0.3, outage=0.2, limit=600))
+    one = Run(
+        store,
+        Executor(store, steps),
+        Load(clients=3, operations=60, faults=0.3, outage=0.2, limit=600),
+    )
 
     def follow_logs() -> None:
         for line in itertools.islice(merge(paths, Growing()), 1, None):
@@ -293,16 +379,36 @@ def test_equal_places_come_in_the_order_of_the_logs(tmp_path: pathlib.Path) -> N
     first, second = tmp_path / "first", tmp_path / "second"
     first.write_text("1 put w k x = put a\n2 write a 0 = ticket 0 0 0\n")
     second.write_text("1 put v l x = put a.1\n2 write a.1 0 = ticket 1 0 0\n")
-    in_order = ["put w k x = put 0", "put v l x = put 1", "write 0 0 = ticket 0 0 0", "write 1 0 = ticket 1 0 0"]
+    in_order = [
+        "put w k x = put 0",
+        "put v l x = put 1",
+        "write 0 0 = ticket 0 0 0",
+        "write 1 0 = ticket 1 0 0",
+    ]
     assert b"".join(merge([str(first), str(second)])).decode() == text_of(in_order)
-    turned = ["put v l x = put 0", "put w k x = put 1", "write 0 0 = ticket 1 0 0", "write 1 0 = ticket 0 0 0"]
+    turned = [
+        "put v l x = put 0",
+        "put w k x = put 1",
+        "write 0 0 = ticket 1 0 0",
+        "write 1 0 = ticket 0 0 0",
+    ]
     assert b"".join(merge([str(second), str(first)])).decode() == text_of(turned)
 
 
 def test_a_put_and_a_get_may_have_one_name(tmp_path: pathlib.Path) -> None:
     log = tmp_path / "log"
-    log.write_text("1 get k = get 7\n2 get k = get 8\n3 endget 8 = reply\n4 put w k x seen 8 = put 8\n5 put w k x seen 8 7 = put 7\n6 ack 7 = ok\n")
-    merged = ["get k = get 0", "get k = get 1", "endget 1 = reply", "put w k x seen 1 = put 0", "put w k x seen 0 1 = put 1", "ack 1 = ok"]
+    log.write_text(
+        "1 get k = get 7\n2 get k = get 8\n3 endget 8 = reply\n4 put w k x seen 8 = put 8\n5 put w"
+        " k x seen 8 7 = put 7\n6 ack 7 = ok\n"
+    )
+    merged = [
+        "get k = get 0",
+        "get k = get 1",
+        "endget 1 = reply",
+        "put w k x seen 1 = put 0",
+        "put w k x seen 0 1 = put 1",
+        "ack 1 = ok",
+    ]
     assert b"".join(merge([str(log)])).decode() == text_of(merged)
 
 
@@ -369,16 +475,23 @@ def test_a_fault_in_a_log(logs: list[str], words: str, tmp_path: pathlib.Path) -
 
 
 def test_the_longest_line_is_read(tmp_path: pathlib.Path) -> None:
-    """A reply that has a put of each of 1,024 writers, with the longest names and the longest place."""
+    """A reply that has a put of each of 1,024 writers, with the longest names and the longest
+    place.
+    """
     log, names = tmp_path / "log", [f"{number:0255}" for number in range(1024)]
     puts = [f"1 put w{number} k x = put {name}\n" for number, name in enumerate(names)]
     longest = f"{'9' * 255} endget {'g' * 255} = reply {' '.join(names)}\n"
     log.write_text("".join([*puts, f"2 get k = get {'g' * 255}\n", longest]))
-    assert list(merge([str(log)]))[-2] == b"endget 0 = reply " + b" ".join(b"%d" % number for number in range(1024)) + b"\n"
+    assert (
+        list(merge([str(log)]))[-2]
+        == b"endget 0 = reply " + b" ".join(b"%d" % number for number in range(1024)) + b"\n"
+    )
     assert LONGEST - 1024 < len(longest) < LONGEST
 
 
-@pytest.mark.parametrize(("more", "words"), [(0, "no entry"), (1, f"a line of more than {LONGEST} bytes")])
+@pytest.mark.parametrize(
+    ("more", "words"), [(0, "no entry"), (1, f"a line of more than {LONGEST} bytes")]
+)
 def test_a_line_that_is_too_long(more: int, words: str, tmp_path: pathlib.Path) -> None:
     log = tmp_path / "log"
     log.write_text(PUT + "2 do 1 = found" + " x" * (LONGEST // 2) + "\n")
@@ -391,14 +504,32 @@ def test_a_line_that_is_too_long(more: int, words: str, tmp_path: pathlib.Path) 
 
 def test_a_line_without_an_end_is_not_kept(tmp_path: pathlib.Path) -> None:
     """An endless line, in 256 MB."""
-    bounded = "import resource, runpy, sys; resource.setrlimit(resource.RLIMIT_AS, (2**28, 2**28)); runpy.run_module('ringplan.merging', run_name='__main__')"
-    ran = subprocess.run([sys.executable, "-c", bounded, "/dev/zero"], capture_output=True, cwd=TOP / "python", timeout=60)
-    assert (ran.stdout, ran.stderr.decode(), ran.returncode) == (b"history 1\n", f"ringplan-merge: /dev/zero:1: a line of more than {LONGEST} bytes\n", 2)
+    bounded = (
+        "import resource, runpy, sys; resource.setrlimit(resource.RLIMIT_AS, (2**28, 2**28));"
+        " runpy.run_module('ringplan.merging', run_name='__main__')"
+    )
+    ran = subprocess.run(
+        [sys.executable, "-c", bounded, "/dev/zero"],
+        capture_output=True,
+        cwd=TOP / "python",
+        timeout=60,
+    )
+    assert (ran.stdout, ran.stderr.decode(), ran.returncode) == (
+        b"history 1\n",
+        f"ringplan-merge: /dev/zero:1: a line of more than {LONGEST} bytes\n",
+        2,
+    )
 
 
 def command(*words: object, given: bytes = b"", into: pathlib.Path = TOP) -> tuple[bytes, str, int]:
     environment = {**os.environ, "PYTHONPATH": str(TOP / "python")}
-    ran = subprocess.run([sys.executable, "-m", "ringplan.merging", *map(str, words)], input=given, capture_output=True, cwd=into, env=environment)
+    ran = subprocess.run(
+        [sys.executable, "-m", "ringplan.merging", *map(str, words)],
+        input=given,
+        capture_output=True,
+        cwd=into,
+        env=environment,
+    )
     return ran.stdout, ran.stderr.decode(), ran.returncode
 
 
@@ -407,7 +538,11 @@ def test_standard_input_is_a_log(tmp_path: pathlib.Path) -> None:
     whole = b"history 1\nput w k x = put 0\nwrite 0 0 = ticket 0 0 0\nend\n"
     assert command("-", "b", given=PUT.encode(), into=tmp_path) == (whole, "", 0)
     assert command("b", "-", given=PUT.encode(), into=tmp_path) == (whole, "", 0)
-    assert command("b", "-", given=PUT.encode() * 2, into=tmp_path) == (whole[:28], "ringplan-merge: -:2: a second put p1\n", 2)
+    assert command("b", "-", given=PUT.encode() * 2, into=tmp_path) == (
+        whole[:28],
+        "ringplan-merge: -:2: a second put p1\n",
+        2,
+    )
     assert command("-", "-")[2] == 2
     assert command()[2] == 2
     assert command(os.devnull) == (b"history 1\nend\n", "", 0)
@@ -417,7 +552,11 @@ def test_an_output_has_all_or_nothing(tmp_path: pathlib.Path) -> None:
     out, good, bad = tmp_path / "out", tmp_path / "good", tmp_path / "bad"
     good.write_text(PUT)
     bad.write_text("1 put w k x = put p1\n2 ack p2 = ok\n")
-    assert command("-o", out, bad) == (b"", f"ringplan-merge: {bad}:2: no put p2 comes before it\n", 2)
+    assert command("-o", out, bad) == (
+        b"",
+        f"ringplan-merge: {bad}:2: no put p2 comes before it\n",
+        2,
+    )
     assert sorted(os.listdir(tmp_path)) == ["bad", "good"]
     assert command("-o", out, good) == (b"", "", 0)
     assert out.read_text() == "history 1\nput w k x = put 0\nend\n"
@@ -426,7 +565,10 @@ def test_an_output_has_all_or_nothing(tmp_path: pathlib.Path) -> None:
     out.unlink()
     out.symlink_to("target")
     assert command(good, "-o", out)[2] == 0
-    assert out.is_symlink() and (tmp_path / "target").read_text() == "history 1\nput w k x = put 0\nend\n"
+    assert (
+        out.is_symlink()
+        and (tmp_path / "target").read_text() == "history 1\nput w k x = put 0\nend\n"
+    )
     assert sorted(os.listdir(tmp_path)) == ["bad", "good", "out", "target"]
     assert command(good, "-o", "-", os.devnull)[0] == b"history 1\nput w k x = put 0\nend\n"
 
@@ -434,15 +576,35 @@ def test_an_output_has_all_or_nothing(tmp_path: pathlib.Path) -> None:
 def test_a_file_that_cannot_be_read_or_written(tmp_path: pathlib.Path) -> None:
     log = tmp_path / "log"
     log.write_text(PUT)
-    assert command(tmp_path / "none") == (b"history 1\n", f"ringplan-merge: {tmp_path}/none: No such file or directory\n", 3)
+    assert command(tmp_path / "none") == (
+        b"history 1\n",
+        f"ringplan-merge: {tmp_path}/none: No such file or directory\n",
+        3,
+    )
     assert command(tmp_path)[1:] == (f"ringplan-merge: {tmp_path}: Is a directory\n", 3)
-    assert command("-o", tmp_path / "none/out", log) == (b"", f"ringplan-merge: {tmp_path}/none/out: No such file or directory\n", 3)
+    assert command("-o", tmp_path / "none/out", log) == (
+        b"",
+        f"ringplan-merge: {tmp_path}/none/out: No such file or directory\n",
+        3,
+    )
     assert command("-o", tmp_path, log) == (b"", f"ringplan-merge: {tmp_path}: Is a directory\n", 3)
-    assert command("-o", "/dev/full", log) == (b"", "ringplan-merge: /dev/full: No space left on device\n", 3)
+    assert command("-o", "/dev/full", log) == (
+        b"",
+        "ringplan-merge: /dev/full: No space left on device\n",
+        3,
+    )
     assert stat.S_ISCHR(os.stat("/dev/full").st_mode)
     with open("/dev/full", "wb") as full:
-        ran = subprocess.run([sys.executable, "-m", "ringplan.merging", log], stdout=full, stderr=subprocess.PIPE, cwd=TOP / "python")
-    assert (ran.stderr, ran.returncode) == (b"ringplan-merge: standard output: No space left on device\n", 3)
+        ran = subprocess.run(
+            [sys.executable, "-m", "ringplan.merging", log],
+            stdout=full,
+            stderr=subprocess.PIPE,
+            cwd=TOP / "python",
+        )
+    assert (ran.stderr, ran.returncode) == (
+        b"ringplan-merge: standard output: No space left on device\n",
+        3,
+    )
 
 
 def test_names_that_count_up_take_little_memory() -> None:
@@ -451,14 +613,21 @@ def test_names_that_count_up_take_little_memory() -> None:
         names.add(by_counters("put", number).encode())
     # The three names of each counter that come after its first one, and are less.
     assert len(names.others) == 15
-    assert sum(sys.getsizeof(counter.numbers) for counter in names.counters.values()) < 9 * names.count
-    assert all(names.find(by_counters("put", number).encode()) == number for number in range(100_000))
+    assert (
+        sum(sys.getsizeof(counter.numbers) for counter in names.counters.values()) < 9 * names.count
+    )
+    assert all(
+        names.find(by_counters("put", number).encode()) == number for number in range(100_000)
+    )
     assert names.find(b"c0.1") == names.find(b"c0.1000000") == names.find(b"d0.6") == -1
 
 
 def test_other_names_take_no_array(monkeypatch: pytest.MonkeyPatch) -> None:
     monkeypatch.setattr(Names, "PREFIXES", 5)
-    names, given = Names("get"), [f"{random.Random(number).getrandbits(60):x}.{number % 7 * 10**9}".encode() for number in range(500)]
+    names, given = Names("get"), [
+        f"{random.Random(number).getrandbits(60):x}.{number % 7 * 10**9}".encode()
+        for number in range(500)
+    ]
     assert [names.add(name) for name in given] == [b"%d" % number for number in range(500)]
     assert [names.find(name) for name in given] == list(range(500))
     assert len(names.counters) == 5 and len(names.others) == 495
@@ -466,7 +635,12 @@ def test_other_names_take_no_array(monkeypatch: pytest.MonkeyPatch) -> None:
 
 def test_a_counter_that_jumps_is_no_array_of_holes() -> None:
     counter = Counter(10)
-    assert counter.add(0, 0) and counter.add(80, 1) and not counter.add(97, 2) and not counter.add(-1, 2)
+    assert (
+        counter.add(0, 0)
+        and counter.add(80, 1)
+        and not counter.add(97, 2)
+        and not counter.add(-1, 2)
+    )
     assert list(counter.numbers) == [1, *[0] * 79, 2]
 
 

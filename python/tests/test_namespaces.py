@@ -1,4 +1,6 @@
-"""Runners in network namespaces of their own, which share an etcd in a third one and nothing else of the network. It takes root."""
+"""Runners in network namespaces of their own, which share an etcd in a third one and nothing else
+of the network. It takes root.
+"""
 
 from __future__ import annotations
 
@@ -19,7 +21,10 @@ from ringplan.run.board import Status
 
 MACHINES = ("one", "two")
 PORT = 2379
-READY = f"from ringplan.run import gateway; it = gateway.Etcd(gateway.Access(('127.0.0.1:{PORT}',))); it.patience = {LONG}; it.read_each('ready')"
+READY = (
+    f"from ringplan.run import gateway; it = gateway.Etcd(gateway.Access(('127.0.0.1:{PORT}',)));"
+    f" it.patience = {LONG}; it.read_each('ready')"
+)
 
 
 class Network:
@@ -34,16 +39,51 @@ class Network:
         for space in self.spaces.values():
             self.ip("netns", "add", space)
         for number, machine in enumerate(MACHINES):
-            self.ip("-n", self.spaces["etcd"], "link", "add", machine, "type", "veth", "peer", "name", "eth0", "netns", self.spaces[machine])
+            self.ip(
+                "-n",
+                self.spaces["etcd"],
+                "link",
+                "add",
+                machine,
+                "type",
+                "veth",
+                "peer",
+                "name",
+                "eth0",
+                "netns",
+                self.spaces[machine],
+            )
             for name, device, host in (("etcd", machine, 1), (machine, "eth0", 2)):
-                self.ip("-n", self.spaces[name], "address", "add", f"10.98.{number}.{host}/24", "dev", device)
+                self.ip(
+                    "-n",
+                    self.spaces[name],
+                    "address",
+                    "add",
+                    f"10.98.{number}.{host}/24",
+                    "dev",
+                    device,
+                )
                 self.ip("-n", self.spaces[name], "link", "set", device, "up")
         self.ip("-n", self.spaces["etcd"], "link", "set", "lo", "up")
         client, peer = f"http://0.0.0.0:{PORT}", "http://127.0.0.1:2380"
-        words = ["etcd", "--data-dir", str(folder / "data"), "--listen-client-urls", client, "--advertise-client-urls", client, "--listen-peer-urls", peer]
+        words = [
+            "etcd",
+            "--data-dir",
+            str(folder / "data"),
+            "--listen-client-urls",
+            client,
+            "--advertise-client-urls",
+            client,
+            "--listen-peer-urls",
+            peer,
+        ]
         with open(folder / "etcd.log", "wb") as log:
             self.etcd = subprocess.Popen(self.inside("etcd") + words, stdout=log, stderr=log)
-        subprocess.run([*self.inside("etcd"), sys.executable, "-c", READY], check=True, env={**os.environ, "PYTHONPATH": str(TOP / "python")})
+        subprocess.run(
+            [*self.inside("etcd"), sys.executable, "-c", READY],
+            check=True,
+            env={**os.environ, "PYTHONPATH": str(TOP / "python")},
+        )
 
     def ip(self, *words: str) -> None:
         subprocess.run(["ip", *words], check=True, capture_output=True)
@@ -84,7 +124,12 @@ def network(tmp_path_factory: pytest.TempPathFactory) -> Iterator[Network]:
 @pytest.fixture
 def benches(network: Network, tmp_path: pathlib.Path) -> dict[str, Bench]:
     """The same folder and board, as each machine sees them."""
-    found = {machine: Bench(tmp_path, f"etcd://10.98.{number}.1:{PORT}/{tmp_path.name}", network.inside(machine)) for number, machine in enumerate(MACHINES)}
+    found = {
+        machine: Bench(
+            tmp_path, f"etcd://10.98.{number}.1:{PORT}/{tmp_path.name}", network.inside(machine)
+        )
+        for number, machine in enumerate(MACHINES)
+    }
     found["one"].hooks(0.2)
     return found
 
@@ -99,7 +144,10 @@ def see_the_end(bench: Bench) -> None:
 @pytest.mark.parametrize("seed", range(10))
 def test_a_plan_ends_where_one_of_two_machines_dies(benches: dict[str, Bench], seed: int) -> None:
     draw = random.Random(seed)
-    both = {machine: bench.start("apply", "--workers", "2", machine=machine) for machine, bench in benches.items()}
+    both = {
+        machine: bench.start("apply", "--workers", "2", machine=machine)
+        for machine, bench in benches.items()
+    }
     dying = draw.choice(MACHINES)
     benches[dying].wait_for("begin", draw.randrange(18))
     time.sleep(0.2 * draw.random())
@@ -111,7 +159,9 @@ def test_a_plan_ends_where_one_of_two_machines_dies(benches: dict[str, Bench], s
     see_the_end(benches[left])
 
 
-def test_a_machine_that_is_cut_off_ends_its_hooks_and_comes_back(benches: dict[str, Bench], network: Network) -> None:
+def test_a_machine_that_is_cut_off_ends_its_hooks_and_comes_back(
+    benches: dict[str, Bench], network: Network
+) -> None:
     bench = benches["one"]
     bench.hooks(1000.0, "join")
     for each in benches.values():
@@ -120,7 +170,8 @@ def test_a_machine_that_is_cut_off_ends_its_hooks_and_comes_back(benches: dict[s
     bench.wait_for("begin", 0)
     network.link("one", "down")
     bench.hooks(0.2, "join")
-    # The other machine may do the step once the lease has ended, and the hook of the one that is cut off was killed before.
+    # The other machine may do the step once the lease has ended, and the hook of the one that is
+    # cut off was killed before.
     other = benches["two"].start("apply", machine="two")
     bench.wait_for("end", 0)
     network.link("one", "up")

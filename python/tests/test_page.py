@@ -1,4 +1,6 @@
-"""The page of `--serve`: by a client of its own, and in headless Chromium, over a runner that works."""
+"""The page of `--serve`: by a client of its own, and in headless Chromium, over a runner that
+works.
+"""
 
 from __future__ import annotations
 
@@ -30,7 +32,16 @@ class Browser:
     def __init__(self, folder: pathlib.Path) -> None:
         to_browser, self.to = os.pipe()
         self.come, from_browser = os.pipe()
-        words = ["chromium", "--headless", "--no-sandbox", "--disable-gpu", "--disable-dev-shm-usage", "--remote-debugging-pipe", f"--user-data-dir={folder}", "about:blank"]
+        words = [
+            "chromium",
+            "--headless",
+            "--no-sandbox",
+            "--disable-gpu",
+            "--disable-dev-shm-usage",
+            "--remote-debugging-pipe",
+            f"--user-data-dir={folder}",
+            "about:blank",
+        ]
 
         def arrange() -> None:
             # Moved out of the way first: either may be 3 or 4 already.
@@ -38,18 +49,34 @@ class Browser:
             os.dup2(one, 3)
             os.dup2(two, 4)
 
-        self.process = subprocess.Popen(words, stdout=subprocess.DEVNULL, stderr=subprocess.DEVNULL, close_fds=False, preexec_fn=arrange, start_new_session=True)
+        self.process = subprocess.Popen(
+            words,
+            stdout=subprocess.DEVNULL,
+            stderr=subprocess.DEVNULL,
+            close_fds=False,
+            preexec_fn=arrange,
+            start_new_session=True,
+        )
         os.close(to_browser)
         os.close(from_browser)
         self.rest, self.count, self.asked = b"", 0, list[str]()
-        page = [it for it in self.call("Target.getTargets")["targetInfos"] if it["type"] == "page"][0]
-        self.session = self.call("Target.attachToTarget", targetId=page["targetId"], flatten=True)["sessionId"]
+        page = [it for it in self.call("Target.getTargets")["targetInfos"] if it["type"] == "page"][
+            0
+        ]
+        self.session = self.call("Target.attachToTarget", targetId=page["targetId"], flatten=True)[
+            "sessionId"
+        ]
         for domain in ("Page", "Network", "Runtime"):
             self.ask(f"{domain}.enable")
 
     def call(self, method: str, session: str = "", **values: Any) -> dict[str, Any]:
         self.count += 1
-        message = {"id": self.count, "method": method, "params": values, **({"sessionId": session} if session else {})}
+        message = {
+            "id": self.count,
+            "method": method,
+            "params": values,
+            **({"sessionId": session} if session else {}),
+        }
         os.write(self.to, json.dumps(message).encode() + b"\0")
         while True:
             while b"\0" not in self.rest:
@@ -71,13 +98,18 @@ class Browser:
 
     def see(self, expression: str) -> Any:
         """What a script's expression is in the page."""
-        return self.ask("Runtime.evaluate", expression=expression, returnByValue=True)["result"].get("value")
+        return self.ask("Runtime.evaluate", expression=expression, returnByValue=True)[
+            "result"
+        ].get("value")
 
     def wait(self, expression: str) -> Any:
         """The first value of the expression that is true."""
         until = time.monotonic() + LONG
         while not (value := self.see(expression)):
-            assert time.monotonic() < until, (expression, self.see("document.documentElement.outerHTML"))
+            assert time.monotonic() < until, (
+                expression,
+                self.see("document.documentElement.outerHTML"),
+            )
             time.sleep(0.05)
         return value
 
@@ -127,7 +159,10 @@ def test_the_page_follows_a_runner(bench: Bench, browser: Browser) -> None:
     process = bench.start("apply", "--serve", "0")
     address = address_of(process)
     browser.ask("Page.navigate", url=address)
-    browser.wait("document.readyState === 'complete' && document.querySelector('main svg') !== null && (window.mark = 1)")
+    browser.wait(
+        "document.readyState === 'complete' && document.querySelector('main svg') !== null &&"
+        " (window.mark = 1)"
+    )
     assert browser.wait("document.querySelector('h1').textContent") == "0 of 18 steps are done"
     browser.wait("document.querySelector('main table')?.textContent.includes('worker 0 does it')")
     # The text changes while the page stays: its mark is still there.
@@ -139,20 +174,29 @@ def test_the_page_follows_a_runner(bench: Bench, browser: Browser) -> None:
     browser.ask("Emulation.setScriptExecutionDisabled", value=True)
     browser.ask("Page.reload")
     until = time.monotonic() + LONG
-    while not all(words in (source := browser.source()) for words in ("<svg", "1 of 18 steps are done</h1>", "worker 0 does it")):
+    while not all(
+        words in (source := browser.source())
+        for words in ("<svg", "1 of 18 steps are done</h1>", "worker 0 does it")
+    ):
         assert time.monotonic() < until, source
         time.sleep(0.1)
     browser.ask("Emulation.setScriptExecutionDisabled", value=False)
     browser.ask("Page.navigate", url=address)
     browser.wait("document.querySelector('main svg') !== null")
     bench.let_go(1)
-    assert process.communicate(timeout=LONG)[0].endswith("18 of 18 steps are done, and the judge says yes\n")
+    assert process.communicate(timeout=LONG)[0].endswith(
+        "18 of 18 steps are done, and the judge says yes\n"
+    )
     browser.wait("!document.getElementById('gone').hidden")
     asked = {url for url in browser.asked if url != "about:blank"}
-    assert {address, f"{address}now"} <= asked <= {address, f"{address}now", f"{address}favicon.ico"}
+    assert (
+        {address, f"{address}now"} <= asked <= {address, f"{address}now", f"{address}favicon.ico"}
+    )
 
 
-def reply(address: str, path: str = "/", method: str = "GET", host: str = "") -> tuple[int, dict[str, str], str]:
+def reply(
+    address: str, path: str = "/", method: str = "GET", host: str = ""
+) -> tuple[int, dict[str, str], str]:
     place = address.split("/")[2]
     connection = http.client.HTTPConnection(place, timeout=LONG)
     connection.request(method, path, headers={"Host": host or place})
@@ -170,15 +214,27 @@ def test_the_page_has_the_picture_of_draw_and_nothing_from_outside(bench: Bench)
     wait_until(lambda: "2 copy 0 1 d: 1 failure" in bench.run("status")[1])
     picture = programs.ask("draw", bench.bundle.read_text() + bench.run("history")[1]).text
     until = time.monotonic() + LONG
-    while "<td>2<td>copy 0 1 d<td>1 failure" not in (text := reply(address, "/now")[2]) or picture not in text:
+    while (
+        "<td>2<td>copy 0 1 d<td>1 failure" not in (text := reply(address, "/now")[2])
+        or picture not in text
+    ):
         assert time.monotonic() < until, text
         time.sleep(0.05)
     assert "2 of 18 steps are done" in text
     status, headers, whole = reply(address)
-    assert status == 200 and headers["Content-Security-Policy"].startswith("default-src 'none'") and whole.startswith("<!DOCTYPE html>")
+    assert (
+        status == 200
+        and headers["Content-Security-Policy"].startswith("default-src 'none'")
+        and whole.startswith("<!DOCTYPE html>")
+    )
     # No link and no address but that of SVG's names.
     assert set(re.findall(r"\w+://[^\"' ]*", whole)) == {"http://www.w3.org/2000/svg"}
-    for path, method, host, wanted in (("/", "GET", "example.org", 404), ("/now", "GET", "example.org:80", 404), ("/other", "GET", "", 404), ("/", "POST", "", 501)):
+    for path, method, host, wanted in (
+        ("/", "GET", "example.org", 404),
+        ("/now", "GET", "example.org:80", 404),
+        ("/other", "GET", "", 404),
+        ("/", "POST", "", 501),
+    ):
         assert reply(address, path, method, host)[0] == wanted
     for host in (f"localhost:{address.split(':')[2][:-1]}", "127.0.0.1"):
         assert reply(address, host=host)[0] == 200

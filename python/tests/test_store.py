@@ -1,4 +1,6 @@
-"""The reference store: versions, lines of histories, nodes over each kind of server, right runs and a broken store, judged."""
+"""The reference store: versions, lines of histories, nodes over each kind of server, right runs and
+a broken store, judged.
+"""
 
 from __future__ import annotations
 
@@ -97,9 +99,14 @@ def test_a_server_merges_as_merged_does(node: ServerNode[Any]) -> None:
     stored: dict[str, list[Version]] = {}
     for put in range(300):
         contents: dict[str, list[Version]] = {}
-        for key in draw.sample(["k", "l", "\u00e9 /\"", ""], draw.randrange(3)):
-            clocks = [{writer: draw.randrange(1, 4) for writer in draw.sample("abc", draw.randrange(4))} for _ in range(draw.randrange(3))]
-            contents[key] = [Version(draw.randrange(10**9), clock, f"\u00e9 /\" {put}") for clock in clocks]
+        for key in draw.sample(["k", "l", '\u00e9 /"', ""], draw.randrange(3)):
+            clocks = [
+                {writer: draw.randrange(1, 4) for writer in draw.sample("abc", draw.randrange(4))}
+                for _ in range(draw.randrange(3))
+            ]
+            contents[key] = [
+                Version(draw.randrange(10**9), clock, f'\u00e9 /" {put}') for clock in clocks
+            ]
             stored[key] = merged(stored.get(key, []), contents[key])
         node.merge("0.1.2", contents)
         assert node.scan("0.1.2") == stored
@@ -130,7 +137,9 @@ def test_what_was_merged_outlives_a_kill_and_no_wipe(node: ServerNode[Any]) -> N
             with pytest.raises(Gone):
                 node.fetch("0.0.0", "k0")
             node.start()
-            assert node.scan("0.0.0") == {f"k{known}": [version(known, a=known + 1)] for known in range(put + 1)}
+            assert node.scan("0.0.0") == {
+                f"k{known}": [version(known, a=known + 1)] for known in range(put + 1)
+            }
     node.kill()
     node.kill()
     node.wipe()
@@ -166,34 +175,57 @@ def test_a_kill_in_the_middle_of_merges_loses_none_that_was_answered(node: Serve
 def test_writers_of_one_key_lose_nothing(node: ServerNode[Any]) -> None:
     def write(writer: int) -> None:
         for put in range(25):
-            node.merge("0.0.0", {key: [version(put, **{f"w{writer}.{put}": 1})] for key in ("k", "l")[:: 1 if writer % 2 else -1]})
+            node.merge(
+                "0.0.0",
+                {
+                    key: [version(put, **{f"w{writer}.{put}": 1})]
+                    for key in ("k", "l")[:: 1 if writer % 2 else -1]
+                },
+            )
 
     with ThreadPoolExecutor(4) as pool:
         for one in [pool.submit(write, writer) for writer in range(4)]:
             one.result()
     for key in ("k", "l"):
-        assert sorted(next(iter(kept.clock)) for kept in node.fetch("0.0.0", key)) == sorted(f"w{writer}.{put}" for writer in range(4) for put in range(25))
+        assert sorted(next(iter(kept.clock)) for kept in node.fetch("0.0.0", key)) == sorted(
+            f"w{writer}.{put}" for writer in range(4) for put in range(25)
+        )
 
 
 def test_a_server_ends_with_its_store(servers: str, folder: str) -> None:
-    words = "import sys; from ringplan.store.nodes import *; n = choose(sys.argv[1])(sys.argv[2], 'n'); n.start(); print(n.process.pid, flush=True); input()"
-    with subprocess.Popen([sys.executable, "-c", words, servers, folder], stdin=subprocess.PIPE, stdout=subprocess.PIPE, cwd=TOP / "python") as store:
+    words = (
+        "import sys; from ringplan.store.nodes import *; n = choose(sys.argv[1])(sys.argv[2], 'n');"
+        " n.start(); print(n.process.pid, flush=True); input()"
+    )
+    with subprocess.Popen(
+        [sys.executable, "-c", words, servers, folder],
+        stdin=subprocess.PIPE,
+        stdout=subprocess.PIPE,
+        cwd=TOP / "python",
+    ) as store:
         assert store.stdout is not None
         server = int(store.stdout.readline())
         store.kill()
     until = time.monotonic() + LONG
-    while pathlib.Path(f"/proc/{server}").exists() and ") Z " not in pathlib.Path(f"/proc/{server}/stat").read_text():
+    while (
+        pathlib.Path(f"/proc/{server}").exists()
+        and ") Z " not in pathlib.Path(f"/proc/{server}/stat").read_text()
+    ):
         assert time.monotonic() < until
         time.sleep(0.01)
 
 
-def test_what_is_not_installed_is_named(monkeypatch: pytest.MonkeyPatch, tmp_path: pathlib.Path, capsys: pytest.CaptureFixture[str]) -> None:
+def test_what_is_not_installed_is_named(
+    monkeypatch: pytest.MonkeyPatch, tmp_path: pathlib.Path, capsys: pytest.CaptureFixture[str]
+) -> None:
     plan = TOP / "examples/planned_grow.bundle"
     monkeypatch.setenv("PATH", str(tmp_path))
     monkeypatch.setitem(sys.modules, "psycopg2", None)  # type: ignore[misc]
     monkeypatch.delitem(sys.modules, "ringplan.store.postgres_node", raising=False)
     for kind, package in (("redis", "redis"), ("postgres", "python3-psycopg2")):
-        monkeypatch.setattr(sys, "argv", ["store", str(plan), str(plan), str(tmp_path / "out"), "--servers", kind])
+        monkeypatch.setattr(
+            sys, "argv", ["store", str(plan), str(plan), str(tmp_path / "out"), "--servers", kind]
+        )
         with pytest.raises(SystemExit) as ended:
             main()
         assert ended.value.code == 2
@@ -214,7 +246,9 @@ def bundle() -> tuple[str, str]:
 def test_a_run_is_judged_yes(bundle: tuple[str, str], servers: str) -> None:
     kills = 0
     while not kills:
-        text, counts = run(*bundle, Load(operations=30, faults=0.2, outage=0.1, limit=600), servers=servers)
+        text, counts = run(
+            *bundle, Load(operations=30, faults=0.2, outage=0.1, limit=600), servers=servers
+        )
         assert programs.ask("replay", text).first() == "yes"
         assert counts["steps"] == counts["of"]
         assert counts["held at too few slots"] == 0
@@ -222,5 +256,10 @@ def test_a_run_is_judged_yes(bundle: tuple[str, str], servers: str) -> None:
 
 
 def test_a_broken_store_is_refused(bundle: tuple[str, str]) -> None:
-    said = (programs.ask("replay", run(*bundle, Load(seed, operations=10, faults=0.2, limit=30), "ack_early")[0]).first() for seed in range(10))
+    said = (
+        programs.ask(
+            "replay", run(*bundle, Load(seed, operations=10, faults=0.2, limit=30), "ack_early")[0]
+        ).first()
+        for seed in range(10)
+    )
     assert any(answer.startswith("no 70 ") for answer in said)

@@ -1,4 +1,6 @@
-"""Each example bundle is read and written again, byte for byte; texts with a second spelling are refused."""
+"""Each example bundle is read and written again, byte for byte; texts with a second spelling are
+refused.
+"""
 
 from __future__ import annotations
 
@@ -50,7 +52,8 @@ def test_lines_of_steps_are_written_as_they_were_read() -> None:
     lines = [
         '{"after":[],"do":"join","node":"d","step":0}',
         '{"after":[0],"do":"mirror","partition":0,"slot":1,"step":1,"to":"d"}',
-        '{"after":[1],"do":"copy","from":["a","c"],"partition":0,"slot":1,"slots":[0,2],"step":2,"to":"d"}',
+        '{"after":[1],"do":"copy","from":["a","c"],"partition":0,"slot":1,"slots":[0,2],"step":2,'
+        '"to":"d"}',
         '{"after":[2],"do":"switch","partition":0,"slot":1,"step":3}',
         '{"after":[3],"do":"drop","node":"b","partition":0,"slot":1,"step":4}',
     ]

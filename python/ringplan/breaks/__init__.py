@@ -1,1 +1,3 @@
-"""`ringplan-break`: a run in which a refused plan breaks a promise, and a plain machine that confirms it."""
+"""`ringplan-break`: a run in which a refused plan breaks a promise, and a plain machine that
+confirms it.
+"""

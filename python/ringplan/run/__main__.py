@@ -1,8 +1,11 @@
 """The command line of the runner.
 
-    ringplan-run apply BUNDLE --do FOLDER [--board FILE|etcd://HOST:PORT/NAME] [--new] [--workers K] [--give-up N] [--layout FILE] [--serve PORT]
-    ringplan-run around [--dead NODE].. [--leave P.I].. [--rest] [--back] [--layout FILE] | rest | leave P.I  [--board BOARD]
-    ringplan-run status | history | judge | bundle | retry STEP | limit K [--node NODE=K] | forget  [--board BOARD]
+    ringplan-run apply BUNDLE --do FOLDER [--board FILE|etcd://HOST:PORT/NAME] [--new] [--workers K]
+                 [--give-up N] [--layout FILE] [--serve PORT]
+    ringplan-run around [--dead NODE].. [--leave P.I].. [--rest] [--back] [--layout FILE]
+                 | rest | leave P.I  [--board BOARD]
+    ringplan-run status | history | judge | bundle | retry STEP | limit K [--node NODE=K]
+                 | forget  [--board BOARD]
     ringplan-run boards
 """
 
@@ -36,13 +39,20 @@ from ringplan.run.sqlite import SqliteBoard
 
 
 def read_bundle(path: str) -> str:
-    """A bundle that is a ring, a plan and its certificate. `ringplan steps` reads more of it than its first words."""
+    """A bundle that is a ring, a plan and its certificate.
+
+    `ringplan steps` reads more of it than its first words.
+    """
     try:
         with open(path, encoding="ascii", newline="") as file:
             bundle = file.read()
     except (OSError, UnicodeError) as error:
         raise Stop(Status.FAULT, f"{path}: {error}") from error
-    if re.findall(rf"^({'|'.join(texts.READERS)}) [0-9]+$", bundle, re.M) != ["ring", "plan", "cert"]:
+    if re.findall(rf"^({'|'.join(texts.READERS)}) [0-9]+$", bundle, re.M) != [
+        "ring",
+        "plan",
+        "cert",
+    ]:
         raise Stop(Status.FAULT, f"{path}: a bundle to apply is a ring, a plan and its certificate")
     return bundle
 
@@ -61,7 +71,12 @@ def place(words: argparse.Namespace) -> str:
     if words.board is None:
         found = boards_here()
         if len(found) != 1:
-            raise Stop(Status.FAULT, f"--board must name one of these: {' '.join(found)}" if found else "there is no board in this folder")
+            raise Stop(
+                Status.FAULT,
+                f"--board must name one of these: {' '.join(found)}"
+                if found
+                else "there is no board in this folder",
+            )
         words.board = found[0]
     return str(words.board)
 
@@ -72,7 +87,11 @@ def open_board(words: argparse.Namespace, is_new: bool = False, is_read: bool = 
     if not name.startswith(("etcd:", "etcds:")):
         return SqliteBoard(name, is_new, is_read)
     try:
-        password = pathlib.Path(words.password_file).read_text().rstrip("\n") if words.password_file else ""
+        password = (
+            pathlib.Path(words.password_file).read_text().rstrip("\n")
+            if words.password_file
+            else ""
+        )
         for path in (words.ca, words.cert, words.key):
             open(path or os.devnull).close()
     except (OSError, UnicodeError) as error:
@@ -90,7 +109,10 @@ def make_board(words: argparse.Namespace, bundle: str) -> Board:
         return open_board(words)
     except NoBoard as missing:
         if not words.new and not is_wanted(words.board, bundle):
-            raise Stop(Status.OTHER_PLAN, f"{missing}: `apply --new` makes it, and the plan begins from its start") from missing
+            raise Stop(
+                Status.OTHER_PLAN,
+                f"{missing}: `apply --new` makes it, and the plan begins from its start",
+            ) from missing
     return open_board(words, is_new=True)
 
 
@@ -98,14 +120,24 @@ def is_wanted(board: str, bundle: str) -> bool:
     """Shows the plan at a terminal, and asks."""
     if not (sys.stdin.isatty() and sys.stderr.isatty()):
         return False
-    print(*programs.ask("show", bundle).text.splitlines()[:5], f"There is no board {board}. Make it, and begin? [y/N] ", sep="\n", end="", file=sys.stderr, flush=True)
+    print(
+        *programs.ask("show", bundle).text.splitlines()[:5],
+        f"There is no board {board}. Make it, and begin? [y/N] ",
+        sep="\n",
+        end="",
+        file=sys.stderr,
+        flush=True,
+    )
     return sys.stdin.readline().strip().lower() in ("y", "yes")
 
 
 def apply(words: argparse.Namespace) -> Status:
     bundle = read_bundle(words.bundle)
     if words.plan_sum not in (None, sum_of(bundle)):
-        raise Stop(Status.OTHER_PLAN, f"{words.bundle} has the sum {sum_of(bundle)}, and {words.plan_sum} was approved")
+        raise Stop(
+            Status.OTHER_PLAN,
+            f"{words.bundle} has the sum {sum_of(bundle)}, and {words.plan_sum} was approved",
+        )
     programs.find()
     steps, names = read_steps(bundle)
     Hooks(words.do, "").demand(sorted({step.do for step in steps}))
@@ -117,7 +149,18 @@ def apply(words: argparse.Namespace) -> Status:
     if sizes:
         board.set("sizes", sizes)
     hooks = Hooks(words.do, board.locks, dict(words.timeout))
-    runner = Runner(board, hooks, Options(words.workers, words.give_up, words.pause, words.longest_pause, words.only_between, words.on_event))
+    runner = Runner(
+        board,
+        hooks,
+        Options(
+            words.workers,
+            words.give_up,
+            words.pause,
+            words.longest_pause,
+            words.only_between,
+            words.on_event,
+        ),
+    )
 
     try:
         if words.serve is not None:
@@ -139,13 +182,21 @@ def sizes_of(layout: str | None, bundle: str) -> dict[str, int]:
     if answer.status:
         raise Stop(Status.FAULT, answer.errors.rstrip())
     lines = pathlib.Path(layout).read_text(encoding="utf-8")
-    return {partition: int(size) for partition, size in re.findall(r"^ *size +([0-9]+) +([0-9]+) *$", lines, re.M)}
+    return {
+        partition: int(size)
+        for partition, size in re.findall(r"^ *size +([0-9]+) +([0-9]+) *$", lines, re.M)
+    }
 
 
 def around(words: argparse.Namespace) -> Status:
     programs.find()
     board = open_board(words)
-    options = [f"--dead={node}" for node in words.dead] + [f"--leave={slot}" for slot in words.leave] + ["--rest"] * words.rest + ["--back"] * words.back
+    options = (
+        [f"--dead={node}" for node in words.dead]
+        + [f"--leave={slot}" for slot in words.leave]
+        + ["--rest"] * words.rest
+        + ["--back"] * words.back
+    )
     options += [f"--layout={words.layout}"] if words.layout is not None else []
     with board.pausing():
         wait_for_steps(board)
@@ -155,23 +206,39 @@ def around(words: argparse.Namespace) -> Status:
             marked = known._replace(entries=[*known.entries, *downs(known, words.dead)])
             answer = programs.ask("around", marked.text(), *options)
             if answer.status:
-                raise Stop(Status.REFUSED if answer.status == 1 else Status.FAULT, f"the board is as it was:\n{answer.text}{answer.errors}".rstrip())
+                raise Stop(
+                    Status.REFUSED if answer.status == 1 else Status.FAULT,
+                    f"the board is as it was:\n{answer.text}{answer.errors}".rstrip(),
+                )
             *bundle, history = texts.read_texts(answer.text)
             if not isinstance(history, texts.History):
                 raise Stop(Status.FAULT, "`ringplan around` printed no history")
             _, names = read_steps(text := texts.write_texts(bundle))
-            left = [state for state in board.states()[1] if state.is_begun and not state.is_done and state.name not in names]
+            left = [
+                state
+                for state in board.states()[1]
+                if state.is_begun and not state.is_done and state.name not in names
+            ]
             is_swapped = board.swap(known, Change.of(text, names, history.entries))
     print(answer.errors, end="", file=sys.stderr)
     for state in left:
-        print(f"{state.name}: its hook has begun, and no step of the new plan does this", file=sys.stderr)
+        print(
+            f"{state.name}: its hook has begun, and no step of the new plan does this",
+            file=sys.stderr,
+        )
     states = board.states()[1]
-    print(f"{sum(state.is_done for state in states)} of {len(states)} steps of the new plan are done")
+    print(
+        f"{sum(state.is_done for state in states)} of {len(states)} steps of the new plan are done"
+    )
     return Status.DONE
 
 
 def downs(known: Record, dead: Sequence[str]) -> list[str]:
-    """The entries that say in a history which nodes are dead. A node that is not a member, such as one that has not joined yet, or that is down already, has none."""
+    """The entries that say in a history which nodes are dead.
+
+    A node that is not a member, such as one that has not joined yet, or that is down already, has
+    none.
+    """
     (ring, plan), entries = texts.read_plan(known.bundle), set(known.entries)
     members = {node.name for node in ring.nodes if node.is_in}
     done = [step for number, step in enumerate(plan.steps) if f"do {number} = ok" in entries]
@@ -182,12 +249,23 @@ def downs(known: Record, dead: Sequence[str]) -> list[str]:
 
 
 def wait_for_steps(board: Board) -> None:
-    """Waits until nobody does a step but copies. A plan that takes the place of another must know whether such a step is done."""
+    """Waits until nobody does a step but copies.
+
+    A plan that takes the place of another must know whether such a step is done.
+    """
     hooks, said = Hooks("", board.locks), set[Name]()
-    while busy := [state for state in board.states()[1] if not state.is_done and state.name.kind != "copy" and is_busy(board, hooks, state)]:
+    while busy := [
+        state
+        for state in board.states()[1]
+        if not state.is_done and state.name.kind != "copy" and is_busy(board, hooks, state)
+    ]:
         for state in busy:
             if state.name not in said:
-                print(f"waits until {state.number} {state.name} is done, or failed", file=sys.stderr, flush=True)
+                print(
+                    f"waits until {state.number} {state.name} is done, or failed",
+                    file=sys.stderr,
+                    flush=True,
+                )
         said.update(state.name for state in busy)
         time.sleep(LOOK)
 
@@ -204,10 +282,16 @@ def status(words: argparse.Namespace) -> Status:
     if words.format == "json":
         print(json.dumps(report.members(states, pace, is_held)))
     else:
-        lines = [f"{done} of {len(states)} steps are done; {'a' if is_held else 'no'} runner works with the board"]
+        lines = [
+            f"{done} of {len(states)} steps are done; {'a' if is_held else 'no'} runner works with"
+            " the board"
+        ]
         lines += [pace.words(now)] if done < len(states) and pace.sizes else []
         for state in report.begun(states):
-            lines += [f"{state.number} {state.name}: {report.told(state, is_held)}", *(f"    | {line}" for line in state.tries.lines.splitlines())]
+            lines += [
+                f"{state.number} {state.name}: {report.told(state, is_held)}",
+                *(f"    | {line}" for line in state.tries.lines.splitlines()),
+            ]
             lines += [f"    {report.advice(state)}"] if state.tries.is_given_up else []
         print(*lines, sep="\n")
     if any(state.tries.is_given_up and not state.is_done for state in states):
@@ -236,7 +320,10 @@ def boards(words: argparse.Namespace) -> Status:
     for path in boards_here():
         board = SqliteBoard(path, is_read=True)
         _, states = board.states()
-        print(f"{path}: {sum(state.is_done for state in states)} of {len(states)} steps are done; {'a' if board.is_held() else 'no'} runner works with it")
+        print(
+            f"{path}: {sum(state.is_done for state in states)} of {len(states)} steps are done;"
+            f" {'a' if board.is_held() else 'no'} runner works with it"
+        )
     return Status.DONE
 
 
@@ -291,75 +378,190 @@ def timeout(word: str) -> tuple[str, float]:
     return kind, seconds(time)
 
 
-STATUSES = """Exit status: 0 all is done, 1 the plan is refused, no other is found, or the judge says no, 2 the command line, a file or a program is at fault,
-3 the board is of another plan, older than it was, or not there, 4 the board is of this plan, with another ring or certificate, 5 another runner works with the board,
-6 steps were given up, 7 not all steps are done: a signal stopped the runner, or none works"""
+STATUSES = """Exit status: 0 all is done, 1 the plan is refused, no other is found, or the judge
+says no, 2 the command line, a file or a program is at fault, 3 the board is of another plan, older
+than it was, or not there, 4 the board is of this plan, with another ring or certificate, 5 another
+runner works with the board, 6 steps were given up, 7 not all steps are done: a signal stopped the
+runner, or none works"""
 
 
 def add_board(command: argparse.ArgumentParser) -> None:
     """Which board, and how etcd is reached."""
-    command.add_argument("--board", metavar="BOARD", help="a file, or etcd://HOST:PORT/NAME, or etcds:// for TLS (default: ringplan-SUM.board, by the plan's sum)")
-    for option, what in (("--ca", "the certificate of the authority of etcd's"), ("--cert", "the runner's certificate"), ("--key", "its key")):
+    command.add_argument(
+        "--board",
+        metavar="BOARD",
+        help=(
+            "a file, or etcd://HOST:PORT/NAME, or etcds:// for TLS (default: ringplan-SUM.board, by"
+            " the plan's sum)"
+        ),
+    )
+    for option, what in (
+        ("--ca", "the certificate of the authority of etcd's"),
+        ("--cert", "the runner's certificate"),
+        ("--key", "its key"),
+    ):
         command.add_argument(option, metavar="FILE", help=what)
     command.add_argument("--user", metavar="NAME", help="the runner's user in etcd")
     command.add_argument("--password-file", metavar="FILE", help="the file of the user's password")
 
 
 def add_lease(command: argparse.ArgumentParser) -> None:
-    command.add_argument("--lease", type=count, default=60, metavar="SECONDS", help="how long etcd waits for a dead runner (default: %(default)s)")
+    command.add_argument(
+        "--lease",
+        type=count,
+        default=60,
+        metavar="SECONDS",
+        help="how long etcd waits for a dead runner (default: %(default)s)",
+    )
 
 
 def add_rest(command: argparse.ArgumentParser) -> None:
     add_lease(command)
-    command.add_argument("--now", dest="back", action="store_true", help="takes mirrors back whose copies have no chunk")
+    command.add_argument(
+        "--now",
+        dest="back",
+        action="store_true",
+        help="takes mirrors back whose copies have no chunk",
+    )
     command.set_defaults(rest=True, leave=[], dead=[], layout=None)
 
 
 def add_leave(command: argparse.ArgumentParser) -> None:
     add_lease(command)
-    command.add_argument("leave", nargs="+", metavar="P.I", help="a slot, by its partition and its index")
+    command.add_argument(
+        "leave", nargs="+", metavar="P.I", help="a slot, by its partition and its index"
+    )
     command.set_defaults(rest=False, back=False, dead=[], layout=None)
 
 
 def add_around(command: argparse.ArgumentParser) -> None:
     add_lease(command)
-    command.add_argument("--dead", action="append", default=[], metavar="NODE", help="a node that is dead for good; give each of them")
-    command.add_argument("--leave", action="append", default=[], metavar="P.I", help="a slot that stays with its owner, by its partition and its index")
-    command.add_argument("--rest", action="store_true", help="ends the moves that have begun, and begins no others")
-    command.add_argument("--back", action="store_true", help="takes mirrors back that cannot be filled")
-    command.add_argument("--layout", metavar="FILE", help="what is known of nodes and partitions, as `ringplan around` reads it")
+    command.add_argument(
+        "--dead",
+        action="append",
+        default=[],
+        metavar="NODE",
+        help="a node that is dead for good; give each of them",
+    )
+    command.add_argument(
+        "--leave",
+        action="append",
+        default=[],
+        metavar="P.I",
+        help="a slot that stays with its owner, by its partition and its index",
+    )
+    command.add_argument(
+        "--rest", action="store_true", help="ends the moves that have begun, and begins no others"
+    )
+    command.add_argument(
+        "--back", action="store_true", help="takes mirrors back that cannot be filled"
+    )
+    command.add_argument(
+        "--layout",
+        metavar="FILE",
+        help="what is known of nodes and partitions, as `ringplan around` reads it",
+    )
 
 
 def add_apply(command: argparse.ArgumentParser) -> None:
     add_lease(command)
     command.add_argument("bundle", help="a ring, a plan and its certificate")
     command.add_argument("--do", required=True, metavar="FOLDER", help="the folder of the hooks")
-    command.add_argument("--workers", type=count, default=1, metavar="K", help="how many steps may be done at once (default: %(default)s)")
-    command.add_argument("--give-up", type=count, metavar="N", help="gives a step up that failed so often (default: never)")
-    command.add_argument("--pause", type=seconds, default=1.0, metavar="SECONDS", help="the pause before a second try; it doubles (default: %(default)s)")
-    command.add_argument("--longest-pause", type=seconds, default=300.0, metavar="SECONDS", help="the longest pause (default: %(default)s)")
+    command.add_argument(
+        "--workers",
+        type=count,
+        default=1,
+        metavar="K",
+        help="how many steps may be done at once (default: %(default)s)",
+    )
+    command.add_argument(
+        "--give-up",
+        type=count,
+        metavar="N",
+        help="gives a step up that failed so often (default: never)",
+    )
+    command.add_argument(
+        "--pause",
+        type=seconds,
+        default=1.0,
+        metavar="SECONDS",
+        help="the pause before a second try; it doubles (default: %(default)s)",
+    )
+    command.add_argument(
+        "--longest-pause",
+        type=seconds,
+        default=300.0,
+        metavar="SECONDS",
+        help="the longest pause (default: %(default)s)",
+    )
     add_watching(command)
 
 
 def add_watching(command: argparse.ArgumentParser) -> None:
     """What `apply` asks for before it begins, when it begins copies, and what it says."""
-    command.add_argument("--new", action="store_true", help="makes the board if it is not there, without asking")
-    command.add_argument("--plan-sum", metavar="SHA256", help="refuses a bundle with another SHA-256 sum")
-    command.add_argument("--only-between", type=times, metavar="HH:MM-HH:MM", help="lets copies begin only at this time of day")
-    command.add_argument("--on-event", metavar="COMMAND", help="a program that gets a line of JSON if a step is given up, a node is dead, the judge says no, or all is done")
-    command.add_argument("--timeout", type=timeout, action="append", default=[], metavar="KIND=SECONDS", help="ends a hook that takes longer, and counts a failure")
-    command.add_argument("--serve", type=int, metavar="PORT", help="shows a page at this port; 0 takes a free one")
-    command.add_argument("--listen", default="127.0.0.1", metavar="ADDRESS", help="the address of the page; elsewhere than on loopback it has a token (default: %(default)s)")
-    command.add_argument("--layout", metavar="FILE", help="a layout with the sizes of partitions, for the time that is left")
+    command.add_argument(
+        "--new", action="store_true", help="makes the board if it is not there, without asking"
+    )
+    command.add_argument(
+        "--plan-sum", metavar="SHA256", help="refuses a bundle with another SHA-256 sum"
+    )
+    command.add_argument(
+        "--only-between",
+        type=times,
+        metavar="HH:MM-HH:MM",
+        help="lets copies begin only at this time of day",
+    )
+    command.add_argument(
+        "--on-event",
+        metavar="COMMAND",
+        help=(
+            "a program that gets a line of JSON if a step is given up, a node is dead, the judge"
+            " says no, or all is done"
+        ),
+    )
+    command.add_argument(
+        "--timeout",
+        type=timeout,
+        action="append",
+        default=[],
+        metavar="KIND=SECONDS",
+        help="ends a hook that takes longer, and counts a failure",
+    )
+    command.add_argument(
+        "--serve", type=int, metavar="PORT", help="shows a page at this port; 0 takes a free one"
+    )
+    command.add_argument(
+        "--listen",
+        default="127.0.0.1",
+        metavar="ADDRESS",
+        help=(
+            "the address of the page; elsewhere than on loopback it has a token (default:"
+            " %(default)s)"
+        ),
+    )
+    command.add_argument(
+        "--layout",
+        metavar="FILE",
+        help="a layout with the sizes of partitions, for the time that is left",
+    )
 
 
 def add_limit(command: argparse.ArgumentParser) -> None:
     command.add_argument("count", type=count, nargs="?", metavar="K", help="how many steps at once")
-    command.add_argument("--node", type=most, action="append", default=[], metavar="NODE=K", help="how many copies at once read or fill a node")
+    command.add_argument(
+        "--node",
+        type=most,
+        action="append",
+        default=[],
+        metavar="NODE=K",
+        help="how many copies at once read or fill a node",
+    )
 
 
 def command_line() -> argparse.ArgumentParser:
-    parser = argparse.ArgumentParser(prog="ringplan-run", description="Goes through an approved plan by hooks.", epilog=STATUSES)
+    parser = argparse.ArgumentParser(
+        prog="ringplan-run", description="Goes through an approved plan by hooks.", epilog=STATUSES
+    )
     parser.add_argument("--version", action="version", version=f"ringplan-run {__version__}")
     commands = parser.add_subparsers(dest="command", required=True, metavar="COMMAND")
     calls = {
@@ -369,14 +571,29 @@ def command_line() -> argparse.ArgumentParser:
         "retry": (retry, "has a step tried again that was given up, or that pauses"),
         "judge": (see_judge, "has the history so far judged"),
         "bundle": (print_bundle, "prints the bundle that the board has now"),
-        "limit": (limit, "sets how many steps each runner may do at once, or without a number ends the limits"),
+        "limit": (
+            limit,
+            "sets how many steps each runner may do at once, or without a number ends the limits",
+        ),
         "boards": (boards, "lists the boards of this folder"),
         "forget": (forget, "deletes a board, with what it knows"),
         "rest": (around, "ends the moves that have begun, and begins no others"),
         "leave": (around, "leaves a slot with its owner, and ends its move"),
-        "around": (around, "puts another plan in the place of the board's: around nodes that died, at rest, or with slots left out"),
+        "around": (
+            around,
+            (
+                "puts another plan in the place of the board's: around nodes that died, at rest, or"
+                " with slots left out"
+            ),
+        ),
     }
-    more = {"apply": add_apply, "limit": add_limit, "rest": add_rest, "leave": add_leave, "around": add_around}
+    more = {
+        "apply": add_apply,
+        "limit": add_limit,
+        "rest": add_rest,
+        "leave": add_leave,
+        "around": add_around,
+    }
     for name, (call, what) in calls.items():
         command = commands.add_parser(name, help=what, description=what)
         command.set_defaults(call=call)
@@ -385,7 +602,12 @@ def command_line() -> argparse.ArgumentParser:
         if name in more:
             more[name](command)
         if name == "status":
-            command.add_argument("--format", choices=["text", "json"], default="text", help="how it is printed (default: %(default)s)")
+            command.add_argument(
+                "--format",
+                choices=["text", "json"],
+                default="text",
+                help="how it is printed (default: %(default)s)",
+            )
         if name == "retry":
             command.add_argument("step", type=int, help="the step's number")
         if name == "history":

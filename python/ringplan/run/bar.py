@@ -23,13 +23,28 @@ def shown(runner: Runner) -> Iterator[None]:
         yield
         return
     said = progress.TextColumn("steps{task.fields[pace]}")
-    columns = (progress.BarColumn(), progress.MofNCompleteColumn(), said, progress.TimeElapsedColumn())
-    with progress.Progress(*columns, console=console.Console(stderr=True), redirect_stdout=sys.stdout.isatty()) as bar:
-        task, over = bar.add_task("", total=len(runner.steps), completed=len(runner.done), pace=""), threading.Event()
+    columns = (
+        progress.BarColumn(),
+        progress.MofNCompleteColumn(),
+        said,
+        progress.TimeElapsedColumn(),
+    )
+    with progress.Progress(
+        *columns, console=console.Console(stderr=True), redirect_stdout=sys.stdout.isatty()
+    ) as bar:
+        task, over = (
+            bar.add_task("", total=len(runner.steps), completed=len(runner.done), pace=""),
+            threading.Event(),
+        )
 
         def show() -> None:
             words = runner.pace.words(time.time())
-            bar.update(task, total=len(runner.steps), completed=len(runner.done), pace=words and f"; {words}")
+            bar.update(
+                task,
+                total=len(runner.steps),
+                completed=len(runner.done),
+                pace=words and f"; {words}",
+            )
 
         def follow() -> None:
             while not over.wait(0.2):

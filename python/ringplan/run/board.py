@@ -1,10 +1,11 @@
-"""What a runner remembers of a plan: which steps are done, who does which one, and the history, all in one place that outlives the runner."""
+"""What a runner remembers of a plan: which steps are done, who does which one, and the history, all
+in one place that outlives the runner.
+"""
 
 from __future__ import annotations
 
 import contextlib
 import enum
-import math
 import os
 import time
 from collections.abc import Container, Iterable, Sequence
@@ -57,14 +58,20 @@ class NoBoard(Stop):
 
 
 class ClaimEnded(Stop):
-    """A claim that is no longer its worker's. Nothing is noted by it; another worker may do the step."""
+    """A claim that is no longer its worker's.
+
+    Nothing is noted by it; another worker may do the step.
+    """
 
     def __init__(self, name: Name) -> None:
         super().__init__(Status.OTHER_RUNNER, f"the claim of {name} has ended")
 
 
 class Name(NamedTuple):
-    """A step by what it does. Its number may change when a plan is changed half way; its name stays."""
+    """A step by what it does.
+
+    Its number may change when a plan is changed half way; its name stays.
+    """
 
     kind: str
     # Both are -1 for a step of no slot.
@@ -96,7 +103,9 @@ def names_of(steps: Sequence[StepLine]) -> list[Name]:
 
 
 class Note(NamedTuple):
-    """An entry of the history of a step: `do`, `open`, `chunk`, `close` or `abort`, and the number of the chunk. Or `down` with a node, which is of no step."""
+    """An entry of the history of a step: `do`, `open`, `chunk`, `close` or `abort`, and the number
+    of the chunk. Or `down` with a node, which is of no step.
+    """
 
     word: str
     chunk: int | None = None
@@ -105,15 +114,20 @@ class Note(NamedTuple):
         """The entry, for the number that the step has."""
         if self.is_down():
             return f"{self.word} = ok"
-        return f"{self.word} {number} = ok" if self.chunk is None else f"{self.word} {number} {self.chunk} = ok"
-
+        return (
+            f"{self.word} {number} = ok"
+            if self.chunk is None
+            else f"{self.word} {number} {self.chunk} = ok"
+        )
 
     def is_down(self) -> bool:
         return self.word.startswith("down ")
 
 
 class Progress(NamedTuple):
-    """How far a step is by its entries in the history: of a copy whether it is open, and its chunks."""
+    """How far a step is by its entries in the history: of a copy whether it is open, and its
+    chunks.
+    """
 
     is_done: bool = False
     is_open: bool = False
@@ -126,7 +140,7 @@ class Progress(NamedTuple):
 
 
 class Record(NamedTuple):
-    """A board's bundle, and the lines of its history between the first and the last, at one moment."""
+    """A board's bundle and its history without the first and the last line, at one moment."""
 
     # Another one for each plan that the board has had.
     edition: str
@@ -169,9 +183,11 @@ class Change:
 
 @dataclass(frozen=True)
 class Tries:
-    """How a step was tried in vain: how often its hook failed, how often it said `not now`, and how long it pauses, up to when in seconds since 1970.
+    """How a step was tried in vain: how often its hook failed, how often it said `not now`, and how
+    long it pauses, up to when in seconds since 1970.
 
-    Then how its last hook ended, and what that printed last."""
+    Then how its last hook ended, and what that printed last.
+    """
 
     failures: int = 0
     waits: int = 0
@@ -182,7 +198,11 @@ class Tries:
     lines: str = ""
 
     def left(self) -> float:
-        """How long it still pauses. An end that is further away than the pause is long means that the clock went back: the pause is over."""
+        """How long it still pauses.
+
+        An end that is further away than the pause is long means that the clock went back: the pause
+        is over.
+        """
         left = self.until - time.time()
         return left if 0 < left <= self.pause else 0.0
 
@@ -210,7 +230,11 @@ class Claim:
 
 @dataclass(frozen=True)
 class State:
-    """A step as the board has it. The worker is empty if no one does it; `since` is when it began, and `ended` when it was done, in seconds since 1970."""
+    """A step as the board has it.
+
+    The worker is empty if no one does it; `since` is when it began, and `ended` when it was done,
+    in seconds since 1970.
+    """
 
     number: int
     name: Name
@@ -235,76 +259,119 @@ def demand_same(board: str, known: str, bundle: str) -> None:
     if plan_of(known) != plan_of(bundle):
         raise Stop(Status.OTHER_PLAN, f"the board {board} is of another plan")
     if known != bundle:
-        raise Stop(Status.CHANGED_BUNDLE, f"the board {board} is of this plan, with another ring or certificate")
+        raise Stop(
+            Status.CHANGED_BUNDLE,
+            f"the board {board} is of this plan, with another ring or certificate",
+        )
 
 
 def demand_left(number: int, is_done: bool | None) -> None:
     """A `Stop` where a step is done, or is not there: then `is_done` is None."""
     if is_done is None or is_done:
-        raise Stop(Status.FAULT, f"there is no step {number}" if is_done is None else f"step {number} is done")
+        raise Stop(
+            Status.FAULT,
+            f"there is no step {number}" if is_done is None else f"step {number} is done",
+        )
 
 
 class Seen:
-    """What a folder of locks knows of its board, in a file beside them: the board's identity, and a number that only grows there. So a board that comes back older is noticed."""
+    """What a folder of locks knows of its board, in a file beside them: the board's identity, and a
+    number that only grows there. So a board that comes back older is noticed.
+    """
 
     def __init__(self, locks: str) -> None:
         self.path, self.known = os.path.join(locks, "board"), ("", 0)
 
     def demand(self, board: str, identity: str, number: int) -> None:
         """A `Stop` if the board is not the one that was seen here, or is older."""
-        with contextlib.suppress(FileNotFoundError, ValueError), open(self.path, encoding="utf-8") as file:
+        with contextlib.suppress(FileNotFoundError, ValueError), open(
+            self.path, encoding="utf-8"
+        ) as file:
             known, least = file.read().split()
             self.known = known, int(least)
             if known != identity or number < int(least):
-                raise Stop(Status.OTHER_PLAN, f"the board {board} is older than {self.path} knows it, or was made again: its plan must not begin again")
+                raise Stop(
+                    Status.OTHER_PLAN,
+                    (
+                        f"the board {board} is older than {self.path} knows it, or was made again:"
+                        " its plan must not begin again"
+                    ),
+                )
 
     def keep(self, identity: str, number: int) -> None:
         if number > self.known[1]:
             self.known = identity, number
             os.makedirs(os.path.dirname(self.path) or ".", exist_ok=True)
-            with open(os.open(self.path, os.O_WRONLY | os.O_CREAT, 0o666), "wb", buffering=0) as file:
+            with open(
+                os.open(self.path, os.O_WRONLY | os.O_CREAT, 0o666), "wb", buffering=0
+            ) as file:
                 file.write(f"{identity} {number:020d}\n".encode())
 
 
 class Board(Protocol):
-    """The memory of a runner. Each call is one transaction: after a crash it has happened or not."""
+    """The memory of a runner.
+
+    Each call is one transaction: after a crash it has happened or not.
+    """
 
     # A folder of this machine for the locks of hooks that run.
     locks: str
 
     def begin(self, bundle: str, names: Sequence[Name]) -> None:
-        """Makes the board this plan's. Claims of a runner that died end. A board of another plan is a `Stop`; one that had this plan before a `swap` is not.
+        """Makes the board this plan's.
 
-        On a board for one runner at a time, another runner is a `Stop` too."""
+        Claims of a runner that died end. A board of another plan is a `Stop`; one that had this
+        plan before a `swap` is not.
 
-    def claim(self, worker: str, edition: str, candidates: Iterable[Name], brief: Container[str] = ()) -> list[Claim] | float | None:
-        """Claims the first of the candidates that no one has, that is not given up and whose pause is over; and if its kind is brief, more of such kinds.
+        On a board for one runner at a time, another runner is a `Stop` too.
+        """
 
-        If there is none, returns in how many seconds to look again: infinity if none of them can ever be claimed. None if no step is given out: the board
-        pauses, or has another edition of the plan."""
+    def claim(
+        self, worker: str, edition: str, candidates: Iterable[Name], brief: Container[str] = ()
+    ) -> list[Claim] | float | None:
+        """Claims the first of the candidates that no one has, that is not given up and whose pause
+        is over; and if its kind is brief, more of such kinds.
+
+        If there is none, returns in how many seconds to look again: infinity if none of them can
+        ever be claimed. None if no step is given out: the board pauses, or has another edition of
+        the plan.
+        """
 
     def until(self, claim: Claim) -> float:
-        """The moment up to which the claim is surely the worker's, as a supervisor counts moments. Its hook must end before."""
+        """The moment up to which the claim is surely the worker's, as a supervisor counts moments.
+
+        Its hook must end before.
+        """
 
     def note(self, claim: Claim, notes: Iterable[Note], is_done: bool = False) -> None:
-        """Adds entries to the history, in order. A step that is done is nobody's any more. A claim that has ended is a `ClaimEnded`."""
+        """Adds entries to the history, in order.
+
+        A step that is done is nobody's any more. A claim that has ended is a `ClaimEnded`.
+        """
 
     def give_back(self, claim: Claim, tries: Tries) -> None:
         """Ends a claim of a step that is not done. A claim that has ended is a `ClaimEnded`."""
 
     def retry(self, number: int) -> None:
-        """Forgets in how many tries the step failed. A step that is not there, or done, is a `Stop`."""
+        """Forgets in how many tries the step failed.
+
+        A step that is not there, or done, is a `Stop`.
+        """
 
     def set(self, kind: str, values: dict[str, int]) -> None:
-        """Sets `limits`: how many steps each runner may do at once, under the empty name, and how many copies that read or fill a node, under its name.
+        """Sets `limits`: how many steps each runner may do at once, under the empty name, and how
+        many copies that read or fill a node, under its name.
 
-        Or `sizes`: how much each partition stores, under its number."""
+        Or `sizes`: how much each partition stores, under its number.
+        """
 
     def settings(self, kind: str) -> dict[str, int]:
         """What `set` has set last."""
 
     def lease_left(self) -> float:
-        """How long the runner's claims last if it dies now, in seconds: infinity if that is not bounded."""
+        """How long the runner's claims last if it dies now, in seconds: infinity if that is not
+        bounded.
+        """
 
     def remove(self) -> None:
         """Deletes the board, and what stands beside it. A runner that works with it is a `Stop`."""
@@ -313,13 +380,18 @@ class Board(Protocol):
         """Whether a runner works with the board."""
 
     def end(self, is_quiet: bool = True) -> None:
-        """Ends the runner's work with the board. If a hook may still run, claims in etcd last until the lease ends."""
+        """Ends the runner's work with the board.
+
+        If a hook may still run, claims in etcd last until the lease ends.
+        """
 
     def plan(self) -> tuple[str, str, list[int]]:
         """The edition of the plan, its bundle, and the numbers of the steps that are done."""
 
     def news(self) -> tuple[str, list[Name]]:
-        """The edition of the plan, and steps that other runners have done since the last call, or since `plan`."""
+        """The edition of the plan, and steps that other runners have done since the last call, or
+        since `plan`.
+        """
 
     def states(self) -> tuple[str, list[State]]:
         """The edition of the plan, and all its steps in the order of their numbers."""
@@ -328,15 +400,25 @@ class Board(Protocol):
         """The bundle and the history. Its lines have the numbers that the steps have now."""
 
     def later(self, edition: str, mark: int) -> tuple[int, list[str]] | None:
-        """The lines of the history after a mark, and the mark after them; 0 is the mark before all. None if the plan is not of this edition."""
+        """The lines of the history after a mark, and the mark after them; 0 is the mark before all.
+
+        None if the plan is not of this edition.
+        """
 
     def look(self) -> tuple[Record, list[State]]:
         """The history and all steps at one moment."""
 
     def pausing(self) -> AbstractContextManager[None]:
-        """Lets no runner claim a step while the block runs and this process lives. Two such blocks at once are a `Stop`."""
+        """Lets no runner claim a step while the block runs and this process lives.
+
+        Two such blocks at once are a `Stop`.
+        """
 
     def swap(self, known: Record, change: Change) -> bool:
-        """Puts another plan in the place of the known one, within `pausing`. False where the history has grown since it was known, and then nothing is changed.
+        """Puts another plan in the place of the known one, within `pausing`.
 
-        Who holds a copy that the new history has open goes on with it. All other claims end. No step has failed by the new plan."""
+        False where the history has grown since it was known, and then nothing is changed.
+
+        Who holds a copy that the new history has open goes on with it. All other claims end. No
+        step has failed by the new plan.
+        """

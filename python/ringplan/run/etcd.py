@@ -1,8 +1,10 @@
 """A board in etcd, for runners on several machines.
 
-The keys of a board begin with its name. `plan` names the pieces of the bundle, and the edition. A step has a `claim` while a worker does it, a `step` once it was
-begun, and its `tries`. A `note` has the entries of one call, and a nonce. The key `next` counts the notes; the counter is a note's place in the history.
-`step`, `tries`, `note` and `next` have the edition in their keys, so one change of `plan` puts a plan and a history in the place of others, however long they are.
+The keys of a board begin with its name. `plan` names the pieces of the bundle, and the edition. A
+step has a `claim` while a worker does it, a `step` once it was begun, and its `tries`. A `note` has
+the entries of one call, and a nonce. The key `next` counts the notes; the counter is a note's place
+in the history. `step`, `tries`, `note` and `next` have the edition in their keys, so one change of
+`plan` puts a plan and a history in the place of others, however long they are.
 """
 
 from __future__ import annotations
@@ -26,9 +28,39 @@ from collections.abc import Callable, Container, Iterable, Iterator, Sequence
 from dataclasses import dataclass, replace
 from typing import NamedTuple
 
-from ringplan.run.board import LOOK, TOGETHER, Change, Claim, ClaimEnded, Name, NoBoard, Note, Progress, Record, Seen, State, Status, Stop, Tries, demand_left
+from ringplan.run.board import (
+    LOOK,
+    TOGETHER,
+    Change,
+    Claim,
+    ClaimEnded,
+    Name,
+    NoBoard,
+    Note,
+    Progress,
+    Record,
+    Seen,
+    State,
+    Status,
+    Stop,
+    Tries,
+    demand_left,
+)
 from ringplan.run.board import demand_same
-from ringplan.run.gateway import NO_ANSWER, NOT_FOUND, Access, Etcd, Json, Refused, Value, delete, get, is_changed, is_created, put
+from ringplan.run.gateway import (
+    NO_ANSWER,
+    NOT_FOUND,
+    Access,
+    Etcd,
+    Json,
+    Refused,
+    Value,
+    delete,
+    get,
+    is_changed,
+    is_created,
+    put,
+)
 from ringplan.run.supervisor import now
 
 MEMBER = r"(?:\[[0-9a-fA-F:]+\]|[A-Za-z0-9._-]+):([0-9]{1,5})"
@@ -51,7 +83,9 @@ PAGE = 2000
 
 @dataclass
 class Held:
-    """A claim of this runner: its revision and lease, the plan under which it holds, the step as it was noted last, and whether another plan has ended the claim."""
+    """A claim of this runner: its revision and lease, the plan under which it holds, the step as it
+    was noted last, and whether another plan has ended the claim.
+    """
 
     revision: int
     lease: int
@@ -62,7 +96,9 @@ class Held:
 
 @dataclass(frozen=True)
 class Plan:
-    """A plan as a board has it: its edition, the revision at which the board got it, and the digests of the bundles whose place it took."""
+    """A plan as a board has it: its edition, the revision at which the board got it, and the
+    digests of the bundles whose place it took.
+    """
 
     board: str
     edition: str
@@ -77,7 +113,9 @@ class Plan:
 
     def key(self, kind: str, rest: str | Name = "") -> str:
         """A key of this edition."""
-        return f"{self.board}/{kind}/{self.edition}/{rest.file() if isinstance(rest, Name) else rest}"
+        return (
+            f"{self.board}/{kind}/{self.edition}/{rest.file() if isinstance(rest, Name) else rest}"
+        )
 
 
 def all_of(first: str, limit: int = 0, start: str = "", revision: int = 0) -> Json:
@@ -101,7 +139,9 @@ class Found(NamedTuple):
         return progress_of(self.step.members()) if self.step.created else Progress()
 
     def wait(self) -> float:
-        """In how many seconds to look again: 0 if it can be claimed, and infinity if it never can be."""
+        """In how many seconds to look again: 0 if it can be claimed, and infinity if it never can
+        be.
+        """
         tries = self.tries.tries()
         if self.progress().is_done or tries.is_given_up:
             return math.inf
@@ -117,25 +157,51 @@ def progress_of(step: Json) -> Progress:
 
 
 class EtcdBoard:
-    """A board in etcd. Unlike a file, it is shared by any number of runners: `begin` refuses none. A runner's claims end with its lease.
+    """A board in etcd.
 
-    A request whose answer was lost may have happened. A claim, a note and a claim's end each write a nonce, which is looked for when a request is sent again.
-    So nothing is noted twice. A note compares its claim's revision, so a worker whose lease ended notes nothing."""
+    Unlike a file, it is shared by any number of runners: `begin` refuses none. A runner's claims
+    end with its lease.
 
-    def __init__(self, address: str, is_new: bool = False, lease: int = 60, access: Access = Access(())) -> None:
+    A request whose answer was lost may have happened. A claim, a note and a claim's end each write
+    a nonce, which is looked for when a request is sent again. So nothing is noted twice. A note
+    compares its claim's revision, so a worker whose lease ended notes nothing.
+    """
+
+    def __init__(
+        self, address: str, is_new: bool = False, lease: int = 60, access: Access = Access(())
+    ) -> None:
         parts = ADDRESS.fullmatch(address)
         members = parts[2].split(",") if parts else []
-        if parts is None or not all(0 < int(member.rsplit(":", 1)[1]) < 65536 for member in members):
-            raise Stop(Status.FAULT, f"{address} is not an address etcd://HOST:PORT,../NAME; the name has letters, digits, '.', '_' and '-'")
-        self.address, self.name, self.locks, self.ttl = address, parts[5], f"{parts[5]}.hooks", lease
+        if parts is None or not all(
+            0 < int(member.rsplit(":", 1)[1]) < 65536 for member in members
+        ):
+            raise Stop(
+                Status.FAULT,
+                (
+                    f"{address} is not an address etcd://HOST:PORT,../NAME; the name has letters,"
+                    " digits, '.', '_' and '-'"
+                ),
+            )
+        self.address, self.name, self.locks, self.ttl = (
+            address,
+            parts[5],
+            f"{parts[5]}.hooks",
+            lease,
+        )
         self.seen = Seen(self.locks)
-        self.etcd, self.lock, self.over = Etcd(replace(access, members=tuple(members), is_tls=bool(parts[1]))), threading.Lock(), threading.Event()
+        self.etcd, self.lock, self.over = (
+            Etcd(replace(access, members=tuple(members), is_tls=bool(parts[1]))),
+            threading.Lock(),
+            threading.Event(),
+        )
         self.loading = threading.Lock()
         self.lease, self.ending, self.held = 0, -math.inf, dict[tuple[Name, str], Held]()
         self.who = f"{socket.gethostname()}:{os.getpid()}"
-        # The key that is there while the lease lasts; and of `pausing` the revision at which it came.
+        # The key that is there while the lease lasts; and of `pausing` the revision at which it
+        # came.
         self.present, self.paused = self.key("runner", self.who), 0
-        # The counter of notes as it was seen last; an edition, and how many of its notes were looked at.
+        # The counter of notes as it was seen last; an edition, and how many of its notes were
+        # looked at.
         self.counter, self.noted = Value(), ("", 0)
         self.plan_now: Plan | None = None
         self.load()
@@ -153,15 +219,37 @@ class EtcdBoard:
             value = self.etcd.read_each(self.key("plan"))[0]
             plan = value.members()
             if plan and (self.plan_now is None or self.plan_now.changed != value.changed):
-                pieces = [self.etcd.read_each(self.key("piece", piece))[0].data for piece in plan["pieces"]]
+                pieces = [
+                    self.etcd.read_each(self.key("piece", piece))[0].data
+                    for piece in plan["pieces"]
+                ]
                 bundle, names = json.loads(zlib.decompress(b"".join(pieces)))
-                self.plan_now = Plan(self.name, plan["edition"], value.changed, bundle, [Name(*name) for name in names], plan["former"])
+                self.plan_now = Plan(
+                    self.name,
+                    plan["edition"],
+                    value.changed,
+                    bundle,
+                    [Name(*name) for name in names],
+                    plan["former"],
+                )
 
-    def write_plan(self, bundle: str, names: Sequence[Name], former: Sequence[str], changes: Callable[[Plan], Iterable[Json]], compares: Sequence[Json]) -> bool:
-        """Writes a plan, with changes of its own, in pieces that nobody reads before the key `plan` names them. Whether the board has that plan now."""
+    def write_plan(
+        self,
+        bundle: str,
+        names: Sequence[Name],
+        former: Sequence[str],
+        changes: Callable[[Plan], Iterable[Json]],
+        compares: Sequence[Json],
+    ) -> bool:
+        """Writes a plan, with changes of its own, in pieces that nobody reads before the key `plan`
+        names them. Whether the board has that plan now.
+        """
         known, data = self.plan_now, zlib.compress(json.dumps([bundle, names]).encode())
         plan = Plan(self.name, uuid.uuid4().hex, 0, bundle, list(names), list(former))
-        pieces = {f"{plan.edition},{start}": data[start : start + PIECE] for start in range(0, len(data), PIECE)}
+        pieces = {
+            f"{plan.edition},{start}": data[start : start + PIECE]
+            for start in range(0, len(data), PIECE)
+        }
         for piece, part in pieces.items():
             self.etcd.transact([], [put(self.key("piece", piece), part)])
         left = iter(changes(plan))
@@ -201,13 +289,17 @@ class EtcdBoard:
             return self.lease
 
     def keep(self) -> None:
-        """Renews the lease, and looks which claims another plan has ended, until the runner ends."""
+        """Renews the lease, and looks which claims another plan ended, until the runner ends."""
         once = Etcd(self.etcd.access)
         while not self.over.wait(min(RENEW, self.ttl / 5)):
             sent, lease = now(), self.lease
             # An error in the stream of answers has no `result`.
             with contextlib.suppress(*NO_ANSWER, Stop, LookupError):
-                left = int(once.ask("/v3/lease/keepalive", {"ID": lease}, self.ttl / 5)["result"].get("TTL", 0))
+                left = int(
+                    once.ask("/v3/lease/keepalive", {"ID": lease}, self.ttl / 5)["result"].get(
+                        "TTL", 0
+                    )
+                )
                 with self.lock:
                     if lease == self.lease:
                         self.ending = sent + SAFE * left if left else -math.inf
@@ -217,9 +309,16 @@ class EtcdBoard:
                     self.see(name, held)
 
     def until(self, claim: Claim) -> float:
-        """As long as the claim's lease has time left, and no new plan has ended it. A thread looks; by the runner's own clock a lease ends before etcd ends it."""
+        """As long as the claim's lease has time left, and no new plan has ended it.
+
+        A thread looks; by the runner's own clock a lease ends before etcd ends it.
+        """
         held = self.held.get((claim.name, claim.worker))
-        return self.ending if held is not None and not held.is_ended and held.lease == self.lease else -math.inf
+        return (
+            self.ending
+            if held is not None and not held.is_ended and held.lease == self.lease
+            else -math.inf
+        )
 
     def is_held(self) -> bool:
         return bool(self.etcd.read(all_of(self.key("runner"), 1))[0])
@@ -231,20 +330,35 @@ class EtcdBoard:
                 self.etcd.ask("/v3/lease/revoke", {"ID": self.lease})
 
     # Claims.
-    def claim(self, worker: str, edition: str, candidates: Iterable[Name], brief: Container[str] = ()) -> list[Claim] | float | None:
+    def claim(
+        self, worker: str, edition: str, candidates: Iterable[Name], brief: Container[str] = ()
+    ) -> list[Claim] | float | None:
         soonest, left, plan = math.inf, iter(candidates), self.known()
         while names := list(itertools.islice(left, LOOKED)):
-            keys = [(self.key("claim", name), plan.key("step", name), plan.key("tries", name)) for name in names]
+            keys = [
+                (self.key("claim", name), plan.key("step", name), plan.key("tries", name))
+                for name in names
+            ]
             pause, changed, *found = self.etcd.read_each(*self.bars(), *itertools.chain(*keys))
             if changed.changed != plan.changed:
                 self.load()
                 return None
             if pause.created or plan.edition != edition:
                 return None
-            looked = [Found(name, *found[3 * number : 3 * number + 3]) for number, name in enumerate(names)]
+            looked = [
+                Found(name, *found[3 * number : 3 * number + 3])
+                for number, name in enumerate(names)
+            ]
             free = [one for one in looked if one.wait() == 0]
             if free:
-                free = [free[0], *(one for one in free[1:TOGETHER] if free[0].name.kind in brief and one.name.kind in brief)]
+                free = [
+                    free[0],
+                    *(
+                        one
+                        for one in free[1:TOGETHER]
+                        if free[0].name.kind in brief and one.name.kind in brief
+                    ),
+                ]
             claims = self.take(worker, plan, free) if free else []
             if claims or claims is None:
                 return claims
@@ -257,16 +371,35 @@ class EtcdBoard:
         return self.key("pause"), self.key("plan")
 
     def take(self, worker: str, plan: Plan, free: Sequence[Found]) -> list[Claim] | None:
-        """Claims all these steps as they were found, or none of them. None if no step is given out."""
+        """Claims all these steps as they were found, or none of them.
+
+        None if no step is given out.
+        """
         lease, nonce = self.leased(), uuid.uuid4().hex
         compares = [is_created(self.key("pause"), 0), is_changed(self.key("plan"), plan.changed)]
-        changes, value, since = list[Json](), {"worker": f"{worker} of {self.who}", "nonce": nonce}, {"since": time.time()}
+        changes, value, since = (
+            list[Json](),
+            {"worker": f"{worker} of {self.who}", "nonce": nonce},
+            {"since": time.time()},
+        )
         for one in free:
-            here, mine, tries = self.key("claim", one.name), plan.key("step", one.name), plan.key("tries", one.name)
-            compares += [is_created(here, 0), is_changed(mine, one.step.changed), is_changed(tries, one.tries.changed)]
+            here, mine, tries = (
+                self.key("claim", one.name),
+                plan.key("step", one.name),
+                plan.key("tries", one.name),
+            )
+            compares += [
+                is_created(here, 0),
+                is_changed(mine, one.step.changed),
+                is_changed(tries, one.tries.changed),
+            ]
             changes += [put(here, value, lease), put(mine, step_of(one.progress()) | since)]
         try:
-            revision, found = self.etcd.transact(compares, changes, [*map(get, (*self.bars(), *(self.key("claim", one.name) for one in free)))])
+            revision, found = self.etcd.transact(
+                compares,
+                changes,
+                [*map(get, (*self.bars(), *(self.key("claim", one.name) for one in free)))],
+            )
         except Refused as refused:
             if refused.code != NOT_FOUND:
                 raise
@@ -279,20 +412,38 @@ class EtcdBoard:
             revision = claims[0].created
         self.seen.keep(self.etcd.cluster, revision)
         for one in free:
-            self.held[one.name, worker] = Held(revision, lease, plan.edition, step_of(one.progress()) | since)
+            self.held[one.name, worker] = Held(
+                revision, lease, plan.edition, step_of(one.progress()) | since
+            )
         return [
-            Claim(one.name, worker, revision, bool(one.step.created), one.progress().is_open, one.progress().marks, one.tries.tries()) for one in free
+            Claim(
+                one.name,
+                worker,
+                revision,
+                bool(one.step.created),
+                one.progress().is_open,
+                one.progress().marks,
+                one.tries.tries(),
+            )
+            for one in free
         ]
 
     def see(self, name: Name, held: Held) -> None:
-        """Ends a claim for which the board has another plan by now, but for a copy that the new history has open."""
+        """Ends a claim for which the board has another plan by now, but for a copy that the new
+        history has open.
+        """
         plan = self.known()
         if held.edition != plan.edition:
-            held.is_ended = not self.etcd.read_each(plan.key("step", name))[0].members().get("is_open", False)
+            held.is_ended = (
+                not self.etcd.read_each(plan.key("step", name))[0].members().get("is_open", False)
+            )
             held.edition = plan.edition
 
     def own(self, claim: Claim) -> Held:
-        """The claim as it is held. One that has ended is let go, for others to claim the step, and is a `ClaimEnded`."""
+        """The claim as it is held.
+
+        One that has ended is let go, for others to claim the step, and is a `ClaimEnded`.
+        """
         held = self.held.get((claim.name, claim.worker))
         if held is not None:
             self.see(claim.name, held)
@@ -303,16 +454,27 @@ class EtcdBoard:
             self.etcd.transact([is_created(mine, held.revision)], [delete(mine)])
         raise ClaimEnded(claim.name)
 
-    def change(self, claim: Claim, nonce: str, makes: Callable[[Plan, int], tuple[str, list[Json]]]) -> int:
-        """Changes what the board has of a claimed step, once, however often an answer is lost. Returns at which revision; 0 if that answer was lost.
+    def change(
+        self, claim: Claim, nonce: str, makes: Callable[[Plan, int], tuple[str, list[Json]]]
+    ) -> int:
+        """Changes what the board has of a claimed step, once, however often an answer is lost.
 
-        `makes` has the key that gets the nonce, and the changes, under a plan with so many notes."""
+        Returns at which revision; 0 if that answer was lost.
+
+        `makes` has the key that gets the nonce, and the changes, under a plan with so many notes.
+        """
         mine, plan = self.key("claim", claim.name), self.known()
         held, last = self.own(claim), self.count(plan)
         while True:
             here, changes = makes(plan, int(last.data or b"0"))
-            compares = [is_created(mine, held.revision), is_changed(plan.key("next"), last.changed), is_changed(self.key("plan"), plan.changed)]
-            revision, found = self.etcd.transact(compares, changes, [*map(get, (here, mine, self.key("plan"), plan.key("next")))])
+            compares = [
+                is_created(mine, held.revision),
+                is_changed(plan.key("next"), last.changed),
+                is_changed(self.key("plan"), plan.changed),
+            ]
+            revision, found = self.etcd.transact(
+                compares, changes, [*map(get, (here, mine, self.key("plan"), plan.key("next")))]
+            )
             if revision:
                 self.counter = last._replace(key=plan.key("next"))
                 return revision
@@ -336,16 +498,31 @@ class EtcdBoard:
 
     def note(self, claim: Claim, notes: Iterable[Note], is_done: bool = False) -> None:
         held, notes, nonce = self.own(claim), list(notes), uuid.uuid4().hex
-        step = held.step | step_of(functools.reduce(Progress.after, notes, progress_of(held.step))) | ({"ended": time.time()} if is_done else {})
+        step = (
+            held.step
+            | step_of(functools.reduce(Progress.after, notes, progress_of(held.step)))
+            | ({"ended": time.time()} if is_done else {})
+        )
         ends = [delete(self.key("claim", claim.name))] if is_done else []
 
         def makes(plan: Plan, place: int) -> tuple[str, list[Json]]:
-            here, value = plan.key("note", f"{place:012d}"), {"nonce": nonce, "step": claim.name, "notes": notes}
-            return here, [put(here, value), put(plan.key("next"), b"%d" % (place + 1)), put(plan.key("step", claim.name), step), *ends]
+            here, value = plan.key("note", f"{place:012d}"), {
+                "nonce": nonce,
+                "step": claim.name,
+                "notes": notes,
+            }
+            return here, [
+                put(here, value),
+                put(plan.key("next"), b"%d" % (place + 1)),
+                put(plan.key("step", claim.name), step),
+                *ends,
+            ]
 
         revision = self.change(claim, nonce, makes)
         if revision:
-            self.counter = self.counter._replace(data=b"%d" % (int(self.counter.data or b"0") + 1), changed=revision)
+            self.counter = self.counter._replace(
+                data=b"%d" % (int(self.counter.data or b"0") + 1), changed=revision
+            )
         held.step = step
         if is_done:
             del self.held[claim.name, claim.worker]
@@ -355,7 +532,10 @@ class EtcdBoard:
 
         def makes(plan: Plan, place: int) -> tuple[str, list[Json]]:
             here = plan.key("tries", claim.name)
-            return here, [put(here, {**vars(tries), "nonce": nonce}), delete(self.key("claim", claim.name))]
+            return here, [
+                put(here, {**vars(tries), "nonce": nonce}),
+                delete(self.key("claim", claim.name)),
+            ]
 
         self.change(claim, nonce, makes)
         del self.held[claim.name, claim.worker]
@@ -371,14 +551,25 @@ class EtcdBoard:
             mine, here = plan.key("step", plan.names[number]), plan.key("tries", plan.names[number])
             step = self.etcd.read_each(mine)[0]
             demand_left(number, step.members().get("is_done", False))
-            revision = self.etcd.transact([is_changed(mine, step.changed), is_changed(self.key("plan"), plan.changed)], [put(here, vars(Tries()))])[0]
+            revision = self.etcd.transact(
+                [is_changed(mine, step.changed), is_changed(self.key("plan"), plan.changed)],
+                [put(here, vars(Tries()))],
+            )[0]
 
     def plan(self) -> tuple[str, str, list[int]]:
         self.load()
         plan = self.known()
         self.noted = plan.edition, int(self.etcd.read_each(plan.key("next"))[0].data or b"0")
-        done = {value.key.rsplit("/", 1)[1] for value in self.pages(plan.key("step")) if value.members()["is_done"]}
-        return plan.edition, plan.bundle, [number for number, name in enumerate(plan.names) if name.file() in done]
+        done = {
+            value.key.rsplit("/", 1)[1]
+            for value in self.pages(plan.key("step"))
+            if value.members()["is_done"]
+        }
+        return (
+            plan.edition,
+            plan.bundle,
+            [number for number, name in enumerate(plan.names) if name.file() in done],
+        )
 
     def news(self) -> tuple[str, list[Name]]:
         self.load()
@@ -388,7 +579,13 @@ class EtcdBoard:
         if edition != plan.edition:
             known = count
         if count < known:
-            raise Stop(Status.OTHER_PLAN, f"the board {self.address} has come back older: it has {count} notes, and had {known}")
+            raise Stop(
+                Status.OTHER_PLAN,
+                (
+                    f"the board {self.address} has come back older: it has {count} notes, and had"
+                    f" {known}"
+                ),
+            )
         for _, name, note in self.notes(plan, known):
             if note.word in ("do", "close"):
                 names[name] = None
@@ -423,13 +620,35 @@ class EtcdBoard:
 
     def listed(self, plan: Plan, revision: int) -> list[State]:
         kinds = (self.key("claim"), plan.key("step"), plan.key("tries"))
-        claims, steps, tries = ({value.key.rsplit("/", 1)[1]: value for value in self.pages(kind, revision=revision)} for kind in kinds)
+        claims, steps, tries = (
+            {value.key.rsplit("/", 1)[1]: value for value in self.pages(kind, revision=revision)}
+            for kind in kinds
+        )
         states = list[State]()
         for number, name in enumerate(plan.names):
-            claim, step, tried = (values.get(name.file(), Value()) for values in (claims, steps, tries))
-            what: Json = {"is_done": False, "since": 0.0, "ended": 0.0, "marks": []} | step.members()
+            claim, step, tried = (
+                values.get(name.file(), Value()) for values in (claims, steps, tries)
+            )
+            what: Json = {
+                "is_done": False,
+                "since": 0.0,
+                "ended": 0.0,
+                "marks": [],
+            } | step.members()
             worker, chunks = claim.members().get("worker", ""), len(what["marks"])
-            states.append(State(number, name, worker, what["since"], tried.tries(), bool(step.created), what["is_done"], what["ended"], chunks))
+            states.append(
+                State(
+                    number,
+                    name,
+                    worker,
+                    what["since"],
+                    tried.tries(),
+                    bool(step.created),
+                    what["is_done"],
+                    what["ended"],
+                    chunks,
+                )
+            )
         return states
 
     def pages(self, first: str, start: str = "", revision: int = 0) -> Iterator[Value]:
@@ -440,7 +659,9 @@ class EtcdBoard:
                 break
             start = values[-1].key + "\0"
 
-    def notes(self, plan: Plan, first: int = 0, revision: int = 0) -> Iterator[tuple[int, Name, Note]]:
+    def notes(
+        self, plan: Plan, first: int = 0, revision: int = 0
+    ) -> Iterator[tuple[int, Name, Note]]:
         """The entries from a place on, each with its place."""
         for value in self.pages(plan.key("note"), plan.key("note", f"{first:012d}"), revision):
             members = value.members()
@@ -451,14 +672,23 @@ class EtcdBoard:
         return self.recorded(*self.moment())
 
     def recorded(self, plan: Plan, revision: int) -> Record:
-        return Record(plan.edition, plan.bundle, [note.line(plan.numbers[name]) for _, name, note in self.notes(plan, revision=revision)])
+        return Record(
+            plan.edition,
+            plan.bundle,
+            [
+                note.line(plan.numbers[name])
+                for _, name, note in self.notes(plan, revision=revision)
+            ],
+        )
 
     def later(self, edition: str, mark: int) -> tuple[int, list[str]] | None:
         plan = self.known()
         if plan.edition != edition:
             return None
         found = list(self.notes(plan, mark))
-        return found[-1][0] + 1 if found else mark, [note.line(plan.numbers[name]) for _, name, note in found]
+        return found[-1][0] + 1 if found else mark, [
+            note.line(plan.numbers[name]) for _, name, note in found
+        ]
 
     def look(self) -> tuple[Record, list[State]]:
         plan, revision = self.moment()
@@ -486,18 +716,31 @@ class EtcdBoard:
         counter = self.etcd.read_each(plan.key("next"))[0]
         if self.record() != known:
             return False
-        begun = {value.key.rsplit("/", 1)[1]: value.members() for value in self.pages(plan.key("step"))}
+        begun = {
+            value.key.rsplit("/", 1)[1]: value.members() for value in self.pages(plan.key("step"))
+        }
 
         def changes(new: Plan) -> Iterator[Json]:
             """What the new edition begins with."""
             progress, place = change.progress(), 0
             for name in new.names:
                 if name in progress or name.file() in begun:
-                    yield put(new.key("step", name), begun.get(name.file(), {}) | step_of(progress.get(name, Progress())))
+                    yield put(
+                        new.key("step", name),
+                        begun.get(name.file(), {}) | step_of(progress.get(name, Progress())),
+                    )
             for name, some in itertools.groupby(change.notes, key=operator.itemgetter(0)):
-                yield put(new.key("note", f"{place:012d}"), {"nonce": "", "step": name, "notes": [note for _, note in some]})
+                yield put(
+                    new.key("note", f"{place:012d}"),
+                    {"nonce": "", "step": name, "notes": [note for _, note in some]},
+                )
                 place += 1
             yield put(new.key("next"), b"%d" % place)
 
-        compares = [is_changed(plan.key("next"), counter.changed), is_created(self.key("pause"), self.paused)]
-        return self.write_plan(change.bundle, change.names, [*plan.former, digest(plan.bundle)], changes, compares)
+        compares = [
+            is_changed(plan.key("next"), counter.changed),
+            is_created(self.key("pause"), self.paused),
+        ]
+        return self.write_plan(
+            change.bundle, change.names, [*plan.former, digest(plan.bundle)], changes, compares
+        )

@@ -15,9 +15,11 @@ from typing import Any, NamedTuple
 
 from ringplan.run.board import Status, Stop, Tries
 
-# How long one request may take, the first pause after one without an answer, and after how long the operator is told, in seconds.
+# How long one request may take, the first pause after one without an answer, and after how long the
+# operator is told, in seconds.
 REQUEST, PAUSE, TOLD = 5.0, 0.1, 5.0
-# The codes of gRPC by which a server says that it may answer later, that a lease is not there, and that a user's token is over.
+# The codes of gRPC by which a server says that it may answer later, that a lease is not there, and
+# that a user's token is over.
 LATER, NOT_FOUND, NO_USER = (1, 2, 4, 14), 5, 16
 # How a request ends that has no answer.
 NO_ANSWER = (OSError, http.client.HTTPException, ValueError)
@@ -39,7 +41,10 @@ def coded(text: str | bytes) -> str:
 
 
 class Value(NamedTuple):
-    """A key's value, with the revisions of its creation and of its last change. A key that is not there has two zeros."""
+    """A key's value, with the revisions of its creation and of its last change.
+
+    A key that is not there has two zeros.
+    """
 
     key: str = ""
     data: bytes = b""
@@ -51,7 +56,9 @@ class Value(NamedTuple):
         return members
 
     def tries(self) -> Tries:
-        return Tries(**{member: value for member, value in self.members().items() if member != "nonce"})
+        return Tries(
+            **{member: value for member, value in self.members().items() if member != "nonce"}
+        )
 
 
 def value_of(pair: Json) -> Value:
@@ -60,13 +67,24 @@ def value_of(pair: Json) -> Value:
 
 
 def get(key: str, end: str = "", limit: int = 0, revision: int = 0) -> Json:
-    """Reads a key, or the keys from it to before another one, in their order; as they were at a revision."""
-    return {"request_range": {"key": coded(key), "range_end": coded(end), "limit": limit, "revision": revision}}
+    """Reads a key, or the keys from it to before another one, in their order; as they were at a
+    revision.
+    """
+    return {
+        "request_range": {
+            "key": coded(key),
+            "range_end": coded(end),
+            "limit": limit,
+            "revision": revision,
+        }
+    }
 
 
 def put(key: str, value: Json | bytes, lease: int = 0) -> Json:
     """Writes a key, which is deleted when its lease ends."""
-    data: str | bytes = value if isinstance(value, bytes) else json.dumps(value, separators=(",", ":"))
+    data: str | bytes = (
+        value if isinstance(value, bytes) else json.dumps(value, separators=(",", ":"))
+    )
     return {"request_put": {"key": coded(key), "value": coded(data), "lease": lease}}
 
 
@@ -87,7 +105,9 @@ def is_changed(key: str, revision: int) -> Json:
 
 @dataclass(frozen=True)
 class Access:
-    """The addresses of an etcd's members, `HOST:PORT` each, and what they ask for: files of certificates, and a user."""
+    """The addresses of an etcd's members, `HOST:PORT` each, and what they ask for: files of
+    certificates, and a user.
+    """
 
     members: tuple[str, ...]
     is_tls: bool = False
@@ -102,9 +122,14 @@ class Access:
 
 
 class Etcd:
-    """The JSON gateway of etcd. A request without an answer is sent again, to the next member, with growing pauses, as long as patience lasts: it may happen twice.
+    """The JSON gateway of etcd.
 
-    Patience is one for all requests: it begins when one has no answer, and is as before once one has."""
+    A request without an answer is sent again, to the next member, with growing pauses, as long as
+    patience lasts: it may happen twice.
+
+    Patience is one for all requests: it begins when one has no answer, and is as before once one
+    has.
+    """
 
     def __init__(self, access: Access) -> None:
         self.access, self.patience, self.member, self.token = access, 0.0, 0, ""
@@ -132,8 +157,12 @@ class Etcd:
 
     def send(self, path: str, body: Json, timeout: float) -> tuple[int, Json]:
         link = self.connection(timeout)
-        # By `Accept` etcd knows that a request came by its gateway, whose certificate is not the user's.
-        headers = {"Accept": "application/json", **({"Authorization": self.token} if self.token else {})}
+        # By `Accept` etcd knows that a request came by its gateway, whose certificate is not the
+        # user's.
+        headers = {
+            "Accept": "application/json",
+            **({"Authorization": self.token} if self.token else {}),
+        }
         try:
             link.request("POST", path, json.dumps(body), headers)
             answer = link.getresponse()
@@ -153,7 +182,11 @@ class Etcd:
         least = self.revision
         try:
             if self.access.user and not self.token:
-                status, reply = self.send("/v3/auth/authenticate", {"name": self.access.user, "password": self.access.password}, timeout)
+                status, reply = self.send(
+                    "/v3/auth/authenticate",
+                    {"name": self.access.user, "password": self.access.password},
+                    timeout,
+                )
                 if status != 200 and reply.get("code") not in LATER:
                     raise Refused(int(reply.get("code", 0)), str(reply.get("error")))
                 self.token = reply.get("token", "")
@@ -172,13 +205,26 @@ class Etcd:
         raise Refused(int(reply.get("code", 0)), str(reply.get("error")))
 
     def demand_newer(self, reply: Json, least: int) -> None:
-        """A `Stop` if the answer is of another cluster than the one before, or of an older state than was known when it was asked."""
+        """A `Stop` if the answer is of another cluster than the one before, or of an older state
+        than was known when it was asked.
+        """
         header = reply.get("header", {})
-        if "cluster_id" not in header or "revision" not in header or "succeeded" not in reply and "responses" not in reply:
+        if (
+            "cluster_id" not in header
+            or "revision" not in header
+            or "succeeded" not in reply
+            and "responses" not in reply
+        ):
             return
         cluster, revision = header["cluster_id"], int(header["revision"])
         if self.cluster not in ("", cluster) or revision < least:
-            raise Stop(Status.OTHER_PLAN, f"etcd at {self.access} has come back older, or as another cluster: its board is not to be trusted")
+            raise Stop(
+                Status.OTHER_PLAN,
+                (
+                    f"etcd at {self.access} has come back older, or as another cluster: its board"
+                    " is not to be trusted"
+                ),
+            )
         self.cluster, self.revision = cluster, max(self.revision, revision)
 
     def call(self, path: str, body: Json) -> Json:
@@ -203,23 +249,43 @@ class Etcd:
         if now + pause > since + self.patience:
             # Of errors in one another the innermost one says what is wrong.
             inner = str(error).rsplit(": ", 1)[-1].rstrip(")'\"")
-            raise Stop(Status.FAULT, f"etcd at {self.access} does not answer: {inner[:200]}") from error
+            raise Stop(
+                Status.FAULT, f"etcd at {self.access} does not answer: {inner[:200]}"
+            ) from error
         if now > since + TOLD and not self.is_told:
             self.is_told = True
-            print(f"etcd at {self.access} does not answer since {time.strftime('%H:%M:%S', time.localtime(time.time() - now + since))}", file=sys.stderr, flush=True)
+            print(
+                (
+                    f"etcd at {self.access} does not answer since"
+                    f" {time.strftime('%H:%M:%S', time.localtime(time.time() - now + since))}"
+                ),
+                file=sys.stderr,
+                flush=True,
+            )
         threading.Event().wait(pause)
 
-    def transact(self, compares: Sequence[Json], changes: Sequence[Json], reads: Sequence[Json] = ()) -> tuple[int, list[list[Value]]]:
-        """Does all changes where all compares hold, else all reads. Returns the revision of the changes, or 0 and what each read found."""
+    def transact(
+        self, compares: Sequence[Json], changes: Sequence[Json], reads: Sequence[Json] = ()
+    ) -> tuple[int, list[list[Value]]]:
+        """Does all changes where all compares hold, else all reads.
+
+        Returns the revision of the changes, or 0 and what each read found.
+        """
         reply = self.call("/v3/kv/txn", {"compare": compares, "success": changes, "failure": reads})
         if "header" not in reply:
             raise Stop(Status.FAULT, f"the server at {self.access} is not an etcd")
         if reply.get("succeeded"):
             return int(reply["header"]["revision"]), []
-        return 0, [[value_of(pair) for pair in answer["response_range"].get("kvs", ())] for answer in reply.get("responses", ())]
+        return 0, [
+            [value_of(pair) for pair in answer["response_range"].get("kvs", ())]
+            for answer in reply.get("responses", ())
+        ]
 
     def read(self, *reads: Json) -> list[list[Value]]:
-        """What each read finds, at one moment: no key was created before the first revision. The compare asks for no right that the reads do not ask for."""
+        """What each read finds, at one moment: no key was created before the first revision.
+
+        The compare asks for no right that the reads do not ask for.
+        """
         never = {"key": reads[0]["request_range"]["key"], "target": "CREATE", "create_revision": -1}
         return self.transact([never], [], reads)[1]
 

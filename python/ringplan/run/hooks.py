@@ -1,8 +1,9 @@
 """Hooks: executables that do steps. Each gets one JSON object on its standard input.
 
-A hook is told by its file's name which kind of step it does. It ends with 0 if the step is done, with 75 if it cannot be done now, and with 69 if a node that it
-needs is dead for good. Any other end is a failure.
-Between the runner and its hooks stand supervisors, one for each step that is being done.
+A hook is told by its file's name which kind of step it does. It ends with 0 if the step is done,
+with 75 if it cannot be done now, and with 69 if a node that it needs is dead for good. Any other
+end is a failure. Between the runner and its hooks stand supervisors, one for each step that is
+being done.
 """
 
 from __future__ import annotations
@@ -29,12 +30,17 @@ from ringplan.run.supervisor import now
 
 DEAD, NOT_NOW = 69, 75
 GRACE = 5.0
-# A lock, as the system's `struct flock`: its kind, from where its place counts, its place and length, and a process.
+# A lock, as the system's `struct flock`: its kind, from where its place counts, its place and
+# length, and a process.
 FLOCK = "hhqqi4x"
 # How often a claim is looked at while its hook runs, in seconds.
 BEAT = 0.25
-# Writes and reads JSON in few bytes. An encoder and a decoder that are kept take a third of the time.
-WRITE, READ = json.JSONEncoder(separators=(",", ":"), sort_keys=True).encode, json.JSONDecoder().decode
+# Writes and reads JSON in few bytes. An encoder and a decoder that are kept take a third of the
+# time.
+WRITE, READ = (
+    json.JSONEncoder(separators=(",", ":"), sort_keys=True).encode,
+    json.JSONDecoder().decode,
+)
 
 
 class Outcome(enum.Enum):
@@ -63,9 +69,16 @@ class Supervisor:
     """A supervisor as its runner sees it."""
 
     def __init__(self) -> None:
-        words, (self.link, other) = [sys.executable, "-I", "-S", supervisor.__file__], socket.socketpair()
+        words, (self.link, other) = [
+            sys.executable,
+            "-I",
+            "-S",
+            supervisor.__file__,
+        ], socket.socketpair()
         with other:
-            self.process = subprocess.Popen(words, stdin=other.fileno(), stdout=other.fileno(), start_new_session=True)
+            self.process = subprocess.Popen(
+                words, stdin=other.fileno(), stdout=other.fileno(), start_new_session=True
+            )
         # The descriptor that holds the lock of the step that it serves.
         self.rest, self.lock, self.held = b"", threading.Lock(), -1
         self.is_left, self.answered = False, select.poll()
@@ -87,7 +100,10 @@ class Supervisor:
             with contextlib.suppress(ConnectionError):
                 data = self.link.recv(1 << 16)
             if not data:
-                raise Stop(Status.FAULT, "the supervisor of a hook was killed, so it is not known whether the hook runs")
+                raise Stop(
+                    Status.FAULT,
+                    "the supervisor of a hook was killed, so it is not known whether the hook runs",
+                )
             self.rest += data
         line, self.rest = self.rest.split(b"\n", 1)
         found: dict[str, Any] = READ(line.decode())
@@ -111,7 +127,11 @@ class Hooks:
         # How many seconds a hook of a kind may take.
         self.folder, self.locks, self.limits, self.lock = folder, locks, limits, threading.Lock()
         self.file = os.path.abspath(os.path.join(locks, "steps"))
-        self.idle, self.running, self.left = list[Supervisor](), set[Supervisor](), list[Supervisor]()
+        self.idle, self.running, self.left = (
+            list[Supervisor](),
+            set[Supervisor](),
+            list[Supervisor](),
+        )
         # Whether the hooks are to end, and whether a supervisor died and left a hook.
         self.is_ending = self.is_lost = False
 
@@ -123,15 +143,22 @@ class Hooks:
 
     def demand(self, kinds: Iterable[str]) -> None:
         """Stops if a kind of step has no hook. The hook `chunk` does for `copy`."""
-        missing = [kind for kind in kinds if not self.has(kind) and not (kind == "copy" and self.has("chunk"))]
+        missing = [
+            kind
+            for kind in kinds
+            if not self.has(kind) and not (kind == "copy" and self.has("chunk"))
+        ]
         if missing:
             raise Stop(Status.FAULT, f"no executable in {self.folder} for: {' '.join(missing)}")
 
-    # The locks of steps: each is a byte of one file, so no step makes a file of its own. A descriptor holds a lock, and with it all processes that have a copy.
+    # The locks of steps: each is a byte of one file, so no step makes a file of its own. A
+    # descriptor holds a lock, and with it all processes that have a copy.
     def lock_of(self, handle: int, how: int, kind: int, name: Name) -> int:
         """Takes a step's lock, or looks for one that stands against it. Returns its kind."""
         place = int.from_bytes(hashlib.sha256(name.file().encode()).digest()[:7])
-        found: tuple[int, ...] = struct.unpack(FLOCK, fcntl.fcntl(handle, how, struct.pack(FLOCK, kind, os.SEEK_SET, place, 1, 0)))
+        found: tuple[int, ...] = struct.unpack(
+            FLOCK, fcntl.fcntl(handle, how, struct.pack(FLOCK, kind, os.SEEK_SET, place, 1, 0))
+        )
         return found[0]
 
     def open(self) -> int:
@@ -142,7 +169,10 @@ class Hooks:
         return os.open(self.file, os.O_RDWR | os.O_CREAT, 0o666)
 
     def hold(self, name: Name) -> Supervisor | None:
-        """A supervisor for the step, whose lock is held. None while a process of an earlier hook of the step is left."""
+        """A supervisor for the step, whose lock is held.
+
+        None while a process of an earlier hook of the step is left.
+        """
         handle = -1
         try:
             handle = self.open()
@@ -177,17 +207,38 @@ class Hooks:
             os.close(handle)
 
     # Hooks that run.
-    def run(self, kind: str, title: str, members: dict[str, object], one: Supervisor, until: Callable[[], float], beat: Callable[[bool], None]) -> Result:
-        """Runs a hook to its end. `until` is the moment up to which the step is the worker's: its processes are killed then, also if this runner is stopped or dead.
+    def run(
+        self,
+        kind: str,
+        title: str,
+        members: dict[str, object],
+        one: Supervisor,
+        until: Callable[[], float],
+        beat: Callable[[bool], None],
+    ) -> Result:
+        """Runs a hook to its end.
 
-        `beat` is called while the hook runs on, with whether it has failed and waits for processes that it left."""
+        `until` is the moment up to which the step is the worker's: its processes are killed then,
+        also if this runner is stopped or dead.
+
+        `beat` is called while the hook runs on, with whether it has failed and waits for processes
+        that it left.
+        """
         line = WRITE(members) + "\n"
         with self.lock:
             moment = until()
             if self.is_ending or moment <= now():
                 return Result(Outcome.ENDED)
             self.running.add(one)
-            one.send([one.held], run=self.path(kind), name=title, input=line, until=moment, limit=self.limits.get(kind, math.inf), grace=GRACE)
+            one.send(
+                [one.held],
+                run=self.path(kind),
+                name=title,
+                input=line,
+                until=moment,
+                limit=self.limits.get(kind, math.inf),
+                grace=GRACE,
+            )
         try:
             while (answer := one.answer(BEAT)) is None or "rest" in answer:
                 beat(answer is not None)
@@ -210,7 +261,9 @@ class Hooks:
         if status == 0:
             return Result(Outcome.DONE)
         if answer["is_late"]:
-            return Result(Outcome.FAILED, f"not after {self.limits[kind]:g} s", tuple(answer["lines"]))
+            return Result(
+                Outcome.FAILED, f"not after {self.limits[kind]:g} s", tuple(answer["lines"])
+            )
         if answer["is_killed"]:
             return Result(Outcome.ENDED)
         why = f"ended with {status}" if status > 0 else f"killed by signal {-status}"
@@ -218,7 +271,9 @@ class Hooks:
         return Result(outcome, why, tuple(answer["lines"]))
 
     def end(self) -> None:
-        """Ends the hooks that run, with all their processes: at once by SIGTERM, and after a while by SIGKILL."""
+        """Ends the hooks that run, with all their processes: at once by SIGTERM, and after a while
+        by SIGKILL.
+        """
         with self.lock:
             self.is_ending = True
             for one in self.running:

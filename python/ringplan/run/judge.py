@@ -13,7 +13,10 @@ from ringplan.watching import Watch
 def demand_answer(first: str) -> None:
     """A `Stop` if the judge could not judge."""
     if first != "yes" and not first.startswith("no 70 "):
-        raise Stop(Status.FAULT, f"the judge cannot answer: {first}{' (out of memory)' if first == 'no 60' else ''}")
+        raise Stop(
+            Status.FAULT,
+            f"the judge cannot answer: {first}{' (out of memory)' if first == 'no 60' else ''}",
+        )
 
 
 def judge(board: Board) -> Answer:
@@ -36,12 +39,14 @@ class Judge:
         self.grew = time.time()
 
     def begin(self, edition: str, bundle: str) -> None:
-        """Judges the history by a plan, from its start: by another plan steps have other numbers."""
+        """Judges the history by a plan, from its start: each plan has its own step numbers."""
         self.close()
         self.edition, self.mark, self.watch = edition, 0, Watch(bundle)
 
     def see(self, is_end: bool = False) -> str:
-        """Gives the judge the entries that it has not seen, and waits for the answer: `yes`, or `no 70` with its place. Another answer is a `Stop`."""
+        """Gives the judge the entries that it has not seen, and waits for the answer: `yes`, or `no
+        70` with its place. Another answer is a `Stop`.
+        """
         assert self.watch is not None
         found = self.board.later(self.edition, self.mark)
         # None if the board has another plan by now: the runner will find that itself.
@@ -55,7 +60,9 @@ class Judge:
 
     def watched(self) -> Watched:
         """What there is to say of the history on the runner's page."""
-        return Watched(not (self.watch and self.watch.no()), self.watch.count if self.watch else 0, self.grew)
+        return Watched(
+            not (self.watch and self.watch.no()), self.watch.count if self.watch else 0, self.grew
+        )
 
     def close(self) -> None:
         if self.watch is not None:

@@ -1,6 +1,8 @@
-"""A page that shows how far a plan is: the picture of `ringplan draw` with the history so far, and the steps that run or wait; also as JSON, and for Prometheus.
+"""A page that shows how far a plan is: the picture of `ringplan draw` with the history so far, and
+the steps that run or wait; also as JSON, and for Prometheus.
 
-The page needs nothing from outside. A script asks for it anew each second; without scripts the browser loads it anew.
+The page needs nothing from outside. A script asks for it anew each second; without scripts the
+browser loads it anew.
 """
 
 from __future__ import annotations
@@ -43,8 +45,10 @@ setTimeout(look, 1000);
 """
 STYLE = """
 body { font: 15px/1.4 "DejaVu Sans", Verdana, sans-serif; margin: 1.5em; color-scheme: light dark }
-h1 { font-size: 1.2em } table { border-collapse: collapse } th, td { padding: .2em 1em .2em 0; text-align: left; vertical-align: top }
-td:nth-child(-n+3) { white-space: nowrap } .bad { color: light-dark(#b3380c, #ff9d6e) } pre { margin: 0 } svg { max-width: 100%; height: auto }
+h1 { font-size: 1.2em } table { border-collapse: collapse }
+th, td { padding: .2em 1em .2em 0; text-align: left; vertical-align: top }
+td:nth-child(-n+3) { white-space: nowrap } .bad { color: light-dark(#b3380c, #ff9d6e) }
+pre { margin: 0 } svg { max-width: 100%; height: auto }
 """
 HEAD = f"""<!DOCTYPE html>
 <html lang="en">
@@ -62,16 +66,23 @@ TAIL = f"""</main>
 </body>
 </html>
 """
-POLICY = "default-src 'none'; style-src 'unsafe-inline'; connect-src 'self'; base-uri 'none'; form-action 'none'; frame-ancestors 'none'; script-src 'sha256-%s'"
+POLICY = (
+    "default-src 'none'; style-src 'unsafe-inline'; connect-src 'self'; base-uri 'none';"
+    " form-action 'none'; frame-ancestors 'none'; script-src 'sha256-%s'"
+)
 HEADERS = {
-    "Content-Security-Policy": POLICY % base64.b64encode(hashlib.sha256(SCRIPT.encode()).digest()).decode(),
+    "Content-Security-Policy": POLICY
+    % base64.b64encode(hashlib.sha256(SCRIPT.encode()).digest()).decode(),
     "X-Content-Type-Options": "nosniff",
     "Cache-Control": "no-store",
 }
 
 
 class Seldom(Generic[T]):
-    """What a call returns. It is made by one thread at a time, and so seldom that it takes at most a tenth of the time."""
+    """What a call returns.
+
+    It is made by one thread at a time, and so seldom that it takes at most a tenth of the time.
+    """
 
     def __init__(self, call: Callable[[], T]) -> None:
         self.call, self.lock, self.until, self.last = call, threading.Lock(), 0.0, list[T]()
@@ -91,39 +102,57 @@ class Picture:
 
     def __init__(self, board: Board, runner: Runner) -> None:
         self.board, self.runner, self.drawn, self.svg = board, runner, "", ""
-        self.states, self.now = Seldom(lambda: board.states()[1]), Seldom(lambda: self.write(*board.look()))
+        self.states, self.now = Seldom(lambda: board.states()[1]), Seldom(
+            lambda: self.write(*board.look())
+        )
 
     def draw(self, text: str) -> str:
         if text != self.drawn:
             answer = programs.ask("draw", text)
-            self.svg = answer.text if answer.status == 0 else f"<pre>{html.escape(answer.errors)}</pre>"
+            self.svg = (
+                answer.text if answer.status == 0 else f"<pre>{html.escape(answer.errors)}</pre>"
+            )
             self.drawn = text
         return self.svg
 
     def write(self, record: Record, states: list[State]) -> str:
         """The part of the page that changes."""
         rows = "".join(
-            f"<tr{' class=bad' * state.tries.is_given_up}><td>{state.number}<td>{html.escape(str(state.name))}<td>{html.escape(report.told(state, True))}"
+            f"<tr{' class=bad' * state.tries.is_given_up}><td>{state.number}"
+            f"<td>{html.escape(str(state.name))}<td>{html.escape(report.told(state, True))}"
             f"<td><pre>{html.escape(state.tries.lines)}</pre>{html.escape(report.advice(state))}"
             for state in report.begun(states)
         )
-        table = f"<table><tr><th>step<th>what it does<th>how it is<th>it printed last{rows}</table>" if rows else "<p>No step runs."
+        table = (
+            f"<table><tr><th>step<th>what it does<th>how it is<th>it printed last{rows}</table>"
+            if rows
+            else "<p>No step runs."
+        )
         pace = f"<p>{html.escape(self.runner.pace.words(time.time()))}"
-        return f"<h1>{sum(state.is_done for state in states)} of {len(states)} steps are done</h1>\n{pace}\n{table}\n{self.draw(record.text())}"
+        return (
+            f"<h1>{sum(state.is_done for state in states)} of {len(states)} steps are"
+            f" done</h1>\n{pace}\n{table}\n{self.draw(record.text())}"
+        )
 
     def status(self) -> str:
         return json.dumps(report.members(self.states(), self.runner.pace, True))
 
     def metrics(self) -> str:
         it = self.runner
-        return report.metrics(self.states(), it.pace, it.judge.watched(), it.ends, it.board.lease_left())
+        return report.metrics(
+            self.states(), it.pace, it.judge.watched(), it.ends, it.board.lease_left()
+        )
 
 
 def token_of(folder: str) -> str:
-    """The token in the page's address, kept in a file that only its owner may read, so that a restart changes no address."""
+    """The token in the page's address, kept in a file that only its owner may read, so that a
+    restart changes no address.
+    """
     path = os.path.join(folder, "token")
     os.makedirs(folder, exist_ok=True)
-    with contextlib.suppress(FileExistsError), open(os.open(path, os.O_WRONLY | os.O_CREAT | os.O_EXCL, 0o600), "w", encoding="ascii") as file:
+    with contextlib.suppress(FileExistsError), open(
+        os.open(path, os.O_WRONLY | os.O_CREAT | os.O_EXCL, 0o600), "w", encoding="ascii"
+    ) as file:
         file.write(secrets.token_urlsafe(24))
     with open(path, encoding="ascii") as file:
         return file.read()
@@ -146,7 +175,11 @@ class Request(http.server.BaseHTTPRequestHandler):
             self.send_error(503, explain=str(fault))
             return
         self.send_response(200)
-        for name, value in {**HEADERS, "Content-Type": f"{kind}; charset=utf-8", "Content-Length": str(len(data))}.items():
+        for name, value in {
+            **HEADERS,
+            "Content-Type": f"{kind}; charset=utf-8",
+            "Content-Length": str(len(data)),
+        }.items():
             self.send_header(name, value)
         self.end_headers()
         self.wfile.write(data)
@@ -156,12 +189,17 @@ class Request(http.server.BaseHTTPRequestHandler):
 
 
 class Page(http.server.ThreadingHTTPServer):
-    """The page's server. On loopback it answers only names of this machine, so that no page from elsewhere can read it by a name of its own.
+    """The page's server.
 
-    Elsewhere each address has a token."""
+    On loopback it answers only names of this machine, so that no page from elsewhere can read it by
+    a name of its own.
+
+    Elsewhere each address has a token.
+    """
 
     daemon_threads = True
-    # How many are answered at once. Others are turned away, so that the runner has descriptors left.
+    # How many are answered at once. Others are turned away, so that the runner has descriptors
+    # left.
     places = threading.BoundedSemaphore(CLIENTS)
 
     def __init__(self, board: Board, runner: Runner, host: str, port: int) -> None:
@@ -178,7 +216,10 @@ class Page(http.server.ThreadingHTTPServer):
             self.hosts = {"127.0.0.1", "localhost"} if is_near else None
             super().__init__((host, port), Request)
         except (OSError, OverflowError) as error:
-            raise Stop(Status.FAULT, f"there is no page at port {port}{'' if is_near else f' of {host}'}: {error}") from error
+            raise Stop(
+                Status.FAULT,
+                f"there is no page at port {port}{'' if is_near else f' of {host}'}: {error}",
+            ) from error
         self.address = f"http://{host}:{self.server_address[1]}{root}"
         threading.Thread(target=self.serve_forever, daemon=True).start()
 

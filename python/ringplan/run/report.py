@@ -1,4 +1,6 @@
-"""What there is to say of a plan that is being done: which steps run or wait, and how long its copies will take; in words, as JSON, and for Prometheus."""
+"""What there is to say of a plan that is being done: which steps run or wait, and how long its
+copies will take; in words, as JSON, and for Prometheus.
+"""
 
 from __future__ import annotations
 
@@ -11,22 +13,28 @@ from typing import Any, NamedTuple
 from ringplan.run.board import CHUNKS, Name, State
 
 
-# A shorter time in which no step runs, such as a pause after a failure, counts as one in which steps run, in seconds. In a longer one they rest.
+# A shorter time in which no step runs, such as a pause after a failure, counts as one in which
+# steps run, in seconds. In a longer one they rest.
 REST = 60.0
 
 
 class Pace:
-    """How much copies have given, and how much a second while any steps ran: in the unit of the sizes, or in copies if no partition has a size."""
+    """How much copies have given, and how much a second while any steps ran: in the unit of the
+    sizes, or in copies if no partition has a size.
+    """
 
     def __init__(self, names: Iterable[Name], sizes: Mapping[str, int]) -> None:
-        # How much was given while steps were seen to run, and for how many seconds; how many run, and since when; when the last one ended.
+        # How much was given while steps were seen to run, and for how many seconds; how many run,
+        # and since when; when the last one ended.
         self.seen, self.busy, self.count, self.since, self.last = 0.0, 0.0, 0, 0.0, -math.inf
         self.load(names, sizes)
 
     def load(self, names: Iterable[Name], sizes: Mapping[str, int]) -> None:
         """Begins with the copies of a plan. What was measured stays."""
         self.is_sized, self.parts, self.done = bool(sizes), dict[Name, int](), 0.0
-        self.sizes = {name: sizes.get(str(name.partition), 1) for name in names if name.kind == "copy"}
+        self.sizes = {
+            name: sizes.get(str(name.partition), 1) for name in names if name.kind == "copy"
+        }
         self.whole = sum(self.sizes.values())
 
     def give(self, name: Name, parts: int, is_seen: bool = True) -> None:
@@ -62,8 +70,13 @@ class Pace:
         if not self.sizes:
             return ""
         rate, left = self.rate(moment), self.left(moment)
-        done = f"{amount(self.done)} of {amount(self.whole)} are copied" if self.is_sized else f"{self.done:.0f} of {self.whole} copies are done"
-        return f"{done}{f', {amount(rate)} a second' if rate and self.is_sized else ''}{f', {span(left)} left' if left else ''}"
+        done = (
+            f"{amount(self.done)} of {amount(self.whole)} are copied"
+            if self.is_sized
+            else f"{self.done:.0f} of {self.whole} copies are done"
+        )
+        speed = f", {amount(rate)} a second" if rate and self.is_sized else ""
+        return f"{done}{speed}{f', {span(left)} left' if left else ''}"
 
 
 def pace_of(states: Sequence[State], sizes: Mapping[str, int], now: float) -> Pace:
@@ -106,34 +119,78 @@ def told(state: State, is_held: bool) -> str:
     if tries.is_given_up:
         return f"given up after {counted(tries.failures, 'failure')}{why}"
     if state.worker:
-        return f"{state.worker} does it, since {time.strftime('%H:%M:%S', time.localtime(state.since))}" if is_held else "a runner that ended was doing it"
+        return (
+            f"{state.worker} does it, since"
+            f" {time.strftime('%H:%M:%S', time.localtime(state.since))}"
+            if is_held
+            else "a runner that ended was doing it"
+        )
     waits = [f"{counted(tries.waits, 'time')} not now"] if tries.waits else []
-    return ", ".join([*([counted(tries.failures, "failure")] if tries.failures else []), *waits]) + f"{why}, again in {tries.left():.0f} s"
+    return (
+        ", ".join([*([counted(tries.failures, "failure")] if tries.failures else []), *waits])
+        + f"{why}, again in {tries.left():.0f} s"
+    )
 
 
 def advice(state: State) -> str:
     """What an operator can do about a step that was given up. Empty for others."""
     if not state.tries.is_given_up:
         return ""
-    leave = f", `ringplan-run leave {state.name.partition}.{state.name.slot}` leaves its slot with its owner" if state.name.kind in ("mirror", "copy") else ""
-    return f"`ringplan-run retry {state.number}` tries it again{leave}, `ringplan-run around --dead NODE` goes on without a dead node"
+    leave = (
+        f", `ringplan-run leave {state.name.partition}.{state.name.slot}` leaves its slot with its"
+        " owner"
+        if state.name.kind in ("mirror", "copy")
+        else ""
+    )
+    return (
+        f"`ringplan-run retry {state.number}` tries it again{leave}, `ringplan-run around --dead"
+        " NODE` goes on without a dead node"
+    )
 
 
 def begun(states: Iterable[State]) -> list[State]:
-    """The steps that somebody does, or tried in vain; first those that were given up, then those that failed."""
-    found = [state for state in states if not state.is_done and (state.worker or state.tries.failures or state.tries.waits)]
+    """The steps that somebody does, or tried in vain; first those that were given up, then those
+    that failed.
+    """
+    found = [
+        state
+        for state in states
+        if not state.is_done and (state.worker or state.tries.failures or state.tries.waits)
+    ]
     return sorted(found, key=lambda state: (not state.tries.is_given_up, not state.tries.failures))
 
 
 def members(states: Sequence[State], pace: Pace, is_held: bool) -> dict[str, Any]:
-    """The whole of it as members of a JSON object. Times are in seconds, since 1970 if they are moments."""
+    """The whole of it as members of a JSON object.
+
+    Times are in seconds, since 1970 if they are moments.
+    """
     now = time.time()
     left = [
-        {"step": state.number, "name": str(state.name), "worker": state.worker, "since": state.since, "advice": advice(state), **vars(state.tries)}
+        {
+            "step": state.number,
+            "name": str(state.name),
+            "worker": state.worker,
+            "since": state.since,
+            "advice": advice(state),
+            **vars(state.tries),
+        }
         for state in begun(states)
     ]
-    copies = {"unit": "size" if pace.is_sized else "copies", "copied": pace.done, "to_copy": pace.whole, "rate": pace.rate(now), "left": pace.left(now)}
-    return {"steps": len(states), "done": sum(state.is_done for state in states), "is_held": is_held, **copies, "begun": left}
+    copies = {
+        "unit": "size" if pace.is_sized else "copies",
+        "copied": pace.done,
+        "to_copy": pace.whole,
+        "rate": pace.rate(now),
+        "left": pace.left(now),
+    }
+    return {
+        "steps": len(states),
+        "done": sum(state.is_done for state in states),
+        "is_held": is_held,
+        **copies,
+        "begun": left,
+    }
 
 
 def state_of(state: State) -> str:
@@ -143,29 +200,72 @@ def state_of(state: State) -> str:
 
 
 class Watched(NamedTuple):
-    """Whether the judge says yes to the history so far, to how many entries, and when the history grew last, in seconds since 1970."""
+    """Whether the judge says yes to the history so far, to how many entries, and when the history
+    grew last, in seconds since 1970.
+    """
 
     is_yes: bool
     entries: int
     grew: float
 
 
-def metrics(states: Sequence[State], pace: Pace, watched: Watched, hooks: Mapping[tuple[str, str], int], lease: float) -> str:
+def metrics(
+    states: Sequence[State],
+    pace: Pace,
+    watched: Watched,
+    hooks: Mapping[tuple[str, str], int],
+    lease: float,
+) -> str:
     """The whole of it for Prometheus. `hooks` counts hooks by their kind and end."""
     now, counts, lines = time.time(), Counter(map(state_of, states)), list[str]()
 
     def add(name: str, what: str, rows: Mapping[str, float], kind: str = "gauge") -> None:
-        lines.extend([f"# HELP ringplan_{name} {what}", f"# TYPE ringplan_{name} {kind}", *(f"ringplan_{name}{labels} {value:.15g}" for labels, value in rows.items())])
+        lines.extend(
+            [
+                f"# HELP ringplan_{name} {what}",
+                f"# TYPE ringplan_{name} {kind}",
+                *(f"ringplan_{name}{labels} {value:.15g}" for labels, value in rows.items()),
+            ]
+        )
 
-    add("steps", "Steps of the plan by state.", {f'{{state="{name}"}}': counts[name] for name in ("done", "running", "pausing", "given_up", "left")})
+    add(
+        "steps",
+        "Steps of the plan by state.",
+        {
+            f'{{state="{name}"}}': counts[name]
+            for name in ("done", "running", "pausing", "given_up", "left")
+        },
+    )
     unit = "size" if pace.is_sized else "copies"
-    add("copied", "What copies have given, in the unit of the sizes or in copies.", {f'{{unit="{unit}"}}': pace.done})
+    add(
+        "copied",
+        "What copies have given, in the unit of the sizes or in copies.",
+        {f'{{unit="{unit}"}}': pace.done},
+    )
     add("to_copy", "What copies give in all.", {f'{{unit="{unit}"}}': pace.whole})
     if (left := pace.left(now)) is not None:
         add("left_seconds", "How long copies still take.", {"": left})
-    add("failures", "How often hooks of steps failed that are not done.", {"": sum(state.tries.failures for state in states if not state.is_done)})
-    add("hooks_total", "Hooks of this runner by kind and end.", {f'{{kind="{kind}",end="{end}"}}': count for (kind, end), count in sorted(hooks.items())}, "counter")
-    add("oldest_step_seconds", "How long the oldest step runs.", {"": max((now - state.since for state in states if state.worker and not state.is_done), default=0.0)})
+    add(
+        "failures",
+        "How often hooks of steps failed that are not done.",
+        {"": sum(state.tries.failures for state in states if not state.is_done)},
+    )
+    add(
+        "hooks_total",
+        "Hooks of this runner by kind and end.",
+        {f'{{kind="{kind}",end="{end}"}}': count for (kind, end), count in sorted(hooks.items())},
+        "counter",
+    )
+    add(
+        "oldest_step_seconds",
+        "How long the oldest step runs.",
+        {
+            "": max(
+                (now - state.since for state in states if state.worker and not state.is_done),
+                default=0.0,
+            )
+        },
+    )
     if lease < math.inf:
         add("lease_left_seconds", "How long the lease of this runner lasts.", {"": lease})
     add("watch_ok", "Whether the judge says yes to the history so far.", {"": watched.is_yes})

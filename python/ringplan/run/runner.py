@@ -1,4 +1,6 @@
-"""Workers that go through a plan by hooks and write down its history, which a judge reads on the way."""
+"""Workers that go through a plan by hooks and write down its history, which a judge reads on the
+way.
+"""
 
 from __future__ import annotations
 
@@ -17,18 +19,31 @@ from collections.abc import Iterator, Sequence
 from dataclasses import dataclass, replace
 
 from ringplan import programs, texts
-from ringplan.run.board import CHUNKS, LOOK, Board, Claim, ClaimEnded, Name, Note, Status, Stop, names_of
+from ringplan.run.board import (
+    CHUNKS,
+    LOOK,
+    Board,
+    Claim,
+    ClaimEnded,
+    Name,
+    Note,
+    Status,
+    Stop,
+    names_of,
+)
 from ringplan.run.hooks import Hooks, NoLock, Outcome, Result, Supervisor
 from ringplan.run.judge import Judge
 from ringplan.run.report import Pace, counted
 from ringplan.texts import StepLine
 
-# In a plan of so many steps, those whose kind's last hook took less than so many seconds are claimed together, and wait for the disk together. Mirrors only if
-# copies are brief as well: a slot whose mirror waits for its copy takes each write twice. A smaller plan is done in its order.
+# In a plan of so many steps, those whose kind's last hook took less than so many seconds are
+# claimed together, and wait for the disk together. Mirrors only if copies are brief as well: a slot
+# whose mirror waits for its copy takes each write twice. A smaller plan is done in its order.
 LARGE, BRIEF = 10_000, 0.02
 # The signals that stop a runner.
 SIGNALS = {signal.SIGINT, signal.SIGTERM}
-# How long a worker that finds steps goes on before it looks what other runners have done, in seconds.
+# How long a worker that finds steps goes on before it looks what other runners have done, in
+# seconds.
 LEARN = 5.0
 
 
@@ -51,13 +66,19 @@ def read_steps(bundle: str) -> tuple[list[StepLine], list[Name]]:
     """The steps of an approved plan, and their names. A plan that is refused is a `Stop`."""
     answer = programs.ask("steps", bundle)
     if answer.status:
-        raise Stop(Status.REFUSED if answer.status == 1 else Status.FAULT, f"the plan is refused:\n{answer.errors}".rstrip())
+        raise Stop(
+            Status.REFUSED if answer.status == 1 else Status.FAULT,
+            f"the plan is refused:\n{answer.errors}".rstrip(),
+        )
     steps = texts.read_steps(answer.text)
     return steps, names_of(steps)
 
 
 class Runner:
-    """The workers of one run, and what they know of the plan. The board knows all of it after a crash."""
+    """The workers of one run, and what they know of the plan.
+
+    The board knows all of it after a crash.
+    """
 
     def __init__(self, board: Board, hooks: Hooks, options: Options) -> None:
         self.board, self.hooks, self.options = board, hooks, options
@@ -66,11 +87,18 @@ class Runner:
         self.is_stopping, self.learnt = False, -math.inf
         # Claims that no worker does yet, and how long the last hook of each kind took.
         self.claims, self.took = deque[Claim](), dict[str, float]()
-        # The steps that workers do; what `limit` has set; whether that, or the time of day, lets a step wait.
-        self.doing, self.limits, self.is_barred, self.limited = list[Name](), dict[str, int](), False, -math.inf
+        # The steps that workers do; what `limit` has set; whether that, or the time of day, lets a
+        # step wait.
+        self.doing, self.limits, self.is_barred, self.limited = (
+            list[Name](),
+            dict[str, int](),
+            False,
+            -math.inf,
+        )
         self.fault: Stop | None = None
         self.said: dict[Name, str] = {}
-        # Whether the history may have entries that the judge has not seen; how often hooks of a kind ended in one way; how fast copies are.
+        # Whether the history may have entries that the judge has not seen; how often hooks of a
+        # kind ended in one way; how fast copies are.
         self.is_unseen, self.ends, self.pace = True, Counter[tuple[str, str]](), Pace([], {})
         self.judge = Judge(board)
         self.load()
@@ -90,7 +118,9 @@ class Runner:
             for number in step.after:
                 self.waiting[number].append(step.step)
         # The steps that can be done, in order. Those that somebody does are among them.
-        self.done, self.ready = set[int](), [number for number, left in enumerate(self.left) if not left]
+        self.done, self.ready = set[int](), [
+            number for number, left in enumerate(self.left) if not left
+        ]
         for number in done:
             self.mark(number, is_seen=False)
 
@@ -125,12 +155,23 @@ class Runner:
         """Tells the operator's program of an event, and does not wait for it."""
         if self.options.on_event is None:
             return
-        line = json.dumps({"event": event, "done": len(self.done), "steps": len(self.steps), **members}) + "\n"
+        line = (
+            json.dumps(
+                {"event": event, "done": len(self.done), "steps": len(self.steps), **members}
+            )
+            + "\n"
+        )
         try:
-            process = subprocess.Popen([self.options.on_event], stdin=subprocess.PIPE, stdout=2, start_new_session=True)
+            process = subprocess.Popen(
+                [self.options.on_event], stdin=subprocess.PIPE, stdout=2, start_new_session=True
+            )
             threading.Thread(target=process.communicate, args=[line.encode()], daemon=True).start()
         except OSError as error:
-            print(f"{self.options.on_event} cannot be run: {error.strerror}", file=sys.stderr, flush=True)
+            print(
+                f"{self.options.on_event} cannot be run: {error.strerror}",
+                file=sys.stderr,
+                flush=True,
+            )
 
     # The judge.
     def see_judge(self, is_end: bool = False) -> None:
@@ -158,10 +199,22 @@ class Runner:
             if claim.name not in self.numbers:
                 return Result(Outcome.ENDED)
             number = self.numbers[claim.name]
-        members = self.steps[number].members() | {"token": claim.token} | ({"again": True} if claim.is_again else {}) | ({} if chunk is None else {"chunk": chunk})
+        members = (
+            self.steps[number].members()
+            | {"token": claim.token}
+            | ({"again": True} if claim.is_again else {})
+            | ({} if chunk is None else {"chunk": chunk})
+        )
         began = time.monotonic()
         try:
-            result = self.hooks.run(kind, f"{number} {claim.name}", members, one, lambda: self.board.until(claim), lambda is_resting: self.beat(claim, is_resting))
+            result = self.hooks.run(
+                kind,
+                f"{number} {claim.name}",
+                members,
+                one,
+                lambda: self.board.until(claim),
+                lambda is_resting: self.beat(claim, is_resting),
+            )
         finally:
             self.took[claim.name.kind] = time.monotonic() - began
         with self.lock:
@@ -181,7 +234,9 @@ class Runner:
     def give_chunks(self, claim: Claim, one: Supervisor, chunks: Sequence[int]) -> Result:
         """Gives chunks by one hook each, as far as that goes."""
         for chunk in chunks:
-            result = Result(Outcome.ENDED) if self.is_stopping else self.call("chunk", claim, one, chunk)
+            result = (
+                Result(Outcome.ENDED) if self.is_stopping else self.call("chunk", claim, one, chunk)
+            )
             if result.outcome is not Outcome.DONE:
                 return result
             self.note(claim, [Note("chunk", chunk)])
@@ -190,7 +245,10 @@ class Runner:
         return Result(Outcome.DONE)
 
     def copy(self, claim: Claim, one: Supervisor) -> Result:
-        """Copies the chunks that are left, by one hook or by one for each chunk. An `open` of a worker that died gets its `abort` first."""
+        """Copies the chunks that are left, by one hook or by one for each chunk.
+
+        An `open` of a worker that died gets its `abort` first.
+        """
         with self.lock:
             self.pace.give(claim.name, len(claim.marks), is_seen=False)
         self.note(claim, [*([Note("abort")] if claim.is_open else []), Note("open")])
@@ -200,7 +258,9 @@ class Runner:
         else:
             result, given = self.call("copy", claim, one), left
         if result.outcome is Outcome.DONE:
-            self.note(claim, [*(Note("chunk", chunk) for chunk in given), Note("close")], is_done=True)
+            self.note(
+                claim, [*(Note("chunk", chunk) for chunk in given), Note("close")], is_done=True
+            )
         else:
             self.note(claim, [Note("abort")])
         return result
@@ -230,17 +290,53 @@ class Runner:
             self.give_back(claim, result)
 
     def give_back(self, claim: Claim, result: Result) -> None:
-        """Gives a step back that is not done, to be tried again after a pause that doubles each time."""
+        """Gives a step back that is not done, to be tried again after a pause that doubles each
+        time.
+        """
         outcome, is_dead = result.outcome, result.outcome is Outcome.DEAD
-        failures, waits = claim.tries.failures + (outcome in (Outcome.FAILED, Outcome.DEAD)), claim.tries.waits + (outcome is Outcome.NOT_NOW)
-        pause = min(self.options.longest, self.options.pause * 2 ** min(failures + waits - 1, 30)) if outcome is not Outcome.ENDED else 0.0
-        is_given_up = is_dead or outcome is Outcome.FAILED and self.options.give_up is not None and failures >= self.options.give_up
-        self.board.give_back(claim, replace(claim.tries.later(pause), failures=failures, waits=waits, is_given_up=is_given_up, why=result.why, lines="\n".join(result.lines)))
+        failures, waits = claim.tries.failures + (
+            outcome in (Outcome.FAILED, Outcome.DEAD)
+        ), claim.tries.waits + (outcome is Outcome.NOT_NOW)
+        pause = (
+            min(self.options.longest, self.options.pause * 2 ** min(failures + waits - 1, 30))
+            if outcome is not Outcome.ENDED
+            else 0.0
+        )
+        is_given_up = (
+            is_dead
+            or outcome is Outcome.FAILED
+            and self.options.give_up is not None
+            and failures >= self.options.give_up
+        )
+        self.board.give_back(
+            claim,
+            replace(
+                claim.tries.later(pause),
+                failures=failures,
+                waits=waits,
+                is_given_up=is_given_up,
+                why=result.why,
+                lines="\n".join(result.lines),
+            ),
+        )
         if is_given_up:
             nodes = sorted(self.nodes(claim.name) - {""})
-            self.tell("a node is dead" if is_dead else "given up", step=self.numbers.get(claim.name), name=str(claim.name), nodes=nodes, why=result.why, lines=result.lines)
+            self.tell(
+                "a node is dead" if is_dead else "given up",
+                step=self.numbers.get(claim.name),
+                name=str(claim.name),
+                nodes=nodes,
+                why=result.why,
+                lines=result.lines,
+            )
         after = "given up" if is_given_up else f"again in {pause:g} s"
-        self.say(claim, f"{outcome.value}{f' ({result.why})' if result.why else ''}, {counted(failures, 'failure')}, {after}")
+        self.say(
+            claim,
+            (
+                f"{outcome.value}{f' ({result.why})' if result.why else ''},"
+                f" {counted(failures, 'failure')}, {after}"
+            ),
+        )
 
     # Workers.
     def learn(self) -> bool:
@@ -249,7 +345,10 @@ class Runner:
         self.learnt = time.monotonic()
         if edition != self.edition:
             self.load()
-            print(f"the board has another plan: {len(self.done)} of {len(self.steps)} steps are done", flush=True)
+            print(
+                f"the board has another plan: {len(self.done)} of {len(self.steps)} steps are done",
+                flush=True,
+            )
             return True
         count = len(self.done)
         for name in names:
@@ -258,7 +357,10 @@ class Runner:
         return len(self.done) > count
 
     def candidates(self) -> Iterator[Name]:
-        """The steps that may begin now, in order. Fewer at once than the plan allows is a run of it too."""
+        """The steps that may begin now, in order.
+
+        Fewer at once than the plan allows is a run of it too.
+        """
         limits, busy = self.limits, Counter[str]()
         for name in self.doing:
             busy.update(["", *(self.nodes(name) if name.kind == "copy" else [])])
@@ -267,7 +369,9 @@ class Runner:
             return
         for number in self.ready:
             name = self.names[number]
-            is_full = name.kind == "copy" and any(busy[node] >= limits.get(node, math.inf) for node in self.nodes(name))
+            is_full = name.kind == "copy" and any(
+                busy[node] >= limits.get(node, math.inf) for node in self.nodes(name)
+            )
             if is_full or name.kind == "copy" and not self.is_time():
                 self.is_barred = True
             else:
@@ -276,7 +380,11 @@ class Runner:
     def nodes(self, name: Name) -> set[str]:
         """The nodes that a step is about, such as those that a copy fills and reads."""
         number = self.numbers.get(name)
-        return set() if number is None else {self.steps[number].who(), *(self.steps[number].sources or ())}
+        return (
+            set()
+            if number is None
+            else {self.steps[number].who(), *(self.steps[number].sources or ())}
+        )
 
     def is_time(self) -> bool:
         """Whether copies may begin at this time of day."""
@@ -287,7 +395,10 @@ class Runner:
         return first <= now < last if first <= last else now >= first or now < last
 
     def take(self, worker: str) -> Claim | float:
-        """Claims a step that can be done now, once the judge has said yes to the history. If there is none, in how many seconds to look again: infinity if there never will be."""
+        """Claims a step that can be done now, once the judge has said yes to the history.
+
+        If there is none, in how many seconds to look again: infinity if there never will be.
+        """
         if self.is_unseen:
             self.see_judge()
         if self.is_stopping:
@@ -312,7 +423,10 @@ class Runner:
         return LOOK if self.is_barred else found
 
     def wait(self, worker: str) -> Claim | None:
-        """Waits for a step that can be done, and claims it. None if none ever can be, or if the runner stops."""
+        """Waits for a step that can be done, and claims it.
+
+        None if none ever can be, or if the runner stops.
+        """
         with self.changed:
             while (claim := self.take(worker)) != math.inf:
                 if isinstance(claim, Claim):
@@ -338,8 +452,15 @@ class Runner:
             self.stop(Stop(Status.FAULT, f"{type(error).__name__}: {error}"))
 
     def run(self) -> Status:
-        """Goes through the plan. How that ended. The caller blocks SIGINT and SIGTERM, which are taken here one by one: no handler can come in between."""
-        threads = [threading.Thread(target=self.work, args=[f"worker {number}"]) for number in range(self.options.workers)]
+        """Goes through the plan.
+
+        How that ended. The caller blocks SIGINT and SIGTERM, which are taken here one by one: no
+        handler can come in between.
+        """
+        threads = [
+            threading.Thread(target=self.work, args=[f"worker {number}"])
+            for number in range(self.options.workers)
+        ]
         for thread in threads:
             thread.start()
         for thread in threads:
@@ -351,7 +472,14 @@ class Runner:
                     if self.is_stopping:
                         self.hooks.end()
                     else:
-                        print(f"stops: lets {len(self.hooks.running)} hooks end, and a second signal ends them", file=sys.stderr, flush=True)
+                        print(
+                            (
+                                f"stops: lets {len(self.hooks.running)} hooks end, and a second"
+                                " signal ends them"
+                            ),
+                            file=sys.stderr,
+                            flush=True,
+                        )
                     self.stop()
         self.hooks.close()
         try:

@@ -1,16 +1,21 @@
-"""Stands between a runner and the hooks of one step, and holds the step's lock until no process of a hook is left, whatever becomes of the runner.
+"""Stands between a runner and the hooks of one step.
 
-Orphans become its children (it is a subreaper), so it sees a process that closes descriptors or begins a session of its own. Commands are lines of JSON on a socket:
+It holds the step's lock until no process of a hook is left, whatever becomes of the runner. Orphans
+become its children (it is a subreaper), so it sees a process that closes descriptors or begins a
+session of its own. Commands are lines of JSON on a socket:
 
     {"run": PATH, "name": TEXT, "input": TEXT,
-     "until": MOMENT, "limit": SECONDS, "grace": SECONDS}         runs a hook, and ends it if it takes longer than its limit; the descriptor that holds the lock comes with it:
-                                                                  {"status": N, "is_killed": BOOL, "is_late": BOOL, "is_left": BOOL, "lines": [..]} or {"error": TEXT}
-    {"until": MOMENT}                                             moves the moment at which all processes are killed
-    {"end": SECONDS}                                              ends them: by SIGTERM now, and by SIGKILL so much later
-    {"free": true}                                                frees the lock, although processes are left
+     "until": MOMENT, "limit": SECONDS, "grace": SECONDS}
+        runs a hook, and ends it if it takes longer than its limit; the descriptor that holds the
+        lock comes with it: {"status": N, "is_killed": BOOL, "is_late": BOOL, "is_left": BOOL,
+        "lines": [..]} or {"error": TEXT}
+    {"until": MOMENT}   moves the moment at which all processes are killed
+    {"end": SECONDS}    ends them: by SIGTERM now, and by SIGKILL so much later
+    {"free": true}      frees the lock, although processes are left
 
-A moment is a second of CLOCK_BOOTTIME, which counts while the machine sleeps. A hook that ended with 0 may leave processes. Any other is over once none is left;
-`{"rest": true}` says that it waits for them.
+A moment is a second of CLOCK_BOOTTIME, which counts while the machine sleeps. A hook that ended
+with 0 may leave processes. Any other is over once none is left; `{"rest": true}` says that it waits
+for them.
 """
 
 from __future__ import annotations
@@ -27,11 +32,20 @@ from collections import deque
 from typing import Any
 
 PR_SET_CHILD_SUBREAPER = 36
-# What terminals and service managers send to all processes: the runner decides what becomes of its hooks. Hooks start with the usual answers to signals.
-IGNORED = (signal.SIGINT, signal.SIGTERM, signal.SIGHUP, signal.SIGQUIT, signal.SIGPIPE, signal.SIGXFSZ)
+# What terminals and service managers send to all processes: the runner decides what becomes of its
+# hooks. Hooks start with the usual answers to signals.
+IGNORED = (
+    signal.SIGINT,
+    signal.SIGTERM,
+    signal.SIGHUP,
+    signal.SIGQUIT,
+    signal.SIGPIPE,
+    signal.SIGXFSZ,
+)
 # How often a process that does not die is killed again, in seconds.
 AGAIN = 0.05
-# Of what a hook prints: the bytes of a line, the bytes that wait to be written, and how many lines its answer has.
+# Of what a hook prints: the bytes of a line, the bytes that wait to be written, and how many lines
+# its answer has.
 LINE, ROOM, LINES = 2000, 1 << 16, 20
 
 
@@ -42,13 +56,16 @@ def now() -> float:
 
 class Supervisor:
     def __init__(self) -> None:
-        # Commands come by it. The descriptors that came with commands, and the one that holds the lock.
+        # Commands come by it. The descriptors that came with commands, and the one that holds the
+        # lock.
         self.link, self.handles, self.lock = socket.socket(fileno=0), deque[int](), -1
         # The hook's process while it lives, its status, and whether an answer is owed.
         self.hook, self.status, self.is_owed = 0, 0, False
-        # Whether a process is left; whether the hook was killed at its moment; whether `rest` was said; whether the runner is gone.
+        # Whether a process is left; whether the hook was killed at its moment; whether `rest` was
+        # said; whether the runner is gone.
         self.is_left = self.is_killed = self.is_resting = self.is_over = False
-        # When all processes are killed; when the hook is late, whether it is, and how long it has then to end.
+        # When all processes are killed; when the hook is late, whether it is, and how long it has
+        # then to end.
         self.until, self.limit, self.is_late, self.grace = math.inf, math.inf, False, 0.0
         self.name, self.rest, self.waiting, self.last = b"", b"", b"", deque[bytes](maxlen=LINES)
         self.printed, self.printing = os.pipe2(os.O_CLOEXEC)
@@ -67,8 +84,20 @@ class Supervisor:
     def obey(self, command: dict[str, Any]) -> None:
         try:
             match command:
-                case {"run": path, "name": name, "input": line, "until": until, "limit": limit, "grace": grace}:
-                    self.until, self.limit, self.grace, self.name = until, now() + limit, grace, name.encode()
+                case {
+                    "run": path,
+                    "name": name,
+                    "input": line,
+                    "until": until,
+                    "limit": limit,
+                    "grace": grace,
+                }:
+                    self.until, self.limit, self.grace, self.name = (
+                        until,
+                        now() + limit,
+                        grace,
+                        name.encode(),
+                    )
                     self.run(path, line.encode())
                 case {"until": until}:
                     self.until = min(until, self.until) if self.is_killed else until
@@ -86,7 +115,10 @@ class Supervisor:
         self.lock = -1
 
     def run(self, path: str, line: bytes) -> None:
-        """Starts a hook. Its input is whole before it starts, so that it reads all or nothing of it."""
+        """Starts a hook.
+
+        Its input is whole before it starts, so that it reads all or nothing of it.
+        """
         self.free()
         self.lock = self.handles.popleft()
         # Hooks inherit it: so most of them keep it if somebody kills this process.
@@ -97,14 +129,29 @@ class Supervisor:
         try:
             os.write(given, line)
             os.lseek(given, 0, os.SEEK_SET)
-            files = [(os.POSIX_SPAWN_DUP2, given, 0), (os.POSIX_SPAWN_DUP2, self.printing, 1), (os.POSIX_SPAWN_DUP2, self.printing, 2)]
-            self.hook = os.posix_spawn(path, [path], os.environ, file_actions=files, setsid=True, setsigdef=IGNORED, setsigmask=())
+            files = [
+                (os.POSIX_SPAWN_DUP2, given, 0),
+                (os.POSIX_SPAWN_DUP2, self.printing, 1),
+                (os.POSIX_SPAWN_DUP2, self.printing, 2),
+            ]
+            self.hook = os.posix_spawn(
+                path,
+                [path],
+                os.environ,
+                file_actions=files,
+                setsid=True,
+                setsigdef=IGNORED,
+                setsigmask=(),
+            )
         finally:
             os.close(given)
         self.is_left = self.is_owed = True
 
     def end(self, grace: float) -> None:
-        """Ends all processes of a hook that runs. Its number is its group's too, and no other process has that before the hook is reaped."""
+        """Ends all processes of a hook that runs.
+
+        Its number is its group's too, and no other process has that before the hook is reaped.
+        """
         if self.hook:
             os.killpg(self.hook, signal.SIGTERM)
         if self.is_owed:
@@ -112,7 +159,11 @@ class Supervisor:
 
     # Processes.
     def kill(self) -> None:
-        """Kills all children. Those of a child that died are children next. No other process has a child's number before it is reaped."""
+        """Kills all children.
+
+        Those of a child that died are children next. No other process has a child's number before
+        it is reaped.
+        """
         self.is_killed = True
         with open("/proc/thread-self/children", encoding="ascii") as file:
             for child in file.read().split():
@@ -151,11 +202,21 @@ class Supervisor:
         if not self.is_left:
             self.free()
         lines = [line.decode(errors="replace") for line in self.last] if self.status else []
-        self.answer(status=self.status, is_killed=self.is_killed, is_late=self.is_late, is_left=self.is_left, lines=lines)
+        self.answer(
+            status=self.status,
+            is_killed=self.is_killed,
+            is_late=self.is_late,
+            is_left=self.is_left,
+            lines=lines,
+        )
 
     # What hooks print.
     def keep(self, lines: list[bytes]) -> None:
-        cut = [line[start : start + LINE] for line in lines for start in range(0, max(1, len(line)), LINE)]
+        cut = [
+            line[start : start + LINE]
+            for line in lines
+            for start in range(0, max(1, len(line)), LINE)
+        ]
         self.last.extend(cut)
         self.waiting += b"".join(self.name + b" | " + line + b"\n" for line in cut)
 
@@ -172,7 +233,9 @@ class Supervisor:
             self.rest = b""
 
     def write(self) -> None:
-        """Writes lines as long as that does not block: a pipe or a terminal that is ready takes a few thousand bytes."""
+        """Writes lines as long as that does not block: a pipe or a terminal that is ready takes a
+        few thousand bytes.
+        """
         while self.waiting and select.select([], [2], [], 0)[1]:
             some = self.waiting[: self.waiting.rfind(b"\n", 0, 4096) + 1]
             try:
@@ -187,11 +250,21 @@ class Supervisor:
         if now() >= self.limit and not self.is_late:
             self.is_late = True
             self.end(self.grace)
-        left = min(self.until, math.inf if self.is_late else self.limit) - now() if self.is_left else math.inf
+        left = (
+            min(self.until, math.inf if self.is_late else self.limit) - now()
+            if self.is_left
+            else math.inf
+        )
         if left <= 0:
             self.kill()
-        reads = [self.woken, *([] if self.is_over else [0]), *([self.printed] if len(self.waiting) < ROOM else [])]
-        ready, writable, _ = select.select(reads, [2] if self.waiting else [], [], None if left == math.inf else max(left, AGAIN))
+        reads = [
+            self.woken,
+            *([] if self.is_over else [0]),
+            *([self.printed] if len(self.waiting) < ROOM else []),
+        ]
+        ready, writable, _ = select.select(
+            reads, [2] if self.waiting else [], [], None if left == math.inf else max(left, AGAIN)
+        )
         if self.printed in ready:
             self.read()
         if writable:
@@ -202,7 +275,10 @@ class Supervisor:
         return 0 in ready
 
     def receive(self) -> bytes:
-        """What the runner sent: nothing once it is gone. If it died before it read all answers, the socket says so by an error."""
+        """What the runner sent: nothing once it is gone.
+
+        If it died before it read all answers, the socket says so by an error.
+        """
         try:
             data, handles, _, _ = socket.recv_fds(self.link, 1 << 16, 1)
         except ConnectionError:

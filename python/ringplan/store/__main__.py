@@ -1,6 +1,8 @@
-"""Runs a plan on a reference store under traffic and faults, and writes the bundle with its history.
+"""Runs a plan on a reference store under traffic and faults, and writes the bundle with its
+history.
 
-    python3 -m ringplan.store BUNDLE STEPS OUT [--servers sqlite|redis|postgres] [--seed S] [--break NAME] ..
+    python3 -m ringplan.store BUNDLE STEPS OUT [--servers sqlite|redis|postgres] [--seed S]
+        [--break NAME] ..
 """
 
 from __future__ import annotations
@@ -25,13 +27,24 @@ from ringplan.texts import read_plan, read_steps
 
 
 def run(
-    bundle: str, steps: str, load: Load, broken: str = "", dead: tuple[str, ...] = (), servers: str = KINDS[0], is_watched: bool = False
+    bundle: str,
+    steps: str,
+    load: Load,
+    broken: str = "",
+    dead: tuple[str, ...] = (),
+    servers: str = KINDS[0],
+    is_watched: bool = False,
 ) -> tuple[str, dict[str, Any]]:
-    """The bundle with the history of one run, and what there is to count of it. A watched run ends once the judge refuses an entry."""
+    """The bundle with the history of one run, and what there is to count of it.
+
+    A watched run ends once the judge refuses an entry.
+    """
     ring, _ = read_plan(bundle)
     node = choose(servers)
     folder = tempfile.mkdtemp(prefix="ringplan-store-")
-    store = STORES.get(broken, Store)(ring, lambda name: node(folder, name, broken == "latest_timestamp_wins"))
+    store = STORES.get(broken, Store)(
+        ring, lambda name: node(folder, name, broken == "latest_timestamp_wins")
+    )
     executor = EXECUTORS.get(broken, Executor)(store, read_steps(steps), load.deaths)
     if broken == "empty_and_not_told":
         load = dataclasses.replace(load, wipes=True)
@@ -46,21 +59,56 @@ def run(
             member.node.kill()
         shutil.rmtree(folder)
     lines = list(store.history.lines())
-    counts: dict[str, Any] = {"entries": len(lines) - 2, "seconds": round(took, 2), "puts": len(store.puts), "acknowledged": len(acknowledged), "gets": len(store.gets)}
-    counts |= {"steps": len(executor.done), "of": len(executor.steps), "kills": one.kills, "outages": store.outages, "in doubt": store.in_doubt}
+    counts: dict[str, Any] = {
+        "entries": len(lines) - 2,
+        "seconds": round(took, 2),
+        "puts": len(store.puts),
+        "acknowledged": len(acknowledged),
+        "gets": len(store.gets),
+    }
+    counts |= {
+        "steps": len(executor.done),
+        "of": len(executor.steps),
+        "kills": one.kills,
+        "outages": store.outages,
+        "in doubt": store.in_doubt,
+    }
     counts |= {"watched": one.judged.end()} if one.judged else {}
-    return bundle + "\n".join(lines) + "\n", counts | {"dead workers": executor.died, "held at too few slots": short}
+    return bundle + "\n".join(lines) + "\n", counts | {
+        "dead workers": executor.died,
+        "held at too few slots": short,
+    }
 
 
 def main() -> None:
-    parser = argparse.ArgumentParser(prog="python3 -m ringplan.store", description=(__doc__ or "").split("\n")[0])
+    parser = argparse.ArgumentParser(
+        prog="python3 -m ringplan.store", description=(__doc__ or "").split("\n\n")[0]
+    )
     parser.add_argument("bundle", help="a ring, a plan and its certificate")
     parser.add_argument("steps", help="the lines of `ringplan steps` of that bundle")
     parser.add_argument("out", help="the bundle with the history, for `ringplan replay`")
-    parser.add_argument("--break", dest="broken", default="", choices=["", "latest_timestamp_wins", "empty_and_not_told", *STORES, *EXECUTORS], metavar="NAME")
-    parser.add_argument("--servers", choices=KINDS, default=KINDS[0], help="the database server of each node")
-    parser.add_argument("--watch", action="store_true", help="has the history judged while it happens, and stops at the first wrong entry")
-    parser.add_argument("--dead", nargs="*", default=[], metavar="NODE", help="servers that are killed for good before the plan begins")
+    parser.add_argument(
+        "--break",
+        dest="broken",
+        default="",
+        choices=["", "latest_timestamp_wins", "empty_and_not_told", *STORES, *EXECUTORS],
+        metavar="NAME",
+    )
+    parser.add_argument(
+        "--servers", choices=KINDS, default=KINDS[0], help="the database server of each node"
+    )
+    parser.add_argument(
+        "--watch",
+        action="store_true",
+        help="has the history judged while it happens, and stops at the first wrong entry",
+    )
+    parser.add_argument(
+        "--dead",
+        nargs="*",
+        default=[],
+        metavar="NODE",
+        help="servers that are killed for good before the plan begins",
+    )
     for field in dataclasses.fields(Load):
         kind = type(field.default)
         if kind is bool:
@@ -73,7 +121,15 @@ def main() -> None:
     # Threads change often, so that more orders of events are met.
     sys.setswitchinterval(0.0005)
     try:
-        text, counts = run(bundle.read_text(), steps.read_text(), load, words.broken, tuple(words.dead), words.servers, words.watch)
+        text, counts = run(
+            bundle.read_text(),
+            steps.read_text(),
+            load,
+            words.broken,
+            tuple(words.dead),
+            words.servers,
+            words.watch,
+        )
     except NoProgram as error:
         parser.exit(2, f"{error}\n")
     out.write_text(text)

@@ -1,7 +1,9 @@
-"""Puts, gets, hints and handoffs over real servers, each written down at the moment at which it takes effect.
+"""Puts, gets, hints and handoffs over real servers, each written down at the moment at which it
+takes effect.
 
-What each event must hold and look at is the table of duties of docs/STORES.md and docs/JUDGING.md; the sections of DeCandia et al. 2007 stand at each part. A
-broken store of `broken.py` overrides one of the small methods here.
+What each event must hold and look at is the table of duties of docs/STORES.md and docs/JUDGING.md;
+the sections of DeCandia et al. 2007 stand at each part. A broken store of `broken.py` overrides one
+of the small methods here.
 """
 
 from __future__ import annotations
@@ -29,15 +31,22 @@ class Store:
 
     def __init__(self, ring: Ring, make_node: Callable[[str], Node]) -> None:
         self.history = Recorder()
-        self.members = [Member(node.name, number, make_node(node.name), node.is_in) for number, node in enumerate(ring.nodes)]
+        self.members = [
+            Member(node.name, number, make_node(node.name), node.is_in)
+            for number, node in enumerate(ring.nodes)
+        ]
         self.by_name = {member.name: member for member in self.members}
-        self.partitions = [Partition(number, (self.by_name[name] for name in row)) for number, row in enumerate(ring.rows)]
+        self.partitions = [
+            Partition(number, (self.by_name[name] for name in row))
+            for number, row in enumerate(ring.rows)
+        ]
         self.slots, self.read_quorum, self.write_quorum, *losses = ring.quorum
         self.losses = sum(losses)
         self.clocks: dict[tuple[str, str], Clock] = {}
         self.counting, self.ids = threading.Lock(), itertools.count()
         self.puts, self.gets, self.dead = list[Put](), list[Get](), set[Member]()
-        # Members and partitions: a hint there could not be handed off if its slot's owner is dead, and a step to come would wait for that.
+        # Members and partitions: a hint there could not be handed off if its slot's owner is dead,
+        # and a step to come would wait for that.
         self.barred = set[tuple[Member, int]]()
         self.outages = self.in_doubt = 0
 
@@ -60,7 +69,10 @@ class Store:
 
     # Operations in doubt.
     def resolve(self, slot: Slot) -> None:
-        """Does for certain what may have happened at the slot. Where a node that it needs is down, the slot has to wait."""
+        """Does for certain what may have happened at the slot.
+
+        Where a node that it needs is down, the slot has to wait.
+        """
         while slot.doubts:
             doubt = slot.doubts[0]
             if doubt.only not in self.dead:
@@ -107,7 +119,9 @@ class Store:
 
     # Puts (sections 4.4 to 4.6).
     def start_put(self, writer: str, key: str, value: str, seen: Sequence[Get]) -> Put:
-        """A put whose clock knows of the replies of the gets `seen` and of the writer's last put of the key."""
+        """A put whose clock knows of the replies of the gets `seen` and of the writer's last put of
+        the key.
+        """
         with self.counting:
             clock = dict(self.clocks.get((writer, key), {}))
             for version in (version for get in seen for version in get.reply):
@@ -147,9 +161,16 @@ class Store:
                 raise
 
     def may_keep(self, partition: Partition, slot: Slot, member: Member) -> bool:
-        """Whether the member may keep a hint for the slot: it serves no slot of the partition, and keeps none for another one."""
+        """Whether the member may keep a hint for the slot: it serves no slot of the partition, and
+        keeps none for another one.
+        """
         is_barred = slot.owner in self.dead and (member, slot.partition) in self.barred
-        return member.is_member and member not in partition.serving() and not partition.keeps_other(member, slot) and not is_barred
+        return (
+            member.is_member
+            and member not in partition.serving()
+            and not partition.keeps_other(member, slot)
+            and not is_barred
+        )
 
     def hint_now(self, put: Put, slot: Slot, keeper: Member) -> None:
         with using([keeper]):
@@ -185,14 +206,22 @@ class Store:
             return True
 
     def send(self, put: Put, slot: Slot, draw: random.Random) -> None:
-        """Writes the put to the slot, or leaves it with a stand-in where the slot cannot be written."""
+        """Writes the put to the slot, or leaves it with a stand-in where the slot cannot be
+        written.
+        """
         if self.is_current(put, slot) or self.attempt(partial(self.write, put, slot)):
             return
         for keeper in draw.sample(self.members, len(self.members)):
-            if keeper.is_up and keeper.is_member and self.attempt(partial(self.hint, put, slot, keeper)):
+            if (
+                keeper.is_up
+                and keeper.is_member
+                and self.attempt(partial(self.hint, put, slot, keeper))
+            ):
                 return
 
-    def put(self, writer: str, key: str, value: str, seen: Sequence[Get], draw: random.Random) -> Put:
+    def put(
+        self, writer: str, key: str, value: str, seen: Sequence[Get], draw: random.Random
+    ) -> Put:
         put = self.start_put(writer, key, value, seen)
         for _ in range(ROUNDS):
             for slot in self.slots_of(key):
@@ -219,7 +248,10 @@ class Store:
                     found = merged(found, keeper.node.fetch(slot.hints(), get.key))
                 get.read.append(slot.index)
                 get.found += found
-                self.history.note(("read", get, slot.index), ("found", *sorted({version.put for version in found})))
+                self.history.note(
+                    ("read", get, slot.index),
+                    ("found", *sorted({version.put for version in found})),
+                )
 
     def reads_wanted(self) -> int:
         return self.read_quorum
@@ -235,7 +267,10 @@ class Store:
         return get
 
     def get(self, key: str, draw: random.Random, slots: int = 0) -> Get | None:
-        """Reads that many slots, or as many as a read wants, in any order. None where too few answer."""
+        """Reads that many slots, or as many as a read wants, in any order.
+
+        None where too few answer.
+        """
         get, wanted = self.start_get(key), slots or self.reads_wanted()
         for _ in range(ROUNDS):
             for slot in draw.sample(self.slots_of(key), self.slots):
@@ -243,7 +278,9 @@ class Store:
                     self.attempt(partial(self.read, get, slot))
             if len(get.read) >= wanted:
                 get.reply = self.reply(get)
-                self.history.note(("endget", get), ("reply", *sorted({version.put for version in get.reply})))
+                self.history.note(
+                    ("endget", get), ("reply", *sorted({version.put for version in get.reply}))
+                )
                 return get
             time.sleep(0.004)
         return None
@@ -261,8 +298,13 @@ class Store:
             chunks.setdefault(self.place(key)[1], {})[key] = versions
         return chunks
 
-    def handoff_now(self, slot: Slot, keeper: Member, doubting: Callable[[], None] = lambda: None) -> None:
-        """Gives what the keeper has for the slot to owner and mirror, and deletes it there. It is in doubt once it deletes."""
+    def handoff_now(
+        self, slot: Slot, keeper: Member, doubting: Callable[[], None] = lambda: None
+    ) -> None:
+        """Gives what the keeper has for the slot to owner and mirror, and deletes it there.
+
+        It is in doubt once it deletes.
+        """
         receivers = self.receivers(slot, keeper)
         with using([keeper, *receivers]):
             contents = self.kept(slot, keeper)
@@ -288,9 +330,12 @@ class Store:
     def hints_left(self) -> list[tuple[Slot, Member]]:
         return [(slot, keeper) for slot in self.all_slots() for keeper in list(slot.keepers)]
 
-    # Losses: a store that is lost is written down, and the generations of all slots that it served end.
+    # Losses: a store that is lost is written down, and the generations of all slots that it served
+    # end.
     def may_lose(self, member: Member) -> bool:
-        """Whether a loss of the member's store can be written down: not while a handoff by it has broken off, since the owner may have a hint of it already."""
+        """Whether a loss of the member's store can be written down: not while a handoff by it has
+        broken off, since the owner may have a hint of it already.
+        """
         return self.losses > 0 and not any(member in slot.handing for slot in self.all_slots())
 
     def generation_after_loss(self, slot: Slot) -> int:
@@ -323,7 +368,9 @@ class Store:
                 put.tickets[int(reply[2])] = int(reply[3])
 
     def held(self, put: Put) -> Iterable[bool]:
-        """Of each slot of an acknowledged put, whether its owner's server or a keeper's has it or a successor."""
+        """Of each slot of an acknowledged put, whether its owner's server or a keeper's has it or a
+        successor.
+        """
         chunk = self.place(put.key)[1]
         for slot in self.slots_of(put.key):
             versions = slot.owner.node.fetch(slot.area(chunk), put.key)
@@ -332,7 +379,13 @@ class Store:
             yield any(is_at_most(put.clock, version.clock) for version in versions)
 
     def short(self) -> int:
-        """How many acknowledged puts are at so few slots that a get may miss them. The disks of servers that are dead for good count: these run once more for it."""
+        """How many acknowledged puts are at so few slots that a get may miss them.
+
+        The disks of servers that are dead for good count: these run once more for it.
+        """
         for member in self.dead:
             member.node.start()
-        return sum(put.is_acknowledged and sum(self.held(put)) < self.slots - self.read_quorum + 1 for put in self.puts)
+        return sum(
+            put.is_acknowledged and sum(self.held(put)) < self.slots - self.read_quorum + 1
+            for put in self.puts
+        )

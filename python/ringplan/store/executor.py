@@ -1,8 +1,10 @@
-"""Workers that go through an approved plan on a store, as docs/STORES.md says ("Going through a plan").
+"""Workers that go through an approved plan on a store, as docs/STORES.md says ("Going through a
+plan").
 
-The steps are the lines of `ringplan steps`. A worker takes any step that waits for nothing and that no one holds. If it dies in the middle of a copy, the
-copy stays open: the next worker writes its `abort`, and goes on at the chunks that are not marked. A chunk is marked once its sources are read, and is in doubt until the
-mirror has all of it.
+The steps are the lines of `ringplan steps`. A worker takes any step that waits for nothing and that
+no one holds. If it dies in the middle of a copy, the copy stays open: the next worker writes its
+`abort`, and goes on at the chunks that are not marked. A chunk is marked once its sources are read,
+and is in doubt until the mirror has all of it.
 """
 
 from __future__ import annotations
@@ -32,11 +34,18 @@ class Died(Exception):
 
 
 class Executor:
-    """The plan of a store: which steps are done, which copies are open and which of their chunks are given, by the steps' numbers."""
+    """The plan of a store: which steps are done, which copies are open and which of their chunks
+    are given, by the steps' numbers.
+    """
 
     def __init__(self, store: Store, steps: Sequence[StepLine], deaths: float = 0.0) -> None:
         self.store, self.steps, self.deaths = store, steps, deaths
-        self.done, self.taken, self.lock, self.tokens = set[int](), set[int](), threading.Lock(), Tokens()
+        self.done, self.taken, self.lock, self.tokens = (
+            set[int](),
+            set[int](),
+            threading.Lock(),
+            Tokens(),
+        )
         self.opened, self.marks = set[int](), defaultdict[int, set[int]](set)
         self.died = 0
 
@@ -82,7 +91,8 @@ class Executor:
             member.is_member = False
             self.finish(step)
 
-    # A slot moves (section 4.9): writes go to the mirror too, it is given what the sources have, it becomes the owner, the old owner drops what it had.
+    # A slot moves (section 4.9): writes go to the mirror too, it is given what the sources have, it
+    # becomes the owner, the old owner drops what it had.
     def may_mirror(self, partition: Partition, slot: Slot, member: Member) -> bool:
         return not partition.keeps_other(member, slot)
 
@@ -127,7 +137,9 @@ class Executor:
 
     def parties(self, step: StepLine) -> list[Member]:
         mirror = self.slot(step).mirror
-        return ([] if mirror is None else [mirror]) + [source.owner for source in self.sources(step)]
+        return ([] if mirror is None else [mirror]) + [
+            source.owner for source in self.sources(step)
+        ]
 
     @contextlib.contextmanager
     def holding_all(self, step: StepLine) -> Iterator[Partition]:
@@ -144,17 +156,30 @@ class Executor:
             self.store.history.note(("open", step.step))
 
     def hint_keepers(self, step: StepLine, chunk: int) -> list[tuple[Slot, Member]]:
-        """Who keeps hints of the chunk for slots that the copy lists: what was acknowledged with a hint may be nowhere else."""
+        """Who keeps hints of the chunk for slots that the copy lists: what was acknowledged with a
+        hint may be nowhere else.
+        """
         if step.slots is None:
             return []
-        kept = [(source, keeper, keys) for source in self.sources(step) for keeper, keys in source.keepers.items()]
-        return [(source, keeper) for source, keeper, keys in kept if any(self.store.place(key)[1] == chunk for key in keys)]
+        kept = [
+            (source, keeper, keys)
+            for source in self.sources(step)
+            for keeper, keys in source.keepers.items()
+        ]
+        return [
+            (source, keeper)
+            for source, keeper, keys in kept
+            if any(self.store.place(key)[1] == chunk for key in keys)
+        ]
 
     def gather(self, step: StepLine, chunk: int) -> Contents:
         """All that the sources have of the chunk."""
         found: Contents = {}
         parts = [source.owner.node.scan(source.area(chunk)) for source in self.sources(step)]
-        parts += [self.store.by_chunk(keeper.node.scan(source.hints())).get(chunk, {}) for source, keeper in self.hint_keepers(step, chunk)]
+        parts += [
+            self.store.by_chunk(keeper.node.scan(source.hints())).get(chunk, {})
+            for source, keeper in self.hint_keepers(step, chunk)
+        ]
         for contents in parts:
             for key, versions in contents.items():
                 found[key] = merged(found.get(key, []), versions)
@@ -170,16 +195,27 @@ class Executor:
             self.give(step, chunk, contents)
 
     def copy_chunk(self, step: StepLine, chunk: int) -> None:
-        """Reads the chunk, notes it, and gives it to the mirror. What was read is kept until the mirror has all of it: it may have some of it, and no other read finds the same."""
+        """Reads the chunk, notes it, and gives it to the mirror.
+
+        What was read is kept until the mirror has all of it: it may have some of it, and no other
+        read finds the same.
+        """
         with self.holding_all(step):
-            with using([*self.parties(step), *(keeper for _, keeper in self.hint_keepers(step, chunk))]):
+            with using(
+                [*self.parties(step), *(keeper for _, keeper in self.hint_keepers(step, chunk))]
+            ):
                 contents = self.gather(step, chunk)
                 self.marks[step.step].add(chunk)
                 self.store.history.note(("chunk", step.step, chunk))
                 try:
                     self.give(step, chunk, contents)
                 except (Gone, Died):
-                    self.store.doubt(self.slot(step), Doubt(lambda: self.give_again(step, chunk, contents), self.slot(step).mirror))
+                    self.store.doubt(
+                        self.slot(step),
+                        Doubt(
+                            lambda: self.give_again(step, chunk, contents), self.slot(step).mirror
+                        ),
+                    )
                     raise
 
     def is_whole(self, step: StepLine) -> bool:
@@ -208,14 +244,22 @@ class Executor:
 
     # Another plan, as `ringplan around` prints it.
     def lowered(self, slot: Slot, mirror: Member, past: Past) -> int:
-        """By how much the slot's generation falls if its mirror is undone: by one, and by one for each loss of the mirror's store while it kept no hint for the slot."""
+        """By how much the slot's generation falls if its mirror is undone: by one, and by one for
+        each loss of the mirror's store while it kept no hint for the slot.
+        """
         begun, keeps, count = False, False, 1
         for event, reply in past.entries:
             kind, *words = map(str, event)
             if kind == "do":
                 step = self.steps[int(words[0])]
-                begun = begun or (step.do == "mirror" and self.slot(step) is slot and self.member(step) is mirror)
-            elif kind == "hint" and words[2] == mirror.name and reply[1:3] == (slot.partition, slot.index):
+                begun = begun or (
+                    step.do == "mirror" and self.slot(step) is slot and self.member(step) is mirror
+                )
+            elif (
+                kind == "hint"
+                and words[2] == mirror.name
+                and reply[1:3] == (slot.partition, slot.index)
+            ):
                 keeps = True
             elif kind == "handoff" and words == [mirror.name, str(slot.partition), str(slot.index)]:
                 keeps = False
@@ -224,8 +268,16 @@ class Executor:
         return count
 
     def go_over(self, steps: Sequence[StepLine], history: History, past: Past) -> None:
-        """Goes on by another plan and the history by it, which takes the place of the past. Called while no step is under way and no store can be lost; clients may run on."""
-        done, opened, marks, mirrored = set[int](), set[int](), defaultdict[int, set[int]](set), set[Slot]()
+        """Goes on by another plan and the history by it, which takes the place of the past.
+
+        Called while no step is under way and no store can be lost; clients may run on.
+        """
+        done, opened, marks, mirrored = (
+            set[int](),
+            set[int](),
+            defaultdict[int, set[int]](set),
+            set[Slot](),
+        )
         for kind, *words in (entry.event for entry in history.entries if entry.event[0] in STEPPED):
             number, step = int(words[0]), steps[int(words[0])]
             (done if kind in ("do", "close") else opened).add(number)
@@ -240,25 +292,46 @@ class Executor:
             fallen = dict[tuple[int, int], int]()
             for slot in self.store.all_slots():
                 if slot.mirror is not None and slot not in mirrored:
-                    fallen[slot.partition, slot.index] = count = self.lowered(slot, slot.mirror, past)
+                    fallen[slot.partition, slot.index] = count = self.lowered(
+                        slot, slot.mirror, past
+                    )
                     self.store.take_back(slot, slot.mirror, count)
             self.store.history.replace(past, recorded(history, past), fallen)
             self.store.recount()
             self.steps, self.done, self.opened, self.marks = steps, done, opened, marks
             left = [step for step in steps if step.step not in done]
-            self.store.barred = {(self.member(step), step.place()[0]) for step in left if step.do == "mirror"}
-            self.store.barred |= {(self.member(step), partition) for step in left if step.do == "retire" for partition in range(len(self.store.partitions))}
+            self.store.barred = {
+                (self.member(step), step.place()[0]) for step in left if step.do == "mirror"
+            }
+            self.store.barred |= {
+                (self.member(step), partition)
+                for step in left
+                if step.do == "retire"
+                for partition in range(len(self.store.partitions))
+            }
 
     # Workers.
     def do(self, step: StepLine, draw: random.Random) -> None:
         if step.do == "copy":
             self.copy(step, draw)
             return
-        {"join": self.join, "retire": self.retire, "mirror": self.mirror, "switch": self.switch, "drop": self.drop}[step.do](step)
+        {
+            "join": self.join,
+            "retire": self.retire,
+            "mirror": self.mirror,
+            "switch": self.switch,
+            "drop": self.drop,
+        }[step.do](step)
 
     def claim(self, draw: random.Random) -> StepLine | None:
         with self.lock:
-            ready = [step for step in self.steps if step.step not in self.done and step.step not in self.taken and self.is_ready(step)]
+            ready = [
+                step
+                for step in self.steps
+                if step.step not in self.done
+                and step.step not in self.taken
+                and self.is_ready(step)
+            ]
             if not ready:
                 return None
             step = draw.choice(ready[:8])
@@ -266,7 +339,10 @@ class Executor:
             return step
 
     def work(self, draw: random.Random, until: float, pace: float = 0.0) -> None:
-        """Does steps until all are done or the time is over. `pace` is the longest pause before a step, in seconds."""
+        """Does steps until all are done or the time is over.
+
+        `pace` is the longest pause before a step, in seconds.
+        """
         while not self.is_done() and time.time() < until:
             step = self.claim(draw)
             if step is None:

@@ -1,7 +1,9 @@
-"""The history of a store: what it did, in an order that `ringplan replay` judges, and `ringplan watch` while it happens.
+"""The history of a store: what it did, in an order that `ringplan replay` judges, and `ringplan
+watch` while it happens.
 
-An entry takes its place from one counter while its event holds what it touches, so the order of places is the order in which events took effect. Puts and gets
-are numbered when the history is written out, in that order: no coordinator can number those of the whole store.
+An entry takes its place from one counter while its event holds what it touches, so the order of
+places is the order in which events took effect. Puts and gets are numbered when the history is
+written out, in that order: no coordinator can number those of the whole store.
 """
 
 from __future__ import annotations
@@ -15,13 +17,13 @@ from dataclasses import dataclass, field
 from typing import TextIO
 
 from ringplan.store.versions import Clock, Version
-from ringplan.texts import History
+from ringplan.texts import OF_GETS, OF_PUTS, History
 from ringplan.watching import Watch
 
 
 @dataclass(eq=False)
 class Put:
-    """A put, and its tickets: the generation of each slot, by index, at which it was stored there."""
+    """A put, and its tickets: by index, the generation of each slot when it was stored there."""
 
     id: int
     writer: str
@@ -50,8 +52,6 @@ class Get:
 Word = str | int | Put | Get
 Recorded = tuple[tuple[Word, ...], tuple[str | int, ...]]
 Placed = tuple[int, Recorded]
-# The events whose first word is the number of a put, and those of which it is that of a get.
-OF_PUTS, OF_GETS = ("write", "hint", "ack"), ("read", "endget")
 
 
 @dataclass(frozen=True)
@@ -64,16 +64,33 @@ class Past:
 
 def recorded(history: History, past: Past) -> list[Recorded]:
     """The entries of a text whose puts and gets are those of the past."""
-    puts = [put for event, _ in past.entries for put in event[1:] if event[0] == "put" and isinstance(put, Put)]
-    gets = [get for event, _ in past.entries for get in event[1:] if event[0] == "get" and isinstance(get, Get)]
-    found, begun = list[Recorded](), {"put": iter(list[Put | Get](puts)), "get": iter(list[Put | Get](gets))}
+    puts = [
+        put
+        for event, _ in past.entries
+        for put in event[1:]
+        if event[0] == "put" and isinstance(put, Put)
+    ]
+    gets = [
+        get
+        for event, _ in past.entries
+        for get in event[1:]
+        if event[0] == "get" and isinstance(get, Get)
+    ]
+    found, begun = list[Recorded](), {
+        "put": iter(list[Put | Get](puts)),
+        "get": iter(list[Put | Get](gets)),
+    }
     for (kind, *words), (word, *told) in ((entry.event, entry.reply) for entry in history.entries):
         event: list[Word] = [kind, *words]
         if kind in begun:
             event[1:] = [next(begun[kind])]
         elif kind in OF_PUTS or kind in OF_GETS:
             event[1] = puts[int(words[0])] if kind in OF_PUTS else gets[int(words[0])]
-        reply: list[str | int] = [puts[int(number)].id for number in told] if word in ("found", "reply") else [*map(int, told)]
+        reply: list[str | int] = (
+            [puts[int(number)].id for number in told]
+            if word in ("found", "reply")
+            else [*map(int, told)]
+        )
         found.append((tuple(event), ("ok",) if kind in begun else (word, *reply)))
     return found
 
@@ -98,11 +115,19 @@ class Spelling:
         if kind == "put" and isinstance(put := words[0], Put):
             self.begin(self.puts, put.id)
             seen = "".join(f" {known}" for known in sorted(self.gets[get.id] for get in put.seen))
-            return f"put {put.writer} {put.key} x" + (f" seen{seen}" if seen else "") + f" = put {self.puts[put.id]}"
+            return (
+                f"put {put.writer} {put.key} x"
+                + (f" seen{seen}" if seen else "")
+                + f" = put {self.puts[put.id]}"
+            )
         if kind == "get" and isinstance(get := words[0], Get):
             self.begin(self.gets, get.id)
             return f"get {get.key} = get {self.gets[get.id]}"
-        told = [str(known) for known in sorted(self.puts[int(id)] for id in reply[1:])] if reply[0] in ("found", "reply") else map(str, reply[1:])
+        told = (
+            [str(known) for known in sorted(self.puts[int(id)] for id in reply[1:])]
+            if reply[0] in ("found", "reply")
+            else map(str, reply[1:])
+        )
         return " ".join([str(kind), *map(self.number, words), "=", str(reply[0]), *told])
 
 
@@ -114,7 +139,11 @@ class Recorder:
     """Entries by thread, each with its place. `tell` is called with each entry."""
 
     def __init__(self) -> None:
-        self.places, self.lists, self.local = itertools.count(), list[list[Placed]](), threading.local()
+        self.places, self.lists, self.local = (
+            itertools.count(),
+            list[list[Placed]](),
+            threading.local(),
+        )
         self.tell: Callable[[Placed], None] = lambda _: None
 
     def note(self, event: tuple[Word, ...], reply: tuple[str | int, ...] = ("ok",)) -> None:
@@ -128,20 +157,32 @@ class Recorder:
         self.tell(placed)
 
     def past(self) -> Past:
-        """What was noted so far. Called while no event takes effect that another thread's event may need."""
+        """What was noted so far.
+
+        Called while no event takes effect that another thread's event may need.
+        """
         cuts = [(mine, len(mine)) for mine in list(self.lists)]
-        placed = sorted((one for mine, length in cuts for one in mine[:length]), key=lambda one: one[0])
+        placed = sorted(
+            (one for mine, length in cuts for one in mine[:length]), key=lambda one: one[0]
+        )
         return Past(cuts, [entry for _, entry in placed])
 
-    def replace(self, past: Past, entries: list[Recorded], fallen: dict[tuple[int, int], int]) -> None:
-        """Puts other entries in the place of the past: they are the first list, and each thread's own list keeps what it noted since. The generations of some slots have fallen."""
+    def replace(
+        self, past: Past, entries: list[Recorded], fallen: dict[tuple[int, int], int]
+    ) -> None:
+        """Puts other entries in the place of the past: they are the first list, and each thread's
+        own list keeps what it noted since. The generations of some slots have fallen.
+        """
         for mine, length in past.cuts:
             del mine[:length]
         for mine in self.lists:
             for at, (place, (event, reply)) in enumerate(mine):
                 if reply[0] == "ticket" and reply[1:3] in fallen:
                     *slot, generation = map(int, reply[1:])
-                    mine[at] = (place, (event, ("ticket", *slot, generation - fallen[slot[0], slot[1]])))
+                    mine[at] = (
+                        place,
+                        (event, ("ticket", *slot, generation - fallen[slot[0], slot[1]])),
+                    )
         self.lists.insert(0, [(place - len(entries), entry) for place, entry in enumerate(entries)])
 
     def entries(self) -> list[Recorded]:
@@ -163,12 +204,17 @@ class Naming(Spelling):
 
 
 class Logs(Recorder):
-    """Writes each entry to one of several logs too, as `ringplan-merge --follow` reads them. Each log gets a mark each `pause` seconds."""
+    """Writes each entry to one of several logs too, as `ringplan-merge --follow` reads them.
+
+    Each log gets a mark each `pause` seconds.
+    """
 
     def __init__(self, paths: Sequence[str], pause: float = 1.0) -> None:
         super().__init__()
         self.naming, self.pause, self.over = Naming(), pause, threading.Event()
-        self.logs = [(open(path, "w", encoding="ascii", buffering=1), threading.Lock()) for path in paths]
+        self.logs = [
+            (open(path, "w", encoding="ascii", buffering=1), threading.Lock()) for path in paths
+        ]
         self.tell = self.write
         threading.Thread(target=self.mark, daemon=True).start()
 
@@ -201,7 +247,10 @@ class Logs(Recorder):
 
 
 class Judged:
-    """A history that the judge reads while it happens. It cannot be replaced by another one meanwhile."""
+    """A history that the judge reads while it happens.
+
+    It cannot be replaced by another one meanwhile.
+    """
 
     def __init__(self, history: Recorder, bundle: str) -> None:
         self.watch, self.queue = Watch(bundle), queue.SimpleQueue[Placed | None]()

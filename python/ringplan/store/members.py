@@ -16,7 +16,10 @@ class Blocked(Exception):
 
 
 class Member:
-    """A node as the coordinators know it. Events that need it up hold it shared; who says that it is down or up holds it alone."""
+    """A node as the coordinators know it.
+
+    Events that need it up hold it shared; who says that it is down or up holds it alone.
+    """
 
     def __init__(self, name: str, number: int, node: Node, is_in: bool) -> None:
         self.name, self.number, self.node = name, number, node
@@ -63,16 +66,22 @@ def using(members: Iterable[Member]) -> Iterator[None]:
 
 @dataclass(eq=False)
 class Doubt:
-    """What may or may not have happened at a slot, since a node died before it answered. `again` does it for certain."""
+    """What may or may not have happened at a slot, since a node died before it answered.
+
+    `again` does it for certain.
+    """
 
     again: Callable[[], None]
-    # The only node that was asked, if it was one: once that is dead for good, or has lost its store, nothing has happened that anybody could see.
+    # The only node that was asked, if it was one: once that is dead for good, or has lost its
+    # store, nothing has happened that anybody could see.
     only: Member | None = None
 
 
 @dataclass(eq=False)
 class Slot:
-    """A slot: its owner, its mirror while it moves, its generation, and the hints that stand-ins keep for it, by key with the owner they were meant for."""
+    """A slot: its owner, its mirror while it moves, its generation, and the hints that stand-ins
+    keep for it, by key with the owner they were meant for.
+    """
 
     partition: int
     index: int
@@ -80,10 +89,12 @@ class Slot:
     mirror: Member | None = None
     generation: int = 0
     keepers: dict[Member, dict[str, Member]] = field(default_factory=dict)
-    # Keepers whose handoff began and has not ended: the owner may have what the history says is with the keeper alone.
+    # Keepers whose handoff began and has not ended: the owner may have what the history says is
+    # with the keeper alone.
     handing: set[Member] = field(default_factory=set)
     doubts: list[Doubt] = field(default_factory=list)
-    # Nodes whose mirror of the slot was undone: each must forget what it has of the slot before it mirrors the slot again.
+    # Nodes whose mirror of the slot was undone: each must forget what it has of the slot before it
+    # mirrors the slot again.
     undone: set[Member] = field(default_factory=set)
 
     def writers(self) -> list[Member]:
@@ -102,13 +113,18 @@ class Slot:
 
 
 class Tokens:
-    """The greatest token that the store has seen for each slot, and for each node that joins or retires. A hook with a smaller one comes too late: its step was given out again."""
+    """The greatest token that the store has seen for each slot, and for each node that joins or
+    retires. A hook with a smaller one comes too late: its step was given out again.
+    """
 
     def __init__(self) -> None:
         self.seen, self.lock = dict[tuple[int, int] | str, int](), threading.Lock()
 
     def admit(self, step: StepLine, token: int) -> bool:
-        """Whether the store may do what a hook with this token asks. Asked before each effect, while nothing else happens to the step."""
+        """Whether the store may do what a hook with this token asks.
+
+        Asked before each effect, while nothing else happens to the step.
+        """
         about: tuple[int, int] | str = step.who() if step.partition is None else step.place()
         with self.lock:
             self.seen[about] = max(token, self.seen.get(about, 0))

@@ -1,7 +1,8 @@
 """Nodes: what a store wants of a database server is four calls on areas of keys.
 
-`merge` must merge at the server, in one step, and what it has answered must be there after a crash of the process. `ServerNode` has what all kinds share.
-`SqliteNode` is one process over one file. `redis_node` and `postgres_node` have the others.
+`merge` must merge at the server, in one step, and what it has answered must be there after a crash
+of the process. `ServerNode` has what all kinds share. `SqliteNode` is one process over one file.
+`redis_node` and `postgres_node` have the others.
 """
 
 from __future__ import annotations
@@ -41,17 +42,33 @@ class Gone(Exception):
 class Node(Protocol):
     """A database server with the versions of one node."""
 
-    def fetch(self, area: str, key: str) -> list[Version]: ...
-    def scan(self, area: str) -> Contents: ...
-    def merge(self, area: str, contents: Contents) -> None: ...
-    def clear(self, areas: Iterable[str]) -> None: ...
-    def start(self) -> None: ...
-    def kill(self) -> None: ...
-    def wipe(self) -> None: ...
+    def fetch(self, area: str, key: str) -> list[Version]:
+        ...
+
+    def scan(self, area: str) -> Contents:
+        ...
+
+    def merge(self, area: str, contents: Contents) -> None:
+        ...
+
+    def clear(self, areas: Iterable[str]) -> None:
+        ...
+
+    def start(self) -> None:
+        ...
+
+    def kill(self) -> None:
+        ...
+
+    def wipe(self) -> None:
+        ...
 
 
 class ServerNode(Node, abc.ABC, Generic[Link]):
-    """A server process in a folder of its own, killed by signal 9 and started again at will. Each thread has one connection for each life of the process."""
+    """A server process in a folder of its own, killed by signal 9 and started again at will.
+
+    Each thread has one connection for each life of the process.
+    """
 
     # The server's program, and the Debian package that has it.
     program, package = "", ""
@@ -68,15 +85,30 @@ class ServerNode(Node, abc.ABC, Generic[Link]):
 
     @classmethod
     def find(cls) -> str:
-        """The path of the server's program. Debian keeps those of PostgreSQL off the search path."""
-        path = shutil.which(cls.program, path=os.pathsep.join([os.environ.get("PATH", ""), *sorted(glob.glob("/usr/lib/postgresql/*/bin"), reverse=True)]))
+        """The path of the server's program.
+
+        Debian keeps those of PostgreSQL off the search path.
+        """
+        path = shutil.which(
+            cls.program,
+            path=os.pathsep.join(
+                [
+                    os.environ.get("PATH", ""),
+                    *sorted(glob.glob("/usr/lib/postgresql/*/bin"), reverse=True),
+                ]
+            ),
+        )
         if path is None:
-            raise NoProgram(f"there is no program {cls.program}: install the Debian package {cls.package}")
+            raise NoProgram(
+                f"there is no program {cls.program}: install the Debian package {cls.package}"
+            )
         return path
 
     @abc.abstractmethod
     def launch(self) -> subprocess.Popen[bytes]:
-        """Starts the process, in a session of its own: a signal from the terminal does not reach it."""
+        """Starts the process, in a session of its own: a signal from the terminal does not reach
+        it.
+        """
 
     @abc.abstractmethod
     def connect(self) -> Link:
@@ -85,7 +117,11 @@ class ServerNode(Node, abc.ABC, Generic[Link]):
     def start(self) -> None:
         self.process = self.launch()
         # The guard's input ends when this process does, however it dies. Then the server ends too.
-        self.guard = subprocess.Popen(["/bin/sh", "-c", "read line; kill $0 2>&-", str(self.process.pid)], stdin=subprocess.PIPE, start_new_session=True)
+        self.guard = subprocess.Popen(
+            ["/bin/sh", "-c", "read line; kill $0 2>&-", str(self.process.pid)],
+            stdin=subprocess.PIPE,
+            start_new_session=True,
+        )
         self.life += 1
         until = time.monotonic() + STARTS
         while True:
@@ -93,7 +129,9 @@ class ServerNode(Node, abc.ABC, Generic[Link]):
                 return self.ask(lambda _: None)
             except Gone as gone:
                 if self.process.poll() is not None or time.monotonic() > until:
-                    raise TimeoutError(f"the server of {self.name} does not start: {gone.__cause__}") from gone
+                    raise TimeoutError(
+                        f"the server of {self.name} does not start: {gone.__cause__}"
+                    ) from gone
                 time.sleep(0.005)
 
     def kill(self) -> None:
@@ -108,7 +146,10 @@ class ServerNode(Node, abc.ABC, Generic[Link]):
         os.makedirs(self.folder)
 
     def ask(self, call: Callable[[Link], Answer]) -> Answer:
-        """What the call returns. A connection to a process that is dead by now is made anew once; a broken one is `Gone`."""
+        """What the call returns.
+
+        A connection to a process that is dead by now is made anew once; a broken one is `Gone`.
+        """
         known: tuple[int, Link] | None = getattr(self.local, "connection", None)
         try:
             if known is None or known[0] != self.life:
@@ -147,7 +188,13 @@ class SqliteNode(ServerNode[Connection]):
     program = sys.executable
 
     def launch(self) -> subprocess.Popen[bytes]:
-        words = [self.find(), "-m", "ringplan.store.server", os.path.join(self.folder, "versions.db"), self.path]
+        words = [
+            self.find(),
+            "-m",
+            "ringplan.store.server",
+            os.path.join(self.folder, "versions.db"),
+            self.path,
+        ]
         return subprocess.Popen(words + ["latest"] * self.latest_wins, start_new_session=True)
 
     def connect(self) -> Connection:
@@ -160,7 +207,10 @@ class SqliteNode(ServerNode[Connection]):
         return [Version(*version) for version in self.call("fetch", area, key)]
 
     def scan(self, area: str) -> Contents:
-        return {key: [Version(*version) for version in versions] for key, versions in self.call("scan", area).items()}
+        return {
+            key: [Version(*version) for version in versions]
+            for key, versions in self.call("scan", area).items()
+        }
 
     def merge(self, area: str, contents: Contents) -> None:
         if contents:
@@ -171,7 +221,10 @@ class SqliteNode(ServerNode[Connection]):
 
 
 def choose(word: str) -> type[ServerNode[Any]]:
-    """The class of nodes that the word names. `NoProgram` names the Debian package that is not installed."""
+    """The class of nodes that the word names.
+
+    `NoProgram` names the Debian package that is not installed.
+    """
     kind: type[ServerNode[Any]] = SqliteNode
     try:
         if word == "redis":
@@ -179,6 +232,9 @@ def choose(word: str) -> type[ServerNode[Any]]:
         elif word == "postgres":
             from ringplan.store.postgres_node import PostgresNode as kind
     except ModuleNotFoundError as error:
-        raise NoProgram(f"there is no Python package {error.name}: install the Debian package python3-{error.name}") from error
+        raise NoProgram(
+            f"there is no Python package {error.name}: install the Debian package"
+            f" python3-{error.name}"
+        ) from error
     kind.find()
     return kind

@@ -1,7 +1,8 @@
 """Nodes over redis: an area is a hash of keys, and a merge is one script in the server.
 
-What redis has answered outlives the process, not the machine. With `appendfsync no` it writes each change to its file before it answers, and syncs nothing.
-`everysec` is weaker against kills: during a slow sync redis answers first and writes later, so a kill loses what was answered.
+What redis has answered outlives the process, not the machine. With `appendfsync no` it writes each
+change to its file before it answers, and syncs nothing. `everysec` is weaker against kills: during
+a slow sync redis answers first and writes later, so a kill loses what was answered.
 """
 
 from __future__ import annotations
@@ -31,7 +32,9 @@ local function merged(old, version)
   kept[#kept + 1] = version
   return kept
 end
-local function latest(old, version) return old[1] and old[1][1] >= version[1] and old or {version} end
+local function latest(old, version)
+  return old[1] and old[1][1] >= version[1] and old or {version}
+end
 local merge = ARGV[1] == 'latest' and latest or merged
 for at = 2, #ARGV, 2 do
   local kept = cjson.decode(redis.call('HGET', KEYS[1], ARGV[at]) or '[]')
@@ -48,14 +51,30 @@ class RedisNode(ServerNode["redis.Redis[bytes]"]):
     broken = (redis.ConnectionError, redis.TimeoutError)
 
     def launch(self) -> subprocess.Popen[bytes]:
-        words = [self.find(), "--port", "0", "--unixsocket", self.path, "--dir", self.folder, "--logfile", "log"]
-        return subprocess.Popen([*words, "--appendonly", "yes", "--appendfsync", "no", "--save", ""], start_new_session=True)
+        words = [
+            self.find(),
+            "--port",
+            "0",
+            "--unixsocket",
+            self.path,
+            "--dir",
+            self.folder,
+            "--logfile",
+            "log",
+        ]
+        return subprocess.Popen(
+            [*words, "--appendonly", "yes", "--appendfsync", "no", "--save", ""],
+            start_new_session=True,
+        )
 
     def connect(self) -> redis.Redis[bytes]:
         try:
-            link = redis.Redis(unix_socket_path=self.path, socket_timeout=PATIENCE, single_connection_client=True)
+            link = redis.Redis(
+                unix_socket_path=self.path, socket_timeout=PATIENCE, single_connection_client=True
+            )
         except AttributeError as error:
-            # The client wants to name the host of a connection that broke as it was made, and a Unix socket has none.
+            # The client wants to name the host of a connection that broke as it was made, and a
+            # Unix socket has none.
             raise redis.ConnectionError(self.path) from error
         # It refuses while the server still reads its file.
         link.ping()
@@ -65,11 +84,16 @@ class RedisNode(ServerNode["redis.Redis[bytes]"]):
         return versions_of(self.ask(lambda link: link.hget(area, key)))
 
     def scan(self, area: str) -> Contents:
-        return {key.decode(): versions_of(text) for key, text in self.ask(lambda link: link.hgetall(area)).items()}
+        return {
+            key.decode(): versions_of(text)
+            for key, text in self.ask(lambda link: link.hgetall(area)).items()
+        }
 
     def merge(self, area: str, contents: Contents) -> None:
         words = [word for key, versions in contents.items() for word in (key, json.dumps(versions))]
-        self.ask(methodcaller("eval", MERGE, 1, area, "latest" if self.latest_wins else "merged", *words))
+        self.ask(
+            methodcaller("eval", MERGE, 1, area, "latest" if self.latest_wins else "merged", *words)
+        )
 
     def clear(self, areas: Iterable[str]) -> None:
         if names := list(areas):

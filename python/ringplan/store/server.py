@@ -1,9 +1,11 @@
-"""One node's database: a process of its own that keeps versions in an SQLite file and answers on a local socket.
+"""One node's database: a process of its own that keeps versions in an SQLite file and answers on a
+local socket.
 
     python3 -m ringplan.store.server FILE SOCKET [latest]
 
-A request is a line of JSON, `[call, ...]`, and so is its answer. Four calls are all that a node offers: `fetch(area, key)`, `scan(area)`, `merge(area,
-contents)` and `clear(areas)`. A merge is one transaction: versions are merged where they are stored, so two writers of a key lose nothing.
+A request is a line of JSON, `[call, ...]`, and so is its answer. Four calls are all that a node
+offers: `fetch(area, key)`, `scan(area)`, `merge(area, contents)` and `clear(areas)`. A merge is one
+transaction: versions are merged where they are stored, so two writers of a key lose nothing.
 """
 
 from __future__ import annotations
@@ -27,19 +29,31 @@ class Database:
 
     def __init__(self, path: str, merge: Merge) -> None:
         self.path, self.merge_versions, self.local = path, merge, threading.local()
-        self.open().execute("create table if not exists versions (area text, key text, list text, primary key (area, key)) without rowid")
+        self.open().execute(
+            "create table if not exists versions (area text, key text, list text, primary key"
+            " (area, key)) without rowid"
+        )
 
     def open(self) -> sqlite3.Connection:
-        """The calling thread's connection. What is committed outlives the process; it need not outlive the machine."""
+        """The calling thread's connection.
+
+        What is committed outlives the process; it need not outlive the machine.
+        """
         found: sqlite3.Connection | None = getattr(self.local, "connection", None)
         if found is None:
-            found = self.local.connection = sqlite3.connect(self.path, timeout=30, isolation_level=None)
+            found = self.local.connection = sqlite3.connect(
+                self.path, timeout=30, isolation_level=None
+            )
             found.execute("pragma journal_mode=wal")
             found.execute("pragma synchronous=off")
         return found
 
     def fetch(self, area: str, key: str) -> list[Any]:
-        row = self.open().execute("select list from versions where area=? and key=?", (area, key)).fetchone()
+        row = (
+            self.open()
+            .execute("select list from versions where area=? and key=?", (area, key))
+            .fetchone()
+        )
         return list(json.loads(row[0])) if row else []
 
     def scan(self, area: str) -> dict[str, Any]:
@@ -51,8 +65,13 @@ class Database:
         connection.execute("begin immediate")
         for key, new in contents.items():
             old = [Version(*version) for version in self.fetch(area, key)]
-            text = json.dumps(self.merge_versions(old, (Version(*version) for version in new)), separators=(",", ":"))
-            connection.execute("insert or replace into versions values (?, ?, ?)", (area, key, text))
+            text = json.dumps(
+                self.merge_versions(old, (Version(*version) for version in new)),
+                separators=(",", ":"),
+            )
+            connection.execute(
+                "insert or replace into versions values (?, ?, ?)", (area, key, text)
+            )
         connection.execute("commit")
 
     def clear(self, areas: list[str]) -> None:
@@ -62,7 +81,12 @@ class Database:
         connection.execute("commit")
 
     def answer(self, call: str, *arguments: Any) -> Any:
-        calls: dict[str, Callable[..., Any]] = {"fetch": self.fetch, "scan": self.scan, "merge": self.merge, "clear": self.clear}
+        calls: dict[str, Callable[..., Any]] = {
+            "fetch": self.fetch,
+            "scan": self.scan,
+            "merge": self.merge,
+            "clear": self.clear,
+        }
         return calls[call](*arguments)
 
 

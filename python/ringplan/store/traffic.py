@@ -20,7 +20,10 @@ from ringplan.store.nodes import Gone
 
 @dataclass
 class Load:
-    """How much traffic there is, and how often servers die. Times are seconds. `halves` is the part of puts whose client ends after the first slot."""
+    """How much traffic there is, and how often servers die.
+
+    Times are seconds. `halves` is the part of puts whose client ends after the first slot.
+    """
 
     seed: int = 1
     clients: int = 5
@@ -41,7 +44,9 @@ class Load:
 class Run:
     """One run of a plan under a load."""
 
-    def __init__(self, store: Store, executor: Executor, load: Load, dead: tuple[str, ...] = ()) -> None:
+    def __init__(
+        self, store: Store, executor: Executor, load: Load, dead: tuple[str, ...] = ()
+    ) -> None:
         self.store, self.executor, self.load, self.dead = store, executor, load, dead
         self.finished, self.kills = threading.Event(), 0
         # Held while a server is dead that comes back.
@@ -63,7 +68,11 @@ class Run:
     def client(self, number: int) -> None:
         """Gets and puts of random keys; most puts know the client's last get of their key."""
         draw, last, count = self.draw(f"client {number}"), dict[str, Get](), 0
-        while (count < self.load.operations or not self.executor.is_done()) and count < 20 * self.load.operations and time.time() < self.until:
+        while (
+            (count < self.load.operations or not self.executor.is_done())
+            and count < 20 * self.load.operations
+            and time.time() < self.until
+        ):
             key = f"k{min(draw.randrange(self.load.keys), draw.randrange(self.load.keys))}"
             if draw.random() < 0.5:
                 get = self.store.get(key, draw)
@@ -74,7 +83,11 @@ class Run:
                 value = f"{draw.randrange(2**32):08x}"
                 if self.load.halves and draw.random() < self.load.halves:
                     # Another writer: this one's next put would succeed it.
-                    self.store.send(self.store.start_put(f"h{number}", key, value, seen), draw.choice(self.store.slots_of(key)), draw)
+                    self.store.send(
+                        self.store.start_put(f"h{number}", key, value, seen),
+                        draw.choice(self.store.slots_of(key)),
+                        draw,
+                    )
                 else:
                     self.store.put(f"w{number}", key, value, seen, draw)
             count += 1
@@ -84,7 +97,9 @@ class Run:
         draw = self.draw("faults")
         while self.load.faults and not self.finished.wait(draw.expovariate(1 / self.load.faults)):
             with self.killing:
-                alive = [member for member in self.store.members if member.is_member and member.is_up]
+                alive = [
+                    member for member in self.store.members if member.is_member and member.is_up
+                ]
                 if alive:
                     self.kill_for_a_while(draw.choice(alive), draw)
 
@@ -101,7 +116,10 @@ class Run:
         self.store.back(member)
 
     def heal(self) -> None:
-        """Asks the members that are down, and takes back those that answer. A thread that notices a crash late marks a server that is back already."""
+        """Asks the members that are down, and takes back those that answer.
+
+        A thread that notices a crash late marks a server that is back already.
+        """
         for member in self.store.members:
             if member.is_member and not member.is_up and member not in self.store.dead:
                 with contextlib.suppress(Gone):
@@ -109,10 +127,17 @@ class Run:
                     self.store.back(member)
 
     def hand_off(self) -> None:
-        """Hands hints off until none is left after the traffic has ended. Those for the slots of dead servers stay."""
+        """Hands hints off until none is left after the traffic has ended.
+
+        Those for the slots of dead servers stay.
+        """
         while True:
             self.heal()
-            left = [(slot, keeper) for slot, keeper in self.store.hints_left() if not self.store.dead.intersection(slot.writers())]
+            left = [
+                (slot, keeper)
+                for slot, keeper in self.store.hints_left()
+                if not self.store.dead.intersection(slot.writers())
+            ]
             if self.finished.is_set() and (not left or time.time() > self.until):
                 return
             for slot, keeper in left:
@@ -125,21 +150,29 @@ class Run:
             self.store.attempt(partial(self.store.settle, slot))
 
     def bury(self) -> None:
-        """Kills the servers that are dead for good, each while it keeps no hint, and while nothing is in doubt that others were asked too: who asks the dead would wait for ever."""
+        """Kills the servers that are dead for good, each while it keeps no hint, and while nothing
+        is in doubt that others were asked too: who asks the dead would wait for ever.
+        """
         for member in (self.store.by_name[name] for name in self.dead):
             while member not in self.store.dead:
                 for slot in self.store.all_slots():
                     if any(doubt.only is not member for doubt in slot.doubts):
                         self.store.attempt(partial(self.store.settle, slot))
                 with member.alone():
-                    if not any(member in slot.keepers or any(doubt.only is not member for doubt in slot.doubts) for slot in self.store.all_slots()):
+                    if not any(
+                        member in slot.keepers
+                        or any(doubt.only is not member for doubt in slot.doubts)
+                        for slot in self.store.all_slots()
+                    ):
                         member.node.kill()
                         self.store.dead.add(member)
                         self.store.note_down(member)
                 time.sleep(0.005)
 
     def sweep(self) -> None:
-        """Ends what is in doubt, and reads each key at all its slots once: what was lost unseen is seen now."""
+        """Ends what is in doubt, and reads each key at all its slots once: what was lost unseen is
+        seen now.
+        """
         self.heal()
         self.settle()
         draw = self.draw("sweep")
@@ -153,10 +186,24 @@ class Run:
             for started in [pool.submit(member.node.start) for member in self.store.members]:
                 started.result()
         begun, self.until = time.time(), time.time() + self.load.limit
-        clients = [threading.Thread(target=self.guard, args=[self.client, number]) for number in range(self.load.clients)]
-        others = [threading.Thread(target=self.guard, args=[call]) for call in (self.kill_servers, self.hand_off)]
+        clients = [
+            threading.Thread(target=self.guard, args=[self.client, number])
+            for number in range(self.load.clients)
+        ]
+        others = [
+            threading.Thread(target=self.guard, args=[call])
+            for call in (self.kill_servers, self.hand_off)
+        ]
         workers = [
-            threading.Thread(target=self.guard, args=[self.executor.work, self.draw(f"worker {number}"), self.until, self.load.pace])
+            threading.Thread(
+                target=self.guard,
+                args=[
+                    self.executor.work,
+                    self.draw(f"worker {number}"),
+                    self.until,
+                    self.load.pace,
+                ],
+            )
             for number in range(self.load.workers)
         ]
         for thread in clients:

@@ -25,7 +25,9 @@ def is_at_most(one: Clock, other: Clock) -> bool:
 
 
 def merged(old: Sequence[Version], new: Iterable[Version]) -> list[Version]:
-    """The versions of both that no other of them succeeds: a version goes only where a later one knows of it."""
+    """The versions of both that no other of them succeeds: a version goes only where a later one
+    knows of it.
+    """
     kept = list(old)
     for version in new:
         if not any(is_at_most(version.clock, other.clock) for other in kept):
@@ -35,5 +37,7 @@ def merged(old: Sequence[Version], new: Iterable[Version]) -> list[Version]:
 
 
 def latest(old: Sequence[Version], new: Iterable[Version]) -> list[Version]:
-    """What a store keeps in which the latest put wins: one of two puts that do not know of one another is lost."""
+    """What a store keeps in which the latest put wins: one of two puts that do not know of one
+    another is lost.
+    """
     return [max([*old, *new], key=lambda version: version.put)]
