@@ -151,24 +151,29 @@ def unmet(what: str, given: bytes) -> Iterator[str]:
         ):
             yield f"{words} of {what}: with colours other words"
     for words in STATED:
-        printed = ask(f"{words} --format json", given)
-        if seen := control(printed.out) or control(printed.errors):
-            yield f"{words} --format json of {what}: {seen}"
-        try:
-            stated = json.loads(printed.out.decode())
-        except ValueError as error:
-            yield f"{words} --format json of {what}: {error}: {printed.out[:200]!r}"
-            continue
-        mend = stated.get("mend")
-        if mend and mend["lines"]:
-            new = mended(given, mend).split(b"\n")
-            # A line that the mend leaves as it was, after an `end`.
-            if any(it.startswith(b"more ") and it not in given.split(b"\n") for it in new):
-                yield f"{words} --format json of {what}: another line in {mend}"
-            line = ask("why", mended(given, mend)).out.split(b"\n")[0].decode()
-            then = {"accepted": "yes", "planned": "yes", "replayed": "yes"}
-            if line != then.get(mend["then"], mend["then"]):
-                yield f"{words} --format json of {what}: {mend} leads to {line}"
+        yield from wrongly_stated(f"{words} --format json of {what}", words, given)
+
+
+def wrongly_stated(what: str, words: str, given: bytes) -> Iterator[str]:
+    """What is wrong with an object that a command prints of a bundle."""
+    printed = ask(f"{words} --format json", given)
+    if seen := control(printed.out) or control(printed.errors):
+        yield f"{what}: {seen}"
+    try:
+        stated = json.loads(printed.out.decode())
+    except ValueError as error:
+        yield f"{what}: {error}: {printed.out[:200]!r}"
+        return
+    mend = stated.get("mend")
+    if mend and mend["lines"]:
+        new = mended(given, mend).split(b"\n")
+        # A line that the mend leaves as it was, after an `end`.
+        if any(it.startswith(b"more ") and it not in given.split(b"\n") for it in new):
+            yield f"{what}: another line in {mend}"
+        line = ask("why", mended(given, mend)).out.split(b"\n")[0].decode()
+        then = {"accepted": "yes", "planned": "yes", "replayed": "yes"}
+        if line != then.get(mend["then"], mend["then"]):
+            yield f"{what}: {mend} leads to {line}"
 
 
 def layouts(draw: random.Random) -> Iterator[str]:
@@ -176,7 +181,16 @@ def layouts(draw: random.Random) -> Iterator[str]:
     bundle = (TOP / "examples/plan_replace.bundle").read_bytes()
     for poison in POISONS:
         with tempfile.NamedTemporaryFile() as file:
-            line = draw.choice([poison, b"size 1 " + poison, b"rack a " + poison, b"alias a " + poison, b"alias a x" + poison, b"dead " + poison])
+            line = draw.choice(
+                [
+                    poison,
+                    b"size 1 " + poison,
+                    b"rack a " + poison,
+                    b"alias a " + poison,
+                    b"alias a x" + poison,
+                    b"dead " + poison,
+                ]
+            )
             file.write(b"layout 1\nsize 0 5\n" + line + b"\nend\n")
             file.flush()
             for words in (

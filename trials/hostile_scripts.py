@@ -1,48 +1,54 @@
 #!/usr/bin/env python3
 """Bundles with scripts that could be made to cost a play much, for measuring.
 
-    hostile_scripts.py reads M G      > bundle    M writers leave M/2 versions in conflict, each with M/2 entries; G gets read them
+    hostile_scripts.py reads M G      > bundle    M writers leave M/2 versions in conflict, each
+                                      with M/2 entries; G gets read them
     hostile_scripts.py writes M N     > bundle    the same versions, written once more by N lines
-    hostile_scripts.py seen M N       > bundle    the same versions, and N puts that know 16 gets which found them
-    hostile_scripts.py chained M N    > bundle    N puts by M writers, each of which knows all before it, by a get of its own
-    hostile_scripts.py joins M G      > bundle    two versions in conflict, each with M/2 entries; G gets read both, and no put names these
-    hostile_scripts.py values M G     > bundle    M versions in conflict of 1,024 bytes each, and G gets that read and end
-    hostile_scripts.py hints N        > bundle    N hints, at 1,017 nodes and seven slots of a partition for each key
-    hostile_scripts.py scattered N    > bundle    N hints, each at a node and for a slot that has no other
-    hostile_scripts.py keepers K N    > bundle    K nodes keep another key for a slot, which N gets read
-    hostile_scripts.py down K N       > bundle    the same where a keeper of the key is down, and N reads are refused
+    hostile_scripts.py seen M N       > bundle    the same versions, and N puts that know 16 gets
+                                      which found them
+    hostile_scripts.py chained M N    > bundle    N puts by M writers, each of which knows all
+                                      before it, by a get of its own
+    hostile_scripts.py joins M G      > bundle    two versions in conflict, each with M/2 entries; G
+                                      gets read both, and no put names these
+    hostile_scripts.py values M G     > bundle    M versions in conflict of 1,024 bytes each, and G
+                                      gets that read and end
+    hostile_scripts.py hints N        > bundle    N hints, at 1,017 nodes and seven slots of a
+                                      partition for each key
+    hostile_scripts.py scattered N    > bundle    N hints, each at a node and for a slot that has no
+                                      other
+    hostile_scripts.py keepers K N    > bundle    K nodes keep another key for a slot, which N gets
+                                      read
+    hostile_scripts.py down K N       > bundle    the same where a keeper of the key is down, and N
+                                      reads are refused
     hostile_scripts.py keys M K       > bundle    a slot with K keys moves M times
-    hostile_scripts.py touched M K    > bundle    the same, with a put to a key of each chunk in front of each move's copies
-    hostile_scripts.py left M K T     > bundle    the same from node to node, each of which keeps what it has, with T keys of each chunk put again
-    hostile_scripts.py kept K M N     > bundle    K nodes keep the same M/2 versions for a slot, which N gets read
+    hostile_scripts.py touched M K    > bundle    the same, with a put to a key of each chunk in
+                                      front of each move's copies
+    hostile_scripts.py left M K T     > bundle    the same from node to node, each of which keeps
+                                      what it has, with T keys of each chunk put again
+    hostile_scripts.py kept K M N     > bundle    K nodes keep the same M/2 versions for a slot,
+                                      which N gets read
     hostile_scripts.py long_clocks M N > bundle   N hints of versions whose clocks have M/2 entries
     hostile_scripts.py long_keys N    > bundle    N keys of 64 bytes, each taken by two slots
-    hostile_scripts.py names N        > bundle    1,024 names that differ in their last bytes, named by N lines
-    hostile_scripts.py waits N        > bundle    a chunk that 1,016 keepers have something for, one of them down, asked for N times
+    hostile_scripts.py names N        > bundle    1,024 names that differ in their last bytes, named
+                                      by N lines
+    hostile_scripts.py waits N        > bundle    a chunk that 1,016 keepers have something for, one
+                                      of them down, asked for N times
 
-Each prints one bundle of ring, plan, certificate and script. Limits: 1,000,000 events, 1,024 writers and 64 MiB.
+Each prints one bundle of ring, plan, certificate and script. Limits: 1,000,000 events, 1,024
+writers and 64 MiB.
 """
 import hashlib
 import sys
-from collections.abc import Callable, Sequence
+from collections.abc import Callable
+
+from hostile_plans import ring, small
 
 # The lines of a ring, of a plan, of a certificate and of a script.
 Parts = tuple[list[str], list[str], list[str], list[str]]
 
 
-def ring(names: Sequence[str], partitions: int, rows: Callable[[int], Sequence[str]], quorum: str = "3 2 2") -> list[str]:
-    out = ["ring 1", "space %d" % partitions, "quorum " + quorum]
-    out += ["node %s 64 in" % name for name in names]
-    out += ["slots %d %s" % (p, " ".join(rows(p))) for p in range(partitions)]
-    return out + ["end"]
-
-
-def small() -> list[str]:
-    return ring("abcd", 1, lambda p: "abc")
-
-
 def in_conflict(m: int, value: str = "x") -> tuple[list[str], int, int]:
-    """The script that leaves m/2 versions in conflict at slot 0, and how many puts and gets it has."""
+    """The script that leaves m/2 versions in conflict at slot 0, and its puts and gets."""
     half = m // 2
     out = []
     for n in range(half):
@@ -78,7 +84,14 @@ def chained(m: int, n: int) -> Parts:
     out = []
     for k in range(n):
         knows = " seen %d" % (k - 1) if k else ""
-        out += ["put w%d k x%s" % (k % m, knows), "write %d 0" % k, "get k", "read %d 0" % k, "read %d 1" % k, "endget %d" % k]
+        out += [
+            "put w%d k x%s" % (k % m, knows),
+            "write %d 0" % k,
+            "get k",
+            "read %d 0" % k,
+            "read %d 1" % k,
+            "endget %d" % k,
+        ]
     return small(), [], [], out
 
 
@@ -86,7 +99,14 @@ def joins(m: int, g: int) -> Parts:
     out = []
     for k in range(m):
         slot, knows = k // (m // 2), " seen %d" % (k - 1) if k % (m // 2) else ""
-        out += ["put w%d k x%s" % (k, knows), "write %d %d" % (k, slot), "get k", "read %d %d" % (k, slot), "read %d 2" % k, "endget %d" % k]
+        out += [
+            "put w%d k x%s" % (k, knows),
+            "write %d %d" % (k, slot),
+            "get k",
+            "read %d %d" % (k, slot),
+            "read %d 2" % k,
+            "endget %d" % k,
+        ]
     for n in range(m, m + g):
         out += ["get k", "read %d 0" % n, "read %d 1" % n]
     return small(), [], [], out
@@ -103,7 +123,9 @@ def values(m: int, g: int) -> Parts:
 
 def wide(partitions: int) -> tuple[list[str], list[str]]:
     names = ["n%04d" % n for n in range(1024)]
-    return names, ring(names, partitions, lambda p: [names[(7 * p + i) % 1024] for i in range(7)], "7 4 4")
+    return names, ring(
+        names, partitions, lambda p: [names[(7 * p + i) % 1024] for i in range(7)], "7 4 4"
+    )
 
 
 def hints(n: int) -> Parts:
@@ -120,7 +142,9 @@ def hints(n: int) -> Parts:
 
 
 def scattered(n: int) -> Parts:
-    """A key of each partition in turn, kept by all nodes that own no slot of it, for each of its slots."""
+    """A key of each partition in turn, kept by all nodes that own no slot of it, for each of its
+    slots.
+    """
     names, text = wide(256)
     out: list[str] = []
     put, k = 0, 0
@@ -133,7 +157,12 @@ def scattered(n: int) -> Parts:
         seen.add(partition)
         owners = {(7 * partition + i) % 1024 for i in range(7)}
         out.append("put w0 key%d x" % (k - 1))
-        out += ["hint %d %d %s" % (put, i, names[m]) for m in range(1024) if m not in owners for i in range(7)][: n - len(out)]
+        out += [
+            "hint %d %d %s" % (put, i, names[m])
+            for m in range(1024)
+            if m not in owners
+            for i in range(7)
+        ][: n - len(out)]
         put += 1
     return text, [], [], out
 
@@ -153,15 +182,23 @@ def down(k: int, n: int) -> Parts:
     return text, [], [], out + ["read 0 0"] * n
 
 
-def moving(names: list[str], m: int, k: int, touch: list[str], drops: bool) -> tuple[list[str], list[str], list[str]]:
-    """K keys of a slot that moves M times along the names, with what a move's `touch` adds between its mirror and its copies."""
+def moving(
+    names: list[str], m: int, k: int, touch: list[str], drops: bool
+) -> tuple[list[str], list[str], list[str]]:
+    """K keys of a slot that moves M times along the names, with what a move's `touch` adds between
+    its mirror and its copies.
+    """
     plan: list[str] = []
     steps = 4 if drops else 3
     for move in range(m):
         old, new = names[move % len(names)], names[(move + 1) % len(names)]
         first = steps * move
         after = " after %d" % (first - 1) if move else ""
-        plan += ["mirror 0 0 %s%s" % (new, after), "copy 0 0 owner after %d" % first, "switch 0 0 after %d" % (first + 1)]
+        plan += [
+            "mirror 0 0 %s%s" % (new, after),
+            "copy 0 0 owner after %d" % first,
+            "switch 0 0 after %d" % (first + 1),
+        ]
         plan += ["drop 0 0 %s after %d" % (old, first + 2)] * drops
     copies = range(1, len(plan), steps)
     cert = ["fact " + " ".join(map(str, range(c, c + steps + 1))) for c in list(copies)[:-1]]
@@ -224,8 +261,11 @@ def long_clocks(m: int, n: int) -> Parts:
     out, puts, _ = in_conflict(m)
     out = [line for line in out if not line.startswith(("read", "endget"))]
     at = out.index("get k")
-    out[at + 1:at + 1] = ["read 0 %d" % i for i in range(4)] + ["endget 0"]
-    out += ["hint %d %d %s" % (m // 2 + (k // 1017) % (m - m // 2), k % 1017 % 7, names[7 + k % 1017]) for k in range(n)]
+    out[at + 1 : at + 1] = ["read 0 %d" % i for i in range(4)] + ["endget 0"]
+    out += [
+        "hint %d %d %s" % (m // 2 + (k // 1017) % (m - m // 2), k % 1017 % 7, names[7 + k % 1017])
+        for k in range(n)
+    ]
     return text, [], [], out
 
 
@@ -244,25 +284,48 @@ def names(n: int) -> Parts:
     return ring(nodes, 1, lambda p: nodes[:3]), [], [], out
 
 
-
 def waits(n: int) -> Parts:
     """A chunk that is refused since one of 1,017 keepers is down, tried N times."""
     names, text = wide(1)
     text = text[:-2] + ["slots 0 " + " ".join(names[:7]), "end"]
     plan = ["mirror 0 0 %s" % names[1023], "copy 0 0 slots 0 1 2 3 after 0", "switch 0 0 after 1"]
     cert = ["chain %s 1" % names[k] for k in (0, 1, 2, 3, 1023)]
-    out = ["put w0 k x"] + ["hint 0 1 %s" % names[m] for m in range(7, 1023)] + ["do 0", "down %s" % names[1022], "open 1"]
+    out = (
+        ["put w0 k x"]
+        + ["hint 0 1 %s" % names[m] for m in range(7, 1023)]
+        + ["do 0", "down %s" % names[1022], "open 1"]
+    )
     return text, plan, cert, out + ["chunk 1 %d" % (k % 16) for k in range(n)]
 
 
 ALL: tuple[Callable[..., Parts], ...] = (
-    reads, writes, seen, chained, joins, values, hints, scattered, keepers, down, keys, touched, left, kept, long_clocks, long_keys, names, waits)
+    reads,
+    writes,
+    seen,
+    chained,
+    joins,
+    values,
+    hints,
+    scattered,
+    keepers,
+    down,
+    keys,
+    touched,
+    left,
+    kept,
+    long_clocks,
+    long_keys,
+    names,
+    waits,
+)
 FAMILIES = {family.__name__: family for family in ALL}
 
 
 def bundle(name: str, *numbers: int) -> str:
     text, plan, cert, script = FAMILIES[name](*numbers)
-    lines = text + ["plan 1"] + plan + ["end", "cert 1"] + cert + ["end", "script 1"] + script + ["end"]
+    lines = (
+        text + ["plan 1"] + plan + ["end", "cert 1"] + cert + ["end", "script 1"] + script + ["end"]
+    )
     return "\n".join(lines) + "\n"
 
 

@@ -22,15 +22,16 @@ from dataclasses import dataclass, field
 from changes import Ring, Slot, Step, ask, place, read_steps, sections, to_a_ring, to_members
 
 TOP = pathlib.Path(__file__).resolve().parent.parent
-sys.path.insert(0, str(TOP / "python"))
-from ringplan.merging import Stop, merge  # noqa: E402
+from ringplan.merging import Stop, merge
 
 PAGE = TOP / "docs/JUDGING.md"
 # What the page says beside its table, and what the timestamps below do.
 RULES = (
     "An event that needs a node to be up also takes a shared lock on the node.",
-    "An entry's timestamp is 1 more than the greatest timestamp of all that it holds, and of the puts and"
-    " gets that it names.",
+    (
+        "An entry's timestamp is 1 more than the greatest timestamp of all that it holds, and of"
+        " the puts and gets that it names."
+    ),
     "Equal timestamps may come in any order.",
 )
 STEPS = ("join", "mirror", "switch", "drop", "retire")

@@ -1,12 +1,20 @@
 #!/usr/bin/env python3
-"""Judges a long history in parts by GNU parallel: trials/long.py [COUNT [WORKERS]]. It wants the program as it is built, and Debian's package `parallel`.
+"""Judges a long history in parts by GNU parallel: trials/long.py [COUNT [WORKERS]].
 
-It makes a history of COUNT entries, else 20,000, over 64 partitions: two nodes join a ring of twelve in the first half, one event of the plan after the other, while clients put and get. Each key is put about 16 times, by
-four writers, each of whom has read the last put. Now and then a node is down: what its slots miss is hinted, and handed off when it is back. Owed: `replay` says yes to the history of 200,000 entries, or of COUNT
-if that is less; the 64 parts of the whole are judged yes, by one worker and by WORKERS, else 4; each part is within the limits of `replay`. Then one entry in the middle is changed. Owed: of the entries at
-which parts are refused, counted in the whole by `part --map`, the first is the changed one, with 0.
+It wants the program as it is built, and Debian's package `parallel`.
 
-Memory is what all processes have at once, sampled ten times a second: the sum of their resident pages, so what they share is counted for each."""
+It makes a history of COUNT entries, else 20,000, over 64 partitions: two nodes join a ring of
+twelve in the first half, one event of the plan after the other, while clients put and get. Each key
+is put about 16 times, by four writers, each of whom has read the last put. Now and then a node is
+down: what its slots miss is hinted, and handed off when it is back. Owed: `replay` says yes to the
+history of 200,000 entries, or of COUNT if that is less; the 64 parts of the whole are judged yes,
+by one worker and by WORKERS, else 4; each part is within the limits of `replay`. Then one entry in
+the middle is changed. Owed: of the entries at which parts are refused, counted in the whole by
+`part --map`, the first is the changed one, with 0.
+
+Memory is what all processes have at once, sampled ten times a second: the sum of their resident
+pages, so what they share is counted for each.
+"""
 import contextlib
 import hashlib
 import os
@@ -47,20 +55,33 @@ class Maker:
         self.generations = [[0] * 3 for _ in self.rows]
         self.steps = read_steps(sections(bundle)[1])
         self.count, self.entries, self.rounds = count, 0, 0
-        # The node that is down, which stand-ins keep hints for which slots since, and after which entry the next outage comes.
+        # The node that is down, which stand-ins keep hints for which slots since, and after which
+        # entry the next outage comes.
         self.down, self.hints, self.calm = "", set[tuple[str, int, int]](), CALM // 2
         # How many entries each partition has of its own, and how many are of all.
         self.own, self.common = [0] * len(self.rows), 0
         bits = len(self.rows).bit_length() - 1
-        self.keys = [(name, int(hashlib.md5(name.encode()).hexdigest(), 16) >> (128 - bits)) for name in (f"k{number}" for number in range(max(64, count // ROUND // LIVES)))]
+        self.keys = [
+            (name, int(hashlib.md5(name.encode()).hexdigest(), 16) >> (128 - bits))
+            for name in (f"k{number}" for number in range(max(64, count // ROUND // LIVES)))
+        ]
         self.last = [-1] * len(self.keys)
         self.texts = [self.texts_of(partition) for partition in range(len(self.rows))]
 
     def texts_of(self, partition: int) -> list[str]:
-        """What a round in the partition looks like, one for each choice of slots to read: its numbers are the writer's, the key, what is seen, the put's and the get's."""
-        writes = "".join(f"write %(v)d {i} = ticket {partition} {i} {generation}\n" for i, generation in enumerate(self.generations[partition]))
+        """What a round in the partition looks like, one for each choice of slots to read: its
+        numbers are the writer's, the key, what is seen, the put's and the get's.
+        """
+        writes = "".join(
+            f"write %(v)d {i} = ticket {partition} {i} {generation}\n"
+            for i, generation in enumerate(self.generations[partition])
+        )
         reads = ("".join(f"read %(g)d {i} = found %(v)d\n" for i in slots) for slots in READS)
-        return [f"put w%(w)d %(k)s x%(s)s = put %(v)d\n{writes}ack %(v)d = ok\nget %(k)s = get %(g)d\n{read}endget %(g)d = reply %(v)d\n" for read in reads]
+        return [
+            f"put w%(w)d %(k)s x%(s)s = put %(v)d\n{writes}ack %(v)d = ok\nget %(k)s = get"
+            f" %(g)d\n{read}endget %(g)d = reply %(v)d\n"
+            for read in reads
+        ]
 
     def common_text(self, text: str) -> str:
         self.entries += 1
@@ -71,7 +92,11 @@ class Maker:
         """The events of the plan, one by one."""
         for number, ((kind, *words), _) in enumerate(self.steps):
             if kind == "copy":
-                for event in (f"open {number}", *(f"chunk {number} {chunk}" for chunk in range(16)), f"close {number}"):
+                for event in (
+                    f"open {number}",
+                    *(f"chunk {number} {chunk}" for chunk in range(16)),
+                    f"close {number}",
+                ):
                     yield self.common_text(event)
                 continue
             if kind == "join":
@@ -86,17 +111,34 @@ class Maker:
                 self.texts[partition] = self.texts_of(partition)
             yield self.common_text(f"do {number}")
 
+    def missed(self, partition: int) -> list[int]:
+        """The slots that the node that is down owns or mirrors."""
+        mirrors, owners = self.mirrors[partition], enumerate(self.rows[partition])
+        return [i for i, owner in owners if self.down in (owner, mirrors.get(i))]
+
+    def keeper(self, partition: int) -> str:
+        """A node that is up and serves no slot of the partition."""
+        serving = {*self.rows[partition], *self.mirrors[partition].values(), self.down}
+        return next(x for x in self.members if x not in serving)
+
     def round_text(self) -> str:
         """A put and a get of the next key. What a node that is down misses is hinted."""
         number = self.rounds % len(self.keys)
         key, partition = self.keys[number]
         seen, turn = self.last[number], self.rounds // len(self.keys)
-        words = {"w": (4 * number + turn % 4) % 1024, "k": key, "s": f" seen {seen}" if seen >= 0 else "", "v": self.rounds, "g": self.rounds}
-        missed = [i for i, owner in enumerate(self.rows[partition]) if self.down in (owner, self.mirrors[partition].get(i))] if self.down else []
-        reads = next(choice for choice in range(self.rounds % 3, self.rounds % 3 + 3) if not set(missed) & set(READS[choice % 3])) % 3
+        words = {
+            "w": (4 * number + turn % 4) % 1024,
+            "k": key,
+            "s": f" seen {seen}" if seen >= 0 else "",
+            "v": self.rounds,
+            "g": self.rounds,
+        }
+        missed = self.missed(partition) if self.down else []
+        choices = (turn % 3 for turn in range(self.rounds % 3, self.rounds % 3 + 3))
+        reads = next(it for it in choices if not set(missed) & set(READS[it]))
         text = self.texts[partition][reads] % words
         for i in missed:
-            keeper = next(x for x in self.members if x != self.down and x not in self.rows[partition] and x not in self.mirrors[partition].values())
+            keeper = self.keeper(partition)
             text = text.replace(f"write {self.rounds} {i} =", f"hint {self.rounds} {i} {keeper} =")
             self.hints.add((keeper, partition, i))
         self.last[number] = self.rounds
@@ -159,15 +201,28 @@ def memory_of(session: int) -> int:
     total = 0
     for name in os.listdir("/proc"):
         with contextlib.suppress(OSError, IndexError):
-            if name.isdigit() and int(pathlib.Path("/proc", name, "stat").read_text().rpartition(")")[2].split()[3]) == session:
-                total += int(pathlib.Path("/proc", name, "statm").read_text().split()[1]) * os.sysconf("SC_PAGESIZE")
+            if (
+                name.isdigit()
+                and int(
+                    pathlib.Path("/proc", name, "stat").read_text().rpartition(")")[2].split()[3]
+                )
+                == session
+            ):
+                total += int(
+                    pathlib.Path("/proc", name, "statm").read_text().split()[1]
+                ) * os.sysconf("SC_PAGESIZE")
     return total
 
 
 def judge(path: str, workers: int) -> list[str]:
     """The first line of each part's answer."""
     began, most, is_over = time.monotonic(), 0, threading.Event()
-    with subprocess.Popen(parallel(path, PARTS, "-j", str(workers)), stdout=subprocess.PIPE, text=True, start_new_session=True) as ran:
+    with subprocess.Popen(
+        parallel(path, PARTS, "-j", str(workers)),
+        stdout=subprocess.PIPE,
+        text=True,
+        start_new_session=True,
+    ) as ran:
 
         def sample() -> None:
             nonlocal most
@@ -179,14 +234,24 @@ def judge(path: str, workers: int) -> list[str]:
         answers = ran.communicate()[0].splitlines()
         is_over.set()
         sampler.join()
-    print(f"{PARTS} parts by {workers}: {answers.count('yes')} yes, {time.monotonic() - began:.1f} s, {most >> 20} MB at most", flush=True)
+    print(
+        (
+            f"{PARTS} parts by {workers}: {answers.count('yes')} yes,"
+            f" {time.monotonic() - began:.1f} s, {most >> 20} MB at most"
+        ),
+        flush=True,
+    )
     return answers
 
 
 def see_limits(path: str, maker: Maker) -> None:
     """The largest part is within the limits of a replay, and has as many entries as were made."""
     entries, part = max((own, part) for part, own in enumerate(maker.own))
-    text = subprocess.run([RUN, "part", "--of", str(PARTS), "--part", str(part), path], stdout=subprocess.PIPE, check=True).stdout
+    text = subprocess.run(
+        [RUN, "part", "--of", str(PARTS), "--part", str(part), path],
+        stdout=subprocess.PIPE,
+        check=True,
+    ).stdout
     found = text[text.index(b"history 1\n") :].count(b"\n") - 2
     print(f"the largest part has {found} entries and {len(text)} bytes", flush=True)
     if found != entries + maker.common or found > MOST_ENTRIES or len(text) > MOST_BYTES:
@@ -214,13 +279,22 @@ def change(path: str) -> int:
 def attempt(folder: str, count: int, workers: int) -> None:
     path = f"{folder}/long.bundle"
     make(path, min(count, ALONE))
-    answer = subprocess.run([RUN, "replay", path], stdout=subprocess.PIPE, text=True).stdout.split("\n")[0]
+    answer = subprocess.run([RUN, "replay", path], stdout=subprocess.PIPE, text=True).stdout.split(
+        "\n"
+    )[0]
     print(f"{min(count, ALONE)} entries at once: {answer}", flush=True)
     if answer != "yes":
         raise Wrong("the history is no run")
     began = time.monotonic()
     maker = make(path, count)
-    print(f"{count} entries made in {time.monotonic() - began:.1f} s, {os.path.getsize(path)} bytes, {maker.rounds} puts of {len(maker.keys)} keys, {maker.common} entries in each part", flush=True)
+    print(
+        (
+            f"{count} entries made in {time.monotonic() - began:.1f} s,"
+            f" {os.path.getsize(path)} bytes, {maker.rounds} puts of {len(maker.keys)} keys,"
+            f" {maker.common} entries in each part"
+        ),
+        flush=True,
+    )
     see_limits(path, maker)
     for some in (1, workers):
         if judge(path, some) != ["yes"] * PARTS:

@@ -1,20 +1,18 @@
-"""A right store in memory: it does what docs/STORES.md asks, one event at a time, and keeps its history.
+"""A right store in memory: it does what docs/STORES.md asks, one event at a time, and keeps its
+history.
 
-Each event's call does the event and writes its entry. If a guard of docs/FORMATS.md does not hold, the call returns
-False and nothing changes. Replies come from what the store has: no reply is asked of the program.
+Each event's call does the event and writes its entry. If a guard of docs/FORMATS.md does not hold,
+the call returns False and nothing changes. Replies come from what the store has: no reply is asked
+of the program.
 """
 
 import itertools
-import pathlib
-import sys
 from collections import defaultdict
 from collections.abc import Iterable, Sequence
 from dataclasses import dataclass, field
 
 from changes import Ring, Slot, Wrong, place
-
-sys.path.insert(0, str(pathlib.Path(__file__).resolve().parent.parent / "python"))
-from ringplan import texts  # noqa: E402
+from ringplan import texts
 
 CHUNKS = 16
 
@@ -39,7 +37,9 @@ class Get:
 
 @dataclass
 class Progress:
-    """How far a plan is: the numbers of its done steps and open copies, and the marked chunks of each copy."""
+    """How far a plan is: the numbers of its done steps and open copies, and the marked chunks of
+    each copy.
+    """
 
     done: set[int] = field(default_factory=set)
     open: set[int] = field(default_factory=set)
@@ -147,24 +147,39 @@ class Machine:
         return sorted(every - {u for v in every for u in self.puts[v].before})
 
     def holds(self, slot: Slot, v: int) -> bool:
-        """Whether the slot's owner or a keeper of its hints has the put, or one that succeeds it."""
+        """Whether the slot's owner or a keeper of its hints has the put or a successor."""
         hints = [self.hinted[it] for it in self.hints() if it[1] == slot]
         has = self.stored[self.table.owner[slot], slot].union(*hints)
         return any(u == v or v in self.puts[u].before for u in has)
 
     def lost(self) -> list[int]:
         """The acknowledged puts that some R slots of their partition do not have."""
-        rows = {v: [self.slot(put.key, i) for i in range(self.n)] for v, put in enumerate(self.puts) if put.is_acked}
-        return [v for v, row in rows.items() if sum(not self.holds(slot, v) for slot in row) >= self.r]
+        rows = {
+            v: [self.slot(put.key, i) for i in range(self.n)]
+            for v, put in enumerate(self.puts)
+            if put.is_acked
+        }
+        return [
+            v for v, row in rows.items() if sum(not self.holds(slot, v) for slot in row) >= self.r
+        ]
 
     # Puts.
     def start_put(self, writer: str, key: str, seen: Sequence[int] = ()) -> int:
         """Starts a put that knows what these gets replied, all ended and of its key."""
         known = {v for v in self.of_key(key) if self.puts[v].writer == writer}
         known |= {v for g in seen for v in self.gets[g].reply or ()}
-        self.puts.append(Put(writer, key, frozenset(known.union(*(self.puts[v].before for v in known)))))
+        self.puts.append(
+            Put(writer, key, frozenset(known.union(*(self.puts[v].before for v in known))))
+        )
         v = len(self.puts) - 1
-        self.note("put", writer, key, "x%02x" % (v % 256), *(["seen", *seen] if seen else []), reply="put %d" % v)
+        self.note(
+            "put",
+            writer,
+            key,
+            "x%02x" % (v % 256),
+            *(["seen", *seen] if seen else []),
+            reply="put %d" % v,
+        )
         return v
 
     def ticket(self, v: int, i: int) -> str:
@@ -207,7 +222,11 @@ class Machine:
         get, every = self.gets[g], self.of_key(self.gets[g].key)
         slot = self.slot(get.key, i)
         owner, keepers = self.table.owner[slot], self.keepers(slot, every)
-        if get.reply is not None or i in get.found or not self.reached.issuperset([owner, *keepers]):
+        if (
+            get.reply is not None
+            or i in get.found
+            or not self.reached.issuperset([owner, *keepers])
+        ):
             return False
         has = self.stored[owner, slot].union(*(self.hinted[x, slot] for x in keepers))
         get.found[i] = self.latest(has & every)
@@ -258,10 +277,16 @@ class Machine:
     # Steps.
     def steps_left(self, kind: str) -> list[texts.Step]:
         """The steps of this kind that are not done."""
-        return [step for k, step in enumerate(self.steps) if step.kind == kind and k not in self.progress.done]
+        return [
+            step
+            for k, step in enumerate(self.steps)
+            if step.kind == kind and k not in self.progress.done
+        ]
 
     def is_ready(self, step: int) -> bool:
-        return step not in self.progress.done and self.progress.done.issuperset(self.steps[step].after)
+        return step not in self.progress.done and self.progress.done.issuperset(
+            self.steps[step].after
+        )
 
     def may_do(self, step: texts.Step) -> bool:
         if step.kind in ("mirror", "drop") and step.node not in self.reached:
@@ -289,10 +314,15 @@ class Machine:
         return self.note("do", number)
 
     def sources(self, step: texts.Step) -> list[Slot]:
-        return [slot_of(step)] if step.slots is None else [(slot_of(step)[0], i) for i in step.slots]
+        return (
+            [slot_of(step)] if step.slots is None else [(slot_of(step)[0], i) for i in step.slots]
+        )
 
     def parties(self, step: texts.Step) -> list[str]:
-        return [*self.table.nodes(slot_of(step))[1:], *(self.table.owner[it] for it in self.sources(step))]
+        return [
+            *self.table.nodes(slot_of(step))[1:],
+            *(self.table.owner[it] for it in self.sources(step)),
+        ]
 
     def open_copy(self, number: int) -> bool:
         step = self.steps[number]
@@ -307,7 +337,9 @@ class Machine:
         step = self.steps[number]
         if number not in self.progress.open or c in self.progress.marks[number]:
             return False
-        of_chunk = {v for v, put in enumerate(self.puts) if place(put.key, self.bits + 4) % CHUNKS == c}
+        of_chunk = {
+            v for v, put in enumerate(self.puts) if place(put.key, self.bits + 4) % CHUNKS == c
+        }
         listed = [] if step.slots is None else self.sources(step)
         keepers = [(x, it) for it in listed for x in self.keepers(it, of_chunk)]
         if not self.reached.issuperset([*self.parties(step), *(x for x, _ in keepers)]):
@@ -335,9 +367,12 @@ class Machine:
 
     # Another plan.
     def go_over(self, steps: Sequence[texts.Step], entries: Sequence[str]) -> list[Slot]:
-        """Goes on by another plan. Of the history by that plan it heeds the steps; what the nodes have stays as it is.
+        """Goes on by another plan.
 
-        Returns the slots whose mirrors are taken back."""
+        Of the history by that plan it heeds the steps; what the nodes have stays as it is.
+
+        Returns the slots whose mirrors are taken back.
+        """
         table, progress = Table(self.ring), Progress()
         for entry in entries:
             event = entry.split(" = ")[0].split()
@@ -348,12 +383,17 @@ class Machine:
         for slot in gone:
             self.take_back(slot)
         if vars(table) != vars(self.table):
-            raise Wrong("by the new history other nodes are members, owners or mirrors than in the store")
+            raise Wrong(
+                "by the new history other nodes are members, owners or mirrors than in the store"
+            )
         self.steps, self.progress, self.entries = steps, progress, list(entries)
         return gone
 
     def take_back(self, slot: Slot) -> None:
-        """From now on the slot's writes go to its owner only. Its tickets are void, and its mirror forgets it."""
+        """From now on the slot's writes go to its owner only.
+
+        Its tickets are void, and its mirror forgets it.
+        """
         self.stale.add((self.table.mirror.pop(slot), slot))
         self.generation[slot] -= self.by_mirror.pop(slot)
         for put in self.puts:

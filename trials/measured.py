@@ -1,4 +1,8 @@
-"""Runs of the program, with what they take. A process is counted the memory of the one that it comes from, so a small one of its own starts each."""
+"""Runs of the program, with what they take.
+
+A process is counted the memory of the one that it comes from, so a small one of its own starts
+each.
+"""
 import os
 import subprocess
 import sys
@@ -10,14 +14,29 @@ RUN = os.path.join(TOP, "crates", "ringplan", "out", "ringplan")
 
 
 class Measured:
-    """The first bytes of the output and of standard error, the output's size, the exit status, the seconds by the clock and of processor time, and the most memory in bytes (that of the
-    process that starts it, some nine megabytes, at least)."""
+    """The first bytes of the output and of standard error, the output's size, the exit status, the
+    seconds by the clock and of processor time, and the most memory in bytes (that of the process
+    that starts it, some nine megabytes, at least).
+    """
 
-    def __init__(self, words: Sequence[str], bundle: bytes, limit: int = 120, program: str = RUN) -> None:
-        with tempfile.NamedTemporaryFile() as given, tempfile.NamedTemporaryFile() as out, tempfile.NamedTemporaryFile() as errors:
+    def __init__(
+        self, words: Sequence[str], bundle: bytes, limit: int = 120, program: str = RUN
+    ) -> None:
+        file = tempfile.NamedTemporaryFile
+        with file() as given, file() as out, file() as errors:
             given.write(bundle)
             given.flush()
-            starter = [sys.executable, "-S", os.path.abspath(__file__), given.name, out.name, errors.name, str(limit), program, *words]
+            starter = [
+                sys.executable,
+                "-S",
+                os.path.abspath(__file__),
+                given.name,
+                out.name,
+                errors.name,
+                str(limit),
+                program,
+                *words,
+            ]
             made = subprocess.run(starter, stdout=subprocess.PIPE, check=True).stdout.split()
             self.status, self.memory = int(made[0]), int(made[3])
             self.wall, self.seconds = float(made[1]), float(made[2])
@@ -41,7 +60,12 @@ def main(given: str, written: str, told: str, limit: str, *words: str) -> None:
         signal.signal(signal.SIGALRM, lambda *_: os.kill(process, signal.SIGKILL))
         signal.alarm(int(limit))
         _, status, used = os.wait4(process, 0)
-        print(os.waitstatus_to_exitcode(status), time.monotonic() - began, used.ru_utime + used.ru_stime, used.ru_maxrss * 1024)
+        print(
+            os.waitstatus_to_exitcode(status),
+            time.monotonic() - began,
+            used.ru_utime + used.ru_stime,
+            used.ru_maxrss * 1024,
+        )
 
 
 if __name__ == "__main__":

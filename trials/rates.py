@@ -1,8 +1,13 @@
 #!/usr/bin/env python3
-"""Measures the reference store and the runner: trials/rates.py [--servers KIND] [--space COUNT]. It needs the built program, and for the last figure `etcd`.
+"""Measures the reference store and the runner: trials/rates.py [--servers KIND] [--space COUNT].
 
-It prints the events a second of a store over five servers, with five clients and no faults; and what the runner adds to a step, with a board in a file and with one in etcd: the time of `apply` with
-one worker and hooks that do nothing, without its start, less the time of these hooks alone; and what the disk takes of that."""
+It needs the built program, and for the last figure `etcd`.
+
+It prints the events a second of a store over five servers, with five clients and no faults; and
+what the runner adds to a step, with a board in a file and with one in etcd: the time of `apply`
+with one worker and hooks that do nothing, without its start, less the time of these hooks alone;
+and what the disk takes of that.
+"""
 import argparse
 import contextlib
 import json
@@ -32,20 +37,44 @@ ENVIRONMENT = {**os.environ, "PYTHONPATH": str(TOP / "python")}
 def bundle_of(members: int, joiners: int, space: int) -> str:
     """A plan by which nodes join."""
     names = [f"n{number}" for number in range(members + joiners)]
-    lines = ["ring 1", f"space {space}", "quorum 3 2 2", *(f"node {name} 2 {'in' if number < members else 'out'}" for number, name in enumerate(names))]
-    lines += [f"slots {p} " + " ".join(names[(p + i) % members] for i in range(3)) for p in range(space)]
-    return programs.ask("goal", "\n".join([*lines, "end", "change 1", *(f"join {name}" for name in names[members:]), "end", ""])).text
+    rows = [[names[(p + i) % members] for i in range(3)] for p in range(space)]
+    ring = texts.Ring.of(names, set(names[:members]), rows, (3, 2, 2), 2)
+    change = texts.Change(tuple(names[members:]), ())
+    return programs.ask("goal", texts.write_texts([ring, change])).text
 
 
 def see_store(folder: pathlib.Path, servers: str) -> None:
     bundle, files = bundle_of(4, 1, 16), [folder / name for name in ("bundle", "steps", "out")]
     for path, text in zip(files, (bundle, programs.ask("steps", bundle).text)):
         path.write_text(text)
-    options = ["--faults", "0", "--deaths", "0", "--operations", "2000", "--pace", "0.2", "--servers", servers]
-    ran = subprocess.run([sys.executable, "-m", "ringplan.store", *map(str, files), *options], stdout=subprocess.PIPE, check=True, env=ENVIRONMENT)
+    options = [
+        "--faults",
+        "0",
+        "--deaths",
+        "0",
+        "--operations",
+        "2000",
+        "--pace",
+        "0.2",
+        "--servers",
+        servers,
+    ]
+    ran = subprocess.run(
+        [sys.executable, "-m", "ringplan.store", *map(str, files), *options],
+        stdout=subprocess.PIPE,
+        check=True,
+        env=ENVIRONMENT,
+    )
     counts = json.loads(ran.stdout)
     judged = programs.ask("replay", files[2].read_text()).first()
-    print(f"store over five servers of {servers}: {counts['entries'] / counts['seconds']:,.0f} events a second ({counts['entries']} in {counts['seconds']} s; the judge says {judged})", flush=True)
+    print(
+        (
+            f"store over five servers of {servers}:"
+            f" {counts['entries'] / counts['seconds']:,.0f} events a second ({counts['entries']} in"
+            f" {counts['seconds']} s; the judge says {judged})"
+        ),
+        flush=True,
+    )
 
 
 @contextlib.contextmanager
@@ -56,8 +85,22 @@ def etcd_of(folder: pathlib.Path) -> Iterator[str]:
         two.bind(("127.0.0.1", 0))
         port, peer = one.getsockname()[1], f"http://127.0.0.1:{two.getsockname()[1]}"
     client = f"http://127.0.0.1:{port}"
-    words = ["etcd", "--data-dir", str(folder / "data"), "--listen-client-urls", client, "--advertise-client-urls", client, "--listen-peer-urls", peer]
-    with subprocess.Popen([*words, "--initial-advertise-peer-urls", peer, "--initial-cluster", f"default={peer}"], stdout=subprocess.DEVNULL, stderr=subprocess.DEVNULL) as process:
+    words = [
+        "etcd",
+        "--data-dir",
+        str(folder / "data"),
+        "--listen-client-urls",
+        client,
+        "--advertise-client-urls",
+        client,
+        "--listen-peer-urls",
+        peer,
+    ]
+    with subprocess.Popen(
+        [*words, "--initial-advertise-peer-urls", peer, "--initial-cluster", f"default={peer}"],
+        stdout=subprocess.DEVNULL,
+        stderr=subprocess.DEVNULL,
+    ) as process:
         try:
             ready = gateway.Etcd(gateway.Access((f"127.0.0.1:{port}",)))
             ready.patience = 30.0
@@ -85,7 +128,9 @@ def sync_time(folder: pathlib.Path, count: int = 200) -> float:
         return (time.perf_counter() - begun) / count
 
 
-def see_runner(folder: pathlib.Path, kind: str, board: Board, bundle: str, hook: pathlib.Path) -> None:
+def see_runner(
+    folder: pathlib.Path, kind: str, board: Board, bundle: str, hook: pathlib.Path
+) -> None:
     steps = texts.read_steps(programs.ask("steps", bundle).text)
     board.begin(bundle, names_of(steps))
     runner = Runner(board, Hooks(str(hook.parent), str(folder / f"{kind}.hooks")), Options())
@@ -95,13 +140,30 @@ def see_runner(folder: pathlib.Path, kind: str, board: Board, bundle: str, hook:
         took = (time.perf_counter() - begun) / len(steps)
     board.end()
     alone = hook_time(hook, len(steps))
-    print(f"runner with a board in {kind}: {1000 * (took - alone):.2f} ms added to a step ({len(steps)} steps, {1000 * took:.2f} ms each, of which {1000 * alone:.2f} ms are the hook's)", flush=True)
+    print(
+        (
+            f"runner with a board in {kind}: {1000 * (took - alone):.2f} ms added to a step"
+            f" ({len(steps)} steps, {1000 * took:.2f} ms each, of which {1000 * alone:.2f} ms are"
+            " the hook's)"
+        ),
+        flush=True,
+    )
 
 
 def main() -> None:
     parser = argparse.ArgumentParser(prog="trials/rates.py")
-    parser.add_argument("--servers", choices=KINDS, action="append", help="the servers of the store (default: each kind)")
-    parser.add_argument("--space", type=int, default=256, help="the partitions of the runner's plan (default: %(default)s)")
+    parser.add_argument(
+        "--servers",
+        choices=KINDS,
+        action="append",
+        help="the servers of the store (default: each kind)",
+    )
+    parser.add_argument(
+        "--space",
+        type=int,
+        default=256,
+        help="the partitions of the runner's plan (default: %(default)s)",
+    )
     words = parser.parse_args()
     with tempfile.TemporaryDirectory() as name:
         folder = pathlib.Path(name)
@@ -118,7 +180,10 @@ def main() -> None:
         os.chdir(folder)
         with etcd_of(folder) as address:
             see_runner(folder, "etcd", EtcdBoard(address, is_new=True), bundle, hook)
-        print(f"a write that waits for the disk: {1000 * sync_time(folder):.2f} ms; a step waits for one with a board in a file")
+        print(
+            f"a write that waits for the disk: {1000 * sync_time(folder):.2f} ms; a step waits for"
+            " one with a board in a file"
+        )
 
 
 if __name__ == "__main__":

@@ -1,16 +1,24 @@
 #!/usr/bin/env python3
-"""Tries the scripts by which shells complete command lines, and the page of the manual: the script for bash in a bash, the page by groff. The other
-scripts are read by their shells, where these are installed. It wants the program as it is built."""
-import os, re, shutil, subprocess, sys, tempfile
+"""Tries the scripts by which shells complete command lines, and the page of the manual: the script
+for bash in a bash, the page by groff. The other scripts are read by their shells, where these are
+installed. It wants the program as it is built.
+"""
+import re
+import shutil
+import subprocess
+import sys
+import tempfile
 
-top = os.path.dirname(os.path.dirname(os.path.abspath(__file__)))
-RUN = f"{top}/crates/ringplan/out/ringplan"
+from measured import RUN
+
 faults: list[str] = []
 tried = 0
 
 
 def text_of(*words: str) -> str:
-    return subprocess.run([RUN, *words], stdin=subprocess.DEVNULL, stdout=subprocess.PIPE, timeout=60, check=True).stdout.decode()
+    return subprocess.run(
+        [RUN, *words], stdin=subprocess.DEVNULL, stdout=subprocess.PIPE, timeout=60, check=True
+    ).stdout.decode()
 
 
 def owes(what: str, is_met: bool, found: object) -> None:
@@ -22,16 +30,31 @@ def owes(what: str, is_met: bool, found: object) -> None:
 
 def completed(script: str, folder: str, *words: str) -> list[str]:
     """What bash offers for the last word."""
-    line = f". {script}; COMP_WORDS=(\"$@\"); COMP_CWORD=$(($# - 1)); _ringplan; printf '%s\\n' \"${{COMPREPLY[@]}}\""
-    ran = subprocess.run(["bash", "--norc", "-c", line, "bash", *words], stdout=subprocess.PIPE, stderr=subprocess.PIPE, timeout=60, cwd=folder)
+    line = (
+        f". {script}; COMP_WORDS=(\"$@\"); COMP_CWORD=$(($# - 1)); _ringplan; printf '%s\\n'"
+        ' "${COMPREPLY[@]}"'
+    )
+    ran = subprocess.run(
+        ["bash", "--norc", "-c", line, "bash", *words],
+        stdout=subprocess.PIPE,
+        stderr=subprocess.PIPE,
+        timeout=60,
+        cwd=folder,
+    )
     owes(f"bash on {words}", not ran.stderr, ran.stderr)
     return ran.stdout.decode().split("\n")[:-1]
 
 
 def commands() -> dict[str, list[str]]:
     """Each command with its options, by the help that the program prints."""
-    names = re.findall(r"^  (\w+)  ", text_of("--help").split("Commands:\n")[1].split("\n\n")[0], re.M)
-    return {name: re.findall(r"^ +(?:-\w, )?(--[a-z-]+)", text_of(name, "-h"), re.M) for name in names if name != "help"}
+    names = re.findall(
+        r"^  (\w+)  ", text_of("--help").split("Commands:\n")[1].split("\n\n")[0], re.M
+    )
+    return {
+        name: re.findall(r"^ +(?:-\w, )?(--[a-z-]+)", text_of(name, "-h"), re.M)
+        for name in names
+        if name != "help"
+    }
 
 
 def bash(known: dict[str, list[str]], folder: str) -> None:
@@ -39,8 +62,17 @@ def bash(known: dict[str, list[str]], folder: str) -> None:
     text_of("completions", "bash", "-o", script)
     for name in ("a file", "a.bundle"):
         open(f"{folder}/{name}", "w").close()
-    cases = {("go",): ["goal"], ("goal", "--de"): ["--dead"], ("goal", "a"): ["a file", "a.bundle"], ("goal", "--dead", ""): [""], ("plan", "-o", "a."): ["a.bundle"],
-             ("completions", "z"): ["zsh"], ("man", "a"): [""], ("help", "wi"): ["windows"], ("check", "--workers", "4", "a."): ["a.bundle"]}
+    cases = {
+        ("go",): ["goal"],
+        ("goal", "--de"): ["--dead"],
+        ("goal", "a"): ["a file", "a.bundle"],
+        ("goal", "--dead", ""): [""],
+        ("plan", "-o", "a."): ["a.bundle"],
+        ("completions", "z"): ["zsh"],
+        ("man", "a"): [""],
+        ("help", "wi"): ["windows"],
+        ("check", "--workers", "4", "a."): ["a.bundle"],
+    }
     for words, wanted in cases.items():
         found = completed(script, folder, "ringplan", *words)
         owes(f"bash on {words}", sorted(found) == wanted, found)
@@ -57,10 +89,16 @@ def others(known: dict[str, list[str]], folder: str) -> None:
         with open(script) as it:
             text = it.read()
         for name, options in known.items():
-            there = [option for option in options if (option if shell == "zsh" else f"-l {option[2:]} ") in text]
+            there = [
+                option
+                for option in options
+                if (option if shell == "zsh" else f"-l {option[2:]} ") in text
+            ]
             owes(f"{shell} on {name}", name in text and there == options, there)
         if shutil.which(shell):
-            ran = subprocess.run([shell, "-n", script], stdout=subprocess.PIPE, stderr=subprocess.STDOUT, timeout=60)
+            ran = subprocess.run(
+                [shell, "-n", script], stdout=subprocess.PIPE, stderr=subprocess.STDOUT, timeout=60
+            )
             owes(shell, ran.returncode == 0 and not ran.stdout, ran.stdout)
         else:
             print(f"shells: {shell} is not tried, as it is not installed")
@@ -69,10 +107,20 @@ def others(known: dict[str, list[str]], folder: str) -> None:
 def manual(known: dict[str, list[str]], folder: str) -> None:
     page = f"{folder}/ringplan.1"
     text_of("man", "-o", page)
-    ran = subprocess.run(["groff", "-man", "-Tascii", "-P-cbou", "-rLL=20000n", "-ww", page], stdout=subprocess.PIPE, stderr=subprocess.PIPE, timeout=60)
+    ran = subprocess.run(
+        ["groff", "-man", "-Tascii", "-P-cbou", "-rLL=20000n", "-ww", page],
+        stdout=subprocess.PIPE,
+        stderr=subprocess.PIPE,
+        timeout=60,
+    )
     owes("groff", ran.returncode == 0 and not ran.stderr, ran.stderr)
     shown = ran.stdout.decode()
-    owes("the headings", re.findall(r"^[A-Z]+[A-Z ]+$", shown, re.M) == ["NAME", "SYNOPSIS", "DESCRIPTION", "COMMANDS", "EXIT STATUS"], shown)
+    owes(
+        "the headings",
+        re.findall(r"^[A-Z]+[A-Z ]+$", shown, re.M)
+        == ["NAME", "SYNOPSIS", "DESCRIPTION", "COMMANDS", "EXIT STATUS"],
+        shown,
+    )
     parts = re.split(r"^   (\w+)$", shown, flags=re.M)
     owes("the commands", parts[1::2] == list(known), parts[1::2])
     for name, part in zip(parts[1::2], parts[2::2]):
@@ -83,8 +131,18 @@ def manual(known: dict[str, list[str]], folder: str) -> None:
 
 def refusals() -> None:
     for words in (["completions"], ["completions", "tcsh"], ["man", "page"]):
-        ran = subprocess.run([RUN, *words], stdin=subprocess.DEVNULL, stdout=subprocess.PIPE, stderr=subprocess.PIPE, timeout=60)
-        owes(f"{words}", ran.returncode == 2 and not ran.stdout and ran.stderr.startswith(b"error: "), ran)
+        ran = subprocess.run(
+            [RUN, *words],
+            stdin=subprocess.DEVNULL,
+            stdout=subprocess.PIPE,
+            stderr=subprocess.PIPE,
+            timeout=60,
+        )
+        owes(
+            f"{words}",
+            ran.returncode == 2 and not ran.stdout and ran.stderr.startswith(b"error: "),
+            ran,
+        )
 
 
 known = commands()

@@ -1,24 +1,30 @@
 #!/usr/bin/env python3
-"""How even by sizes the rings are that `ringplan goal --layout` makes. It wants the program as it is built. `trials/sizes.py` tries 40 random changes, and with `--all` 500: of 8 to 128
-partitions, whose sizes are all 1, or 0 for a quarter, or 50 to 150, or log-normal, or as 1/k; and 192 ranges that are filled up to 256 by rows without keys.
+"""How even by sizes the rings are that `ringplan goal --layout` makes.
 
-Of 200 of the plans, or all of fewer, `show --layout` is compared with a count of its own: what moves in all, by node and by round, the most that copies have of which each waits for the one
+It wants the program as it is built. `trials/sizes.py` tries 40 random changes, and with `--all`
+500: of 8 to 128 partitions, whose sizes are all 1, or 0 for a quarter, or 50 to 150, or log-normal,
+or as 1/k; and 192 ranges that are filled up to 256 by rows without keys.
+
+Of 200 of the plans, or all of fewer, `show --layout` is compared with a count of its own: what
+moves in all, by node and by round, the most that copies have of which each waits for the one
 before, and when the plan ends at the earliest.
 
-A ring is wrong where a slot has a new owner that is no leaver's and does not go, with keys, to a joiner that stores no more than its share; where a partition has more pairs of slots in
-one rack than before; and where the checker refuses the plan. The trial is wrong where more than one change of 500 has a joiner farther from its share than the largest size."""
+A ring is wrong where a slot has a new owner that is no leaver's and does not go, with keys, to a
+joiner that stores no more than its share; where a partition has more pairs of slots in one rack
+than before; and where the checker refuses the plan. The trial is wrong where more than one change
+of 500 has a joiner farther from its share than the largest size.
+"""
 import json
-import os
 import random
 import re
-import subprocess
 import sys
 import tempfile
 from collections import Counter
 from dataclasses import dataclass
 from itertools import combinations
 
-from wishes import RUN
+from changes import made, owners, steps_of
+from ringplan import texts
 
 # How many plans are shown at most.
 SHOWN = 200
@@ -42,16 +48,17 @@ class Case:
         return [v for v in self.names if v in self.members and v not in self.leaves] + self.joins
 
     def share(self, node: str) -> float:
-        """The node's part by weight of all that is stored, with at most one slot of each partition."""
+        """The node's part by weight of all that is stored: at most one slot of each partition."""
         whole = sum(self.weights.get(v, 1) for v in self.after())
-        return min(sum(self.sizes) * len(self.rows[0]) * self.weights.get(node, 1) / whole, sum(self.sizes))
+        return min(
+            sum(self.sizes) * len(self.rows[0]) * self.weights.get(node, 1) / whole, sum(self.sizes)
+        )
 
     def bundle(self) -> str:
         n = len(self.rows[0])
-        lines = ["ring 2", "space %d" % len(self.rows), "quorum %d %d %d" % (n, n // 2 + 1, n // 2 + 1)]
-        lines += ["node %s 2 %s" % (v, "in" if v in self.members else "out") for v in self.names]
-        lines += ["slots %d %s" % (p, " ".join(row)) for p, row in enumerate(self.rows)] + ["end", "change 1"]
-        return "\n".join(lines + ["join " + v for v in self.joins] + ["leave " + v for v in self.leaves] + ["end", ""])
+        quorum = (n, n // 2 + 1, n // 2 + 1)
+        ring = texts.Ring.of(self.names, self.members, self.rows, quorum, 2, form=2)
+        return texts.write_texts([ring, texts.Change(tuple(self.joins), tuple(self.leaves))])
 
 
 def rack(node: str) -> str:
@@ -73,7 +80,11 @@ def sizes_of(kind: str, count: int, pick: random.Random) -> list[int]:
 def drawn(number: int) -> Case:
     """The random change of that number."""
     pick = random.Random(number)
-    q, n, racks = pick.choice([8, 16, 32, 64, 128]), pick.choice([2, 3, 3, 5]), pick.choice([0, 0, 3, 5])
+    q, n, racks = (
+        pick.choice([8, 16, 32, 64, 128]),
+        pick.choice([2, 3, 3, 5]),
+        pick.choice([0, 0, 3, 5]),
+    )
     racks = max(racks, n) if racks else 0
     count, fresh = pick.randrange(max(n, racks) + 2, 18), pick.randrange(1, 4)
     names = ["n%02d.r%d" % (v, v % racks if racks else v) for v in range(count + fresh)]
@@ -83,19 +94,24 @@ def drawn(number: int) -> Case:
         row: list[str] = []
         for _ in range(n):
             free = [v for v in members if v not in row and rack(v) not in map(rack, row)]
-            row.append(pick.choice(free) if pick.random() < 0.3 else min(free, key=lambda v: (load[v], pick.random())))
+            row.append(
+                pick.choice(free)
+                if pick.random() < 0.3
+                else min(free, key=lambda v: (load[v], pick.random()))
+            )
             load[row[-1]] += 1
         rows.append(row)
     leaves = pick.sample(members, pick.choice([0, 0, 1]) if count > n + 1 else 0)
     weights = {v: pick.randrange(1, 4) for v in names} if pick.random() < 0.3 else {}
-    return Case(names, set(members), rows, names[count:], leaves, sizes_of(KINDS[number % 5], q, pick), weights)
-
-
-def run(words: list[str], text: str) -> str:
-    ran = subprocess.run([RUN, *words], input=text, capture_output=True, text=True, timeout=120)
-    if ran.returncode:
-        raise SystemExit("%s: %s" % (" ".join(words), (ran.stdout + ran.stderr)[:300]))
-    return ran.stdout
+    return Case(
+        names,
+        set(members),
+        rows,
+        names[count:],
+        leaves,
+        sizes_of(KINDS[number % 5], q, pick),
+        weights,
+    )
 
 
 def by_sizes(case: Case, words: list[str], text: str) -> str:
@@ -106,15 +122,15 @@ def by_sizes(case: Case, words: list[str], text: str) -> str:
         file.writelines("weight %s %d\n" % (v, weight) for v, weight in case.weights.items())
         file.write("end\n")
         file.flush()
-        return run([*words, "--layout", file.name], text)
+        return made([*words, "--layout", file.name], text)
 
 
 def planned(case: Case) -> tuple[str, list[list[str]]]:
     """The plan by sizes, which the checker accepts, and the owners after it."""
     plan = by_sizes(case, ["goal", "--racks-behind", "."], case.bundle())
-    if run(["check"], plan) != "yes\n":
+    if made(["check"], plan) != "yes\n":
         raise SystemExit("the checker refuses a plan by sizes")
-    return plan, [line.split()[2:] for line in run(["after"], plan).splitlines() if line.startswith("slots")]
+    return plan, owners(made(["after"], plan))
 
 
 @dataclass
@@ -135,8 +151,7 @@ def moved(case: Case, plan: str) -> Moved:
     it = Moved(0, Counter(), Counter(), [], 0)
     rounds: list[int] = []
     sums: list[int] = []
-    for line in plan.split("plan 1\n")[1].split("end\n")[0].splitlines():
-        fields, waits = line.split(" after ")[0].split(), [int(k) for k in line.split(" after ")[1:] for k in k.split()]
+    for fields, waits in steps_of(plan):
         rounds.append(max((rounds[k] for k in waits), default=0))
         sums.append(max((sums[k] for k in waits), default=0))
         if fields[0] not in ("mirror", "copy", "switch"):
@@ -154,7 +169,11 @@ def moved(case: Case, plan: str) -> Moved:
             sums[-1] += size
             it.rounds += [0] * (rounds[-1] - len(it.rounds))
             it.rounds[rounds[-1] - 1] += size
-            for v in {owner[slot[0], int(i)] for i in fields[4:]} if fields[3] == "slots" else {owner[slot]}:
+            for v in (
+                {owner[slot[0], int(i)] for i in fields[4:]}
+                if fields[3] == "slots"
+                else {owner[slot]}
+            ):
                 it.gives[v] += size
     it.longest = max(sums, default=0)
     return it
@@ -175,17 +194,28 @@ def shown_wrong(case: Case, plan: str, rate: int) -> str:
     words = ["--all", "--rate", str(rate)]
     found = json.loads(by_sizes(case, ["show", "--format", "json", *words], plan))
     end = -(-it.longest // rate)
-    owed = {"moves_size": it.whole, "rounds_size": it.rounds, "longest_size": it.longest, "earliest_end": end}
-    if {key: found[key] for key in owed} != owed:
-        return "show states %s in place of %s" % ({key: found[key] for key in owed}, owed)
+    owed = {
+        "moves_size": it.whole,
+        "rounds_size": it.rounds,
+        "longest_size": it.longest,
+        "earliest_end": end,
+    }
+    stated = {key: found[key] for key in owed}
+    if stated != owed:
+        return "show states %s in place of %s" % (stated, owed)
     for node in found["nodes"]:
-        if (node["gives_size"], node["takes_size"]) != (it.gives[node["name"]], it.takes[node["name"]]):
+        counted = (it.gives[node["name"]], it.takes[node["name"]])
+        if (node["gives_size"], node["takes_size"]) != counted:
             return "show states %s" % node
     text = by_sizes(case, ["show", *words], plan)
-    line = "sizes %d in all; copies that wait for one another have up to %d, so at %d a second the plan ends in %s at the earliest" % (it.whole, it.longest, rate, time_words(end))
+    line = (
+        "sizes %d in all; copies that wait for one another have up to %d, so at %d a second the"
+        " plan ends in %s at the earliest" % (it.whole, it.longest, rate, time_words(end))
+    )
     if line not in re.sub(r"\s+", " ", text):
         return "show says otherwise than: " + line
-    rows = {fields[1]: fields[at - 3 : at - 1] for fields in map(str.split, text.splitlines()) if "->" in fields for at in [fields.index("->")]}
+    moves = [fields for fields in map(str.split, text.splitlines()) if "->" in fields]
+    rows = {it[1]: it[it.index("->") - 3 : it.index("->") - 1] for it in moves}
     for v, sizes in rows.items():
         if [int(size.replace(".", "0")) for size in sizes] != [it.gives[v], it.takes[v]]:
             return "show says that %s gives and takes %s" % (v, sizes)
@@ -221,7 +251,11 @@ def fault(case: Case, rows: list[list[str]]) -> str:
         if has_racks and case.sizes[p] and pairs(new) > pairs(old):
             return "partition %d has more slots in one rack" % p
         for x, y in zip(old, new):
-            is_fair = y in case.joins and case.sizes[p] > 0 and loads[y] * whole <= total * case.weights.get(y, 1)
+            is_fair = (
+                y in case.joins
+                and case.sizes[p] > 0
+                and loads[y] * whole <= total * case.weights.get(y, 1)
+            )
             if x != y and x not in case.leaves and not is_fair:
                 return "a slot of partition %d goes from %s to %s" % (p, x, y)
     return ""
@@ -234,13 +268,17 @@ def distance(case: Case, rows: list[list[str]]) -> float:
 
 
 def is_forced(case: Case) -> bool:
-    """Whether racks decide a joiner's load: there are as many as slots, and a leaver's slots stay in its rack."""
+    """Whether racks decide a joiner's load: there are as many as slots, and a leaver's slots stay
+    in its rack.
+    """
     has_few = len(set(map(rack, case.names))) == len(case.rows[0])
     return has_few and any(rack(v) in map(rack, case.joins) for v in case.leaves)
 
 
 def table() -> Case:
-    """192 ranges of 12 nodes with 16 tokens in three racks, filled up to 256 by rows without keys; three nodes join."""
+    """192 ranges of 12 nodes with 16 tokens in three racks, filled up to 256 by rows without keys;
+    three nodes join.
+    """
     pick = random.Random(3)
     names = ["n%02d.r%d" % (v + 1, v % 3 + 1) for v in range(15)]
     tokens = [v for v in names[:12] for _ in range(16)]
@@ -253,14 +291,19 @@ def table() -> Case:
             if len(row) < 3 and rack(v) not in map(rack, row):
                 row.append(v)
         rows.append(row)
-    return Case(names, set(names[:12]), rows + [rows[0]] * 64, names[12:], [], [1] * 192 + [0] * 64, {})
+    return Case(
+        names, set(names[:12]), rows + [rows[0]] * 64, names[12:], [], [1] * 192 + [0] * 64, {}
+    )
 
 
 def tell_table() -> bool:
     case = table()
     _, rows = planned(case)
     before, after = loads_of(case, case.rows), loads_of(case, rows)
-    print("192 ranges filled up to 256, ranges before and after: " + ", ".join("%s %d %d" % (v[:3], before[v], after[v]) for v in case.names))
+    print(
+        "192 ranges filled up to 256, ranges before and after: "
+        + ", ".join("%s %d %d" % (v[:3], before[v], after[v]) for v in case.names)
+    )
     wrong = fault(case, rows)
     if not wrong and distance(case, rows) > 1:
         wrong = "a joiner is farther than one range from its share"
@@ -288,11 +331,12 @@ def main() -> int:
         far += distance(case, rows) > 1
         worst = max(worst, distance(case, rows))
     print("%d plans shown" % min(count, SHOWN))
-    print("%d random changes: %d with a joiner farther than the largest size from its share, the worst %.2f; %d not counted, whose racks decide" % (count, far, worst, forced))
+    print(
+        "%d random changes: %d with a joiner farther than the largest size from its share, the"
+        " worst %.2f; %d not counted, whose racks decide" % (count, far, worst, forced)
+    )
     return 0 if good and far <= 1 else 1
 
 
 if __name__ == "__main__":
-    if not os.path.exists(RUN):
-        raise SystemExit("the program is not built: %s" % RUN)
     sys.exit(main())

@@ -1,14 +1,23 @@
 #!/usr/bin/env python3
-"""Runs the reference store of python/ringplan/store under traffic and faults, and has its histories judged by `ringplan replay`, and by `ringplan watch` while they happen.
+"""Runs the reference store of python/ringplan/store under traffic and faults.
 
-    trials/store.py [COUNT] [--first SEED] [--servers KIND] [--jobs J]    COUNT right runs, else 4, and then each broken store
-    trials/store.py --break [NAME..] [--servers KIND] [--jobs J]          these broken stores alone, or all of them
+`ringplan replay` judges its histories, and `ringplan watch` does so while they happen.
 
-Right runs: a seed gives 5 to 12 servers, 16 to 64 partitions, and a change: nodes join, leave or are replaced, also around nodes that are dead before the plan or die in its middle, and with lost stores. Servers are killed by signal 9. Workers
-of every other run are threads that die in the middle of copies; in the others `ringplan-run` goes through the plan by hooks, and is killed by signal 9 and started again. Owed: the judge says yes to
-the store's history and to the runner's; all steps are done; the judge's `slots` lines are the store's owners; each acknowledged put is held at more slots than a read may miss, and a get replies it
-or a successor. Broken stores: the judge must refuse each within ten seeds, but for those of UNSURE. A seed does not fix a run, since threads run freely. It needs the built program, and for COUNT from 3 on redis and
-PostgreSQL."""
+    trials/store.py [COUNT] [--first SEED] [--servers KIND] [--jobs J]
+        COUNT right runs, or 4 without a number, and then each broken store
+    trials/store.py --break [NAME..] [--servers KIND] [--jobs J]
+        only these broken stores, or all of them
+
+Right runs: a seed gives 5 to 12 servers, 16 to 64 partitions, and a change: nodes join, leave or
+are replaced, also around nodes that are dead before the plan or die in its middle, and with lost
+stores. Servers are killed by signal 9. Workers of every other run are threads that die in the
+middle of copies; in the others `ringplan-run` goes through the plan by hooks, and is killed by
+signal 9 and started again. Owed: the judge says yes to the store's history and to the runner's; all
+steps are done; the judge's `slots` lines are the store's owners; each acknowledged put is held at
+more slots than a read may miss, and a get replies it or a successor. Broken stores: the judge must
+refuse each within ten seeds, but for those of UNSURE. A seed does not fix a run, since threads run
+freely. It needs the built program, and for COUNT from 3 on redis and PostgreSQL.
+"""
 import argparse
 import concurrent.futures
 import contextlib
@@ -43,7 +52,8 @@ from ringplan.store.versions import Contents, is_at_most
 
 ENVIRONMENT = {**os.environ, "PYTHONPATH": str(TOP / "python")}
 NOT_NOW, LATE = 75, 76
-# How long a right run may take, and how long its plan, in seconds: far more than they take on two slow processors.
+# How long a right run may take, and how long its plan, in seconds: far more than they take on two
+# slow processors.
 ENDS, LIMIT = 900, 600.0
 # Asks the store for a step, and ends with the status that it answers.
 HOOK = """#!/usr/bin/python3 -ISE
@@ -55,24 +65,36 @@ sys.exit(int(link.makefile().readline() or 1))
 """
 
 
-def ring_text(name: str, members: int, joiners: int, space: int, change: list[str], allowance: int = 2, quorum: str = "3 2 2", form: int = 1) -> str:
+def ring_text(
+    name: str,
+    members: int,
+    joiners: int,
+    space: int,
+    change: list[str],
+    allowance: int = 2,
+    quorum: str = "3 2 2",
+    form: int = 1,
+) -> str:
     """A ring with even owners, and a change of it."""
     draw, slots = random.Random(name), int(quorum.split()[0])
     names = [f"n{number}" for number in range(members + joiners)]
     owned = dict.fromkeys(names[:members], 0)
-    lines = [f"ring {form}", f"space {space}", f"quorum {quorum}"]
-    lines += [f"node {node} {allowance} {'in' if number < members else 'out'}" for number, node in enumerate(names)]
-    for partition in range(space):
+    rows = list[list[str]]()
+    for _ in range(space):
         row = sorted(owned, key=lambda node: (owned[node], draw.random()))[:slots]
         owned.update((node, owned[node] + 1) for node in row)
         draw.shuffle(row)
-        lines.append(f"slots {partition} " + " ".join(row))
-    return "\n".join([*lines, "end", "change 1", *change, "end"]) + "\n"
+        rows.append(row)
+    numbers = map(int, quorum.split())
+    ring = texts.Ring.of(names, set(names[:members]), rows, numbers, allowance, form)
+    return texts.write_texts([ring]) + "\n".join(["change 1", *change, "end"]) + "\n"
 
 
 class Case(NamedTuple):
-    """A right run: its ring with a change, the load, the nodes that are dead for good, the kind of servers, the hooks by which the runner does copies; empty where threads do the plan; and whether
-    a node dies for good in the middle."""
+    """A right run: its ring with a change, the load, the nodes that are dead for good, the kind of
+    servers, the hooks by which the runner does copies; empty where threads do the plan; and whether
+    a node dies for good in the middle.
+    """
 
     what: str
     ring: str
@@ -84,27 +106,48 @@ class Case(NamedTuple):
 
 
 def case_of(seed: int, servers: str) -> Case:
-    draw, kind = random.Random(f"case {seed}"), ("join", "replace", "leave", "dead", "losses", "many")[seed % 6]
+    kind = ("join", "replace", "leave", "dead", "losses", "many")[seed % 6]
+    draw = random.Random(f"case {seed}")
     joiners = {"join": draw.randrange(1, 3), "leave": 0, "many": 3}.get(kind, 1)
     leavers = {"join": 0, "losses": 0, "many": draw.randrange(1, 3)}.get(kind, 1)
     dies = kind in ("join", "leave", "losses") and seed % 12 >= 6
-    # Where a node dies, chunks shall have keys: few partitions.
-    members, space = draw.randrange(max(5, 4 + leavers), 13 - joiners), 16 if seed % 4 == 3 else draw.choice((8, 16) if dies else (16, 32, 64))
+    members = draw.randrange(max(5, 4 + leavers), 13 - joiners)
+    # A node that dies needs chunks with keys, so few partitions.
+    space = 16 if seed % 4 == 3 else draw.choice((8, 16) if dies else (16, 32, 64))
     left = draw.sample([f"n{number}" for number in range(members)], leavers)
-    change = [f"join n{members + number}" for number in range(joiners)] + [f"leave {node}" for node in left]
+    change = [f"join n{members + number}" for number in range(joiners)]
+    change += [f"leave {node}" for node in left]
     quorum, form = ("3 2 3 1", 3) if kind == "losses" else ("3 2 2", 1)
-    ring = ring_text(f"case {seed}", members, joiners, space, change, draw.randrange(2, 5), quorum, form)
-    load = Load(seed, draw.randrange(3, 6), draw.randrange(30, 80), draw.randrange(40, 120), draw.randrange(2, 5), limit=LIMIT, loses=kind == "losses")
-    load.faults, load.outage, load.pace, load.handoffs = draw.uniform(0.2, 0.6), draw.uniform(0.1, 0.5), draw.uniform(0.01, 0.05), draw.choice((0.1, 0.5))
+    allowance = draw.randrange(2, 5)
+    ring = ring_text(f"case {seed}", members, joiners, space, change, allowance, quorum, form)
     chosen, hooks = servers or KINDS[seed // 2 % 3], ("", "copy", "", "chunk")[seed % 4]
-    if hooks:
+    load = load_of(seed, draw, kind == "losses", bool(hooks))
+    load.halves = 0.2 if dies else 0.0
+    what = (
+        f"{kind}{', a node dies' if dies else ''}, {members + joiners} servers of {chosen},"
+        f" {space} partitions, by {'ringplan-run' if hooks else 'threads'}"
+    )
+    return Case(what, ring, load, tuple(left if kind == "dead" else ()), chosen, hooks, dies)
+
+
+def load_of(seed: int, draw: random.Random, loses: bool, has_hooks: bool) -> Load:
+    load = Load(
+        seed,
+        draw.randrange(3, 6),
+        draw.randrange(30, 80),
+        draw.randrange(40, 120),
+        draw.randrange(2, 5),
+        limit=LIMIT,
+        loses=loses,
+    )
+    load.faults, load.outage = draw.uniform(0.2, 0.6), draw.uniform(0.1, 0.5)
+    load.pace, load.handoffs = draw.uniform(0.01, 0.05), draw.choice((0.1, 0.5))
+    if has_hooks:
         # A copy by hooks takes longer, and must find its nodes up.
         load.faults *= 2
     else:
         load.faults, load.pace = load.faults / 2, 4 * load.pace
-    load.halves = 0.2 if dies else 0.0
-    what = f"{kind}{', a node dies' if dies else ''}, {members + joiners} servers of {chosen}, {space} partitions, by {'ringplan-run' if hooks else 'threads'}"
-    return Case(what, ring, load, tuple(left if kind == "dead" else ()), chosen, hooks, dies)
+    return load
 
 
 class Desk(socketserver.ThreadingMixIn, socketserver.UnixStreamServer):
@@ -125,15 +168,28 @@ class Desk(socketserver.ThreadingMixIn, socketserver.UnixStreamServer):
 def children(process: int) -> list[int]:
     """The processes that a process has started, by any of its threads."""
     with contextlib.suppress(OSError):
-        return [int(word) for path in pathlib.Path(f"/proc/{process}/task").glob("*/children") for word in path.read_text().split()]
+        return [
+            int(word)
+            for path in pathlib.Path(f"/proc/{process}/task").glob("*/children")
+            for word in path.read_text().split()
+        ]
     return []
 
 
 class ByRunner(Executor):
-    """A plan that `ringplan-run` goes through by hooks, which ask the store. The runner is killed by signal 9, and every other time its hooks too, and is started again."""
+    """A plan that `ringplan-run` goes through by hooks, which ask the store.
+
+    The runner is killed by signal 9, and every other time its hooks too, and is started again.
+    """
 
     def prepare(self, folder: pathlib.Path, bundle: str, hooks: str, workers: int) -> None:
-        self.folder, self.workers, self.killed, self.problem, self.draw = folder, workers, 0, "", random.Random(bundle)
+        self.folder, self.workers, self.killed, self.problem, self.draw = (
+            folder,
+            workers,
+            0,
+            "",
+            random.Random(bundle),
+        )
         (folder / "hooks").mkdir()
         (folder / "plan.bundle").write_text(bundle)
         for kind in ("join", "mirror", hooks, "switch", "drop", "retire"):
@@ -163,7 +219,11 @@ class ByRunner(Executor):
                 return NOT_NOW
             self.taken.add(step.step)
         try:
-            call = partial(self.chunk, step, line["chunk"]) if "chunk" in line else partial(self.do, step, self.draw)
+            call = (
+                partial(self.chunk, step, line["chunk"])
+                if "chunk" in line
+                else partial(self.do, step, self.draw)
+            )
             return 0 if self.store.attempt(call) else NOT_NOW
         except Died:
             self.died += 1
@@ -176,7 +236,9 @@ class ByRunner(Executor):
         return [sys.executable, "-m", "ringplan.run", *words, "--board", str(self.folder / "board")]
 
     def kill(self, process: "subprocess.Popen[bytes]", with_hooks: bool) -> None:
-        hooks = [hook for one in children(process.pid) for hook in children(one)] if with_hooks else []
+        hooks = (
+            [hook for one in children(process.pid) for hook in children(one)] if with_hooks else []
+        )
         process.kill()
         for hook in hooks:
             with contextlib.suppress(ProcessLookupError):
@@ -185,9 +247,13 @@ class ByRunner(Executor):
         self.killed += 1
 
     def work(self, draw: random.Random, until: float, pace: float = 0.0) -> None:
-        words = self.command("apply", str(self.folder / "plan.bundle"), "--do", str(self.folder / "hooks"), "--new")
+        words = self.command(
+            "apply", str(self.folder / "plan.bundle"), "--do", str(self.folder / "hooks"), "--new"
+        )
         words += ["--workers", str(self.workers), "--pause", "0.05", "--longest-pause", "0.4"]
-        with Desk(str(self.folder / "desk"), self.serve) as desk, open(self.folder / "said", "ab") as said:
+        with Desk(str(self.folder / "desk"), self.serve) as desk, open(
+            self.folder / "said", "ab"
+        ) as said:
             threading.Thread(target=desk.serve_forever, daemon=True).start()
             left = draw.randrange(1, 5)
             while True:
@@ -202,21 +268,40 @@ class ByRunner(Executor):
                         status = -9
                         break
             desk.shutdown()
-        judged = subprocess.run(self.command("judge"), stdout=subprocess.PIPE, env=ENVIRONMENT).stdout.decode().split("\n")[0]
+        judged = (
+            subprocess.run(self.command("judge"), stdout=subprocess.PIPE, env=ENVIRONMENT)
+            .stdout.decode()
+            .split("\n")[0]
+        )
         if status or judged != "yes":
-            self.problem = f"the runner ended with {status}, its judge says {judged}: {(self.folder / 'said').read_text()[-300:]}"
+            self.problem = (
+                f"the runner ended with {status}, its judge says {judged}:"
+                f" {(self.folder / 'said').read_text()[-300:]}"
+            )
 
 
 class Around(Executor):
-    """A plan in whose middle a node dies for good. The workers die in the middle of copies, or meet; `ringplan around` makes another plan of the store's history, and they go on by that.
-    It happens twice: the second time no other node dies."""
+    """A plan in whose middle a node dies for good.
+
+    The workers die in the middle of copies, or meet; `ringplan around` makes another plan of the
+    store's history, and they go on by that. It happens twice: the second time no other node dies.
+    """
 
     def prepare(self, one: Run, bundle: str) -> None:
         self.run, self.bundle, self.problem, self.draw = one, bundle, "", random.Random(bundle)
-        self.part, self.left, self.is_meeting, self.is_over = self.draw.uniform(0.1, 0.5), 2, False, False
-        # The owners of the slots whose copies broke off in the middle of a chunk, and how many mirrors were undone.
+        self.part, self.left, self.is_meeting, self.is_over = (
+            self.draw.uniform(0.1, 0.5),
+            2,
+            False,
+            False,
+        )
+        # The owners of the slots whose copies broke off in the middle of a chunk, and how many
+        # mirrors were undone.
         self.torn, self.undone = list[str](), 0
-        self.meeting, self.worker = threading.Barrier(one.load.workers, self.meet), threading.local()
+        self.meeting, self.worker = (
+            threading.Barrier(one.load.workers, self.meet),
+            threading.local(),
+        )
 
     def is_done(self) -> bool:
         return self.is_meeting or super().is_done()
@@ -246,7 +331,9 @@ class Around(Executor):
         """Some workers die in the middle of a chunk: the mirror has a part of it."""
         if self.is_meeting and getattr(self.worker, "copies", False) and self.draw.random() < 0.5:
             self.torn.append(self.slot(step).owner.name)
-            super().give(step, chunk, dict(self.draw.sample(list(contents.items()), len(contents) // 2)))
+            super().give(
+                step, chunk, dict(self.draw.sample(list(contents.items()), len(contents) // 2))
+            )
             raise Died
         super().give(step, chunk, contents)
 
@@ -263,14 +350,23 @@ class Around(Executor):
             self.go_around()
 
     def victim(self) -> str:
-        """A node that steps to come would read, or that mirrors a slot, or from which a copy was read that broke off."""
-        sources = {name for step in self.steps if step.step not in self.done for name in step.sources or ()}
+        """A node that steps to come would read, or that mirrors a slot, or from which a copy was
+        read that broke off.
+        """
+        sources = {
+            name for step in self.steps if step.step not in self.done for name in step.sources or ()
+        }
         mirrors = {slot.mirror.name for slot in self.store.all_slots() if slot.mirror is not None}
         others = {member.name for member in self.store.members if member.is_member}
-        return self.draw.choice(sorted(self.draw.choice([sources, mirrors, set(self.torn)]) or sources or others))
+        return self.draw.choice(
+            sorted(self.draw.choice([sources, mirrors, set(self.torn)]) or sources or others)
+        )
 
     def go_around(self) -> None:
-        """Buries a node, and goes over to the other plan. No worker does a step meanwhile; clients run on."""
+        """Buries a node, and goes over to the other plan.
+
+        No worker does a step meanwhile; clients run on.
+        """
         with self.run.killing:
             self.run.dead = self.run.dead or (self.victim(),)
             self.run.bury()
@@ -279,10 +375,23 @@ class Around(Executor):
                     stack.enter_context(partition.lock)
                 stack.enter_context(self.store.counting)
                 past = self.store.history.past()
-            # A mirror that is dead can be filled by no one: without `--back` its slot would wait for ever.
-            is_back = any(slot.mirror in self.store.dead for slot in self.store.all_slots()) or self.draw.random() < 0.5
-            words = [word for name in self.run.dead for word in ("--dead", name)] + ["--back"] * is_back
-            answer = programs.ask("around", "".join(f"{line}\n" for line in [*self.bundle.splitlines(), *self.store.history.lines(past.entries)]), *words)
+            # A mirror that is dead can be filled by no one: without `--back` its slot would wait
+            # for ever.
+            is_back = (
+                any(slot.mirror in self.store.dead for slot in self.store.all_slots())
+                or self.draw.random() < 0.5
+            )
+            words = [word for name in self.run.dead for word in ("--dead", name)] + [
+                "--back"
+            ] * is_back
+            answer = programs.ask(
+                "around",
+                "".join(
+                    f"{line}\n"
+                    for line in [*self.bundle.splitlines(), *self.store.history.lines(past.entries)]
+                ),
+                *words,
+            )
             if answer.status:
                 self.problem = f"around says {answer.text}{answer.errors}"
                 return
@@ -305,7 +414,13 @@ def read_back(one: Run, draw: random.Random) -> int:
                 one.heal()
                 get = store.get(key, draw)
         for put in store.puts:
-            if put.key == key and put.is_acknowledged and not any(is_at_most(put.clock, version.clock) for version in (get.reply if get else [])):
+            if (
+                put.key == key
+                and put.is_acknowledged
+                and not any(
+                    is_at_most(put.clock, version.clock) for version in (get.reply if get else [])
+                )
+            ):
                 lost += 1
     return lost
 
@@ -313,7 +428,10 @@ def read_back(one: Run, draw: random.Random) -> int:
 def faults_of(store: Store, executor: Executor, bundle: str) -> list[str]:
     """What is wrong with a run that has ended."""
     judged = programs.ask("replay", bundle + "\n".join(store.history.lines()) + "\n")
-    owners = [f"slots {partition} " + " ".join(slot.owner.name for slot in it.slots) for partition, it in enumerate(store.partitions)]
+    owners = [
+        f"slots {partition} " + " ".join(slot.owner.name for slot in it.slots)
+        for partition, it in enumerate(store.partitions)
+    ]
     short = store.short()
     found = {
         f"the judge says {judged.first()}": judged.first() != "yes",
@@ -328,7 +446,9 @@ def faults_of(store: Store, executor: Executor, bundle: str) -> list[str]:
 def run_right(seed: int, servers: str) -> dict[str, Any]:
     """One right run, in this process: what there is to count of it, and its faults."""
     case = case_of(seed, servers)
-    goal = programs.ask("goal", case.ring, *(word for node in case.dead for word in ("--dead", node)))
+    goal = programs.ask(
+        "goal", case.ring, *(word for node in case.dead for word in ("--dead", node))
+    )
     if goal.status:
         return {"what": case.what, "faults": [goal.errors]}
     folder, node = pathlib.Path(tempfile.mkdtemp(prefix="ringplan-trial-")), choose(case.servers)
@@ -349,18 +469,33 @@ def run_right(seed: int, servers: str) -> dict[str, Any]:
     try:
         took = one.run()
         lost = read_back(one, random.Random(seed))
-        faults = faults_of(store, executor, getattr(executor, "bundle", goal.text)) + ([f"{lost} acknowledged puts are lost"] if lost else [])
+        faults = faults_of(store, executor, getattr(executor, "bundle", goal.text)) + (
+            [f"{lost} acknowledged puts are lost"] if lost else []
+        )
         if one.judged and (answer := one.judged.end()) != "yes":
             faults.append(f"the judge beside it says {answer}")
     finally:
         for member in store.members:
             member.node.kill()
         shutil.rmtree(folder)
-    acknowledged = sum(put.is_acknowledged for put in store.puts)
-    counts = {"entries": len(store.history.entries()), "acknowledged": acknowledged, "gets": len(store.gets), "steps": len(executor.done), "servers killed": one.kills, "in doubt": store.in_doubt}
-    counts |= {"workers died": executor.died, "runners killed": getattr(executor, "killed", 0)}
-    counts |= {"chunks torn": len(getattr(executor, "torn", [])), "mirrors undone": getattr(executor, "undone", 0)}
-    return {"what": case.what, **counts, "seconds": round(took, 1), "faults": faults}
+    return {"what": case.what, **counts_of(one), "seconds": round(took, 1), "faults": faults}
+
+
+def counts_of(one: Run) -> dict[str, int]:
+    """What there is to count of a run."""
+    store, executor = one.store, one.executor
+    return {
+        "entries": len(store.history.entries()),
+        "acknowledged": sum(put.is_acknowledged for put in store.puts),
+        "gets": len(store.gets),
+        "steps": len(executor.done),
+        "servers killed": one.kills,
+        "in doubt": store.in_doubt,
+        "workers died": executor.died,
+        "runners killed": getattr(executor, "killed", 0),
+        "chunks torn": len(getattr(executor, "torn", [])),
+        "mirrors undone": getattr(executor, "undone", 0),
+    }
 
 
 def right(seed: int, servers: str) -> dict[str, Any]:
@@ -368,7 +503,11 @@ def right(seed: int, servers: str) -> dict[str, Any]:
     words = [sys.executable, __file__, "--one", str(seed), "--servers", servers]
     try:
         ran = subprocess.run(words, capture_output=True, text=True, timeout=ENDS + 60)
-        result: dict[str, Any] = json.loads(ran.stdout) if not ran.returncode else {"faults": [ran.stderr.strip()[-3000:]]}
+        result: dict[str, Any] = (
+            json.loads(ran.stdout)
+            if not ran.returncode
+            else {"faults": [ran.stderr.strip()[-3000:]]}
+        )
     except subprocess.TimeoutExpired:
         result = {"faults": ["it does not end"]}
     print(f"right {seed}: {json.dumps(result)}", flush=True)
@@ -414,7 +553,8 @@ BROKEN = {
 }
 
 
-# Broken stores that some tries do not show, and what must happen for that. A run that meets it in none of its tries says so, and that is no fault.
+# Broken stores that some tries do not show, and what must happen for that. A run that meets it in
+# none of its tries says so, and that is no fault.
 UNSURE = {
     "mirror_later": "the slot must be switched before the late write",
     "stale_tickets": "a mirror must begin between a write and its acknowledgement",
@@ -433,11 +573,29 @@ TRIES = 10
 def wrong_once(folder: str, name: str, seed: int, servers: str) -> str:
     """The judge's first line for one run of a broken store, and the entry that it names."""
     ring, *options = BROKEN[name].split()
-    bundle = programs.ask("goal", RINGS[ring], *(["--dead", "n2"] if "--dead" in options else [])).text
+    bundle = programs.ask(
+        "goal", RINGS[ring], *(["--dead", "n2"] if "--dead" in options else [])
+    ).text
     files = [os.path.join(folder, file) for file in ("bundle", "steps", "out")]
     for path, text in zip(files, (bundle, programs.ask("steps", bundle).text)):
         pathlib.Path(path).write_text(text)
-    words = [sys.executable, "-m", "ringplan.store", *files, "--seed", str(seed), *options, "--break", name, "--watch", "--limit", "60", "--clients", "3", *(["--servers", servers] if servers else [])]
+    words = [
+        sys.executable,
+        "-m",
+        "ringplan.store",
+        *files,
+        "--seed",
+        str(seed),
+        *options,
+        "--break",
+        name,
+        "--watch",
+        "--limit",
+        "60",
+        "--clients",
+        "3",
+        *(["--servers", servers] if servers else []),
+    ]
     ran = subprocess.run(words, capture_output=True, timeout=ENDS, env=ENVIRONMENT)
     if ran.returncode:
         return f"status {ran.returncode}: {ran.stderr.decode()[-300:]}"
@@ -445,7 +603,11 @@ def wrong_once(folder: str, name: str, seed: int, servers: str) -> str:
     answer, watched = programs.ask("replay", text).first(), json.loads(ran.stdout)["watched"]
     if watched != answer:
         return f"the judge beside it says {watched}, and afterwards {answer}"
-    return answer + (" " + text.split("history 1\n")[1].split("\n")[int(answer.split()[2])] if answer.startswith("no 70") else "")
+    return answer + (
+        " " + text.split("history 1\n")[1].split("\n")[int(answer.split()[2])]
+        if answer.startswith("no 70")
+        else ""
+    )
 
 
 def wrong(name: str, servers: str) -> dict[str, Any]:
@@ -455,21 +617,54 @@ def wrong(name: str, servers: str) -> dict[str, Any]:
         with tempfile.TemporaryDirectory() as folder:
             said.append(wrong_once(folder, name, len(said) + 1, servers))
     print(f"{name}, seed {len(said)}: {said[-1]}", flush=True)
-    is_shown, is_unsure = said[-1].startswith("no 70"), name in UNSURE and all(one == "yes" for one in said)
+    is_shown, is_unsure = said[-1].startswith("no 70"), name in UNSURE and all(
+        one == "yes" for one in said
+    )
     if not is_shown and is_unsure:
         print(f"{name} is broken, and {TRIES} tries did not show it: {UNSURE[name]}", flush=True)
     return {"faults": [] if is_shown or is_unsure else [f"{name} is not refused"]}
 
 
-def main() -> int:
-    parser = argparse.ArgumentParser(prog="trials/store.py", description="Runs the reference store, and has its histories judged.")
-    parser.add_argument("count", nargs="?", type=int, default=4, help="how many right runs (default: %(default)s)")
-    parser.add_argument("--first", type=int, default=1, metavar="SEED", help="the seed of the first")
-    parser.add_argument("--servers", choices=["", *KINDS], default="", help="the servers of all runs; else right runs have each kind in turn, and broken ones the first")
-    parser.add_argument("--jobs", type=int, default=len(os.sched_getaffinity(0)), help="how many runs at once (default: %(default)s)")
-    parser.add_argument("--break", dest="broken", nargs="*", choices=list(BROKEN), metavar="NAME", help="broken stores alone")
+def command_line() -> argparse.ArgumentParser:
+    parser = argparse.ArgumentParser(
+        prog="trials/store.py",
+        description="Runs the reference store, and has its histories judged.",
+    )
+    parser.add_argument(
+        "count", nargs="?", type=int, default=4, help="how many right runs (default: %(default)s)"
+    )
+    parser.add_argument(
+        "--first", type=int, default=1, metavar="SEED", help="the seed of the first"
+    )
+    parser.add_argument(
+        "--servers",
+        choices=["", *KINDS],
+        default="",
+        help=(
+            "the servers of all runs; else right runs have each kind in turn, and broken ones the"
+            " first"
+        ),
+    )
+    parser.add_argument(
+        "--jobs",
+        type=int,
+        default=len(os.sched_getaffinity(0)),
+        help="how many runs at once (default: %(default)s)",
+    )
+    parser.add_argument(
+        "--break",
+        dest="broken",
+        nargs="*",
+        choices=list(BROKEN),
+        metavar="NAME",
+        help="broken stores alone",
+    )
     parser.add_argument("--one", type=int, metavar="SEED", help="one right run, in this process")
-    words = parser.parse_args()
+    return parser
+
+
+def main() -> int:
+    words = command_line().parse_args()
     if words.one is not None:
         os.environ.update(ENVIRONMENT)
         # What does not end says where its threads are.
@@ -483,9 +678,17 @@ def main() -> int:
         runs = [pool.submit(right, seed, words.servers) for seed in seeds]
         others = [pool.submit(wrong, name, words.servers) for name in words.broken or BROKEN]
         results = [one.result() for one in runs]
-        faults = [fault for one in results + [one.result() for one in others] for fault in one["faults"]]
-    totals = sum((Counter({name: count for name, count in one.items() if name not in ("what", "faults")}) for one in results), Counter[str]())
-    print(f"{len(results)} right runs: {json.dumps(totals)}", *faults, f"{len(others)} broken stores; {len(faults)} faults", sep="\n")
+        every = results + [one.result() for one in others]
+    faults, totals = [fault for one in every for fault in one["faults"]], Counter[str]()
+    for one in results:
+        counted = (name for name in one if name not in ("what", "faults"))
+        totals += Counter({name: one[name] for name in counted})
+    print(
+        f"{len(results)} right runs: {json.dumps(totals)}",
+        *faults,
+        f"{len(others)} broken stores; {len(faults)} faults",
+        sep="\n",
+    )
     return int(bool(faults))
 
 

@@ -1,4 +1,6 @@
-"""What happens to the store of `machine.py`, at random: puts, gets, hints, outages, losses, and the steps of a plan."""
+"""What happens to the store of `machine.py`, at random: puts, gets, hints, outages, losses, and the
+steps of a plan.
+"""
 
 import itertools
 import random
@@ -22,7 +24,10 @@ def choose_keys(machine: Machine, draw: random.Random) -> list[str]:
 
 
 class Traffic:
-    """Clients that put and get these keys, and one worker. Nodes that are dead do not come up again."""
+    """Clients that put and get these keys, and one worker.
+
+    Nodes that are dead do not come up again.
+    """
 
     def __init__(self, machine: Machine, draw: random.Random, hints: float) -> None:
         self.machine, self.draw, self.hints = machine, draw, hints
@@ -31,11 +36,17 @@ class Traffic:
 
     # Clients.
     def put(self) -> None:
-        """A put that is written to one slot only, or to some or most; with hints for some of the others."""
+        """A put that is written to one slot only, or to some or most; with hints for some of the
+        others.
+        """
         machine, draw, key = self.machine, self.draw, self.draw.choice(self.keys)
-        ended = [g for g, get in enumerate(machine.gets) if get.key == key and get.reply is not None][-4:]
+        ended = [
+            g for g, get in enumerate(machine.gets) if get.key == key and get.reply is not None
+        ][-4:]
         seen = sorted(draw.sample(ended, min(len(ended), draw.choice([0, 0, 1, 2]))))
-        v, share = machine.start_put("w%d" % draw.randrange(WRITERS), key, seen), draw.choice([0, 0, 0.5, 0.9])
+        v, share = machine.start_put("w%d" % draw.randrange(WRITERS), key, seen), draw.choice(
+            [0, 0, 0.5, 0.9]
+        )
         for i in draw.sample(range(machine.n), machine.n) if share else [self.choose_slot(key)]:
             if share and draw.random() >= share or not machine.write(v, i):
                 if draw.random() < self.hints:
@@ -45,7 +56,14 @@ class Traffic:
     def choose_slot(self, key: str) -> int:
         """A slot of the key's partition: most often one that a copy to come reads."""
         machine, draw, partition = self.machine, self.draw, place(key, self.machine.bits)
-        coming = sorted({i for step in machine.steps_left("copy") for p, i in machine.sources(step) if p == partition})
+        coming = sorted(
+            {
+                i
+                for step in machine.steps_left("copy")
+                for p, i in machine.sources(step)
+                if p == partition
+            }
+        )
         return draw.choice(coming) if coming and draw.random() < 0.8 else draw.randrange(machine.n)
 
     def hint(self, v: int, i: int) -> None:
@@ -53,7 +71,7 @@ class Traffic:
         any(self.machine.hint(v, i, x) for x in self.draw.sample(names, len(names)))
 
     def put_again(self) -> None:
-        """A put that is not acknowledged is written to one slot more, or asks to be acknowledged."""
+        """A put without an acknowledgement is written to one slot more, or asks for it."""
         machine, draw = self.machine, self.draw
         left = [v for v, put in enumerate(machine.puts) if not put.is_acked][-6:]
         if left:
@@ -96,11 +114,15 @@ class Traffic:
             self.machine.go_down(self.draw.choice(self.machine.ring.names))
 
     def come_up(self) -> bool:
-        return any([self.machine.come_up(x) for x in sorted(self.machine.table.members - self.dead)])
+        return any(
+            [self.machine.come_up(x) for x in sorted(self.machine.table.members - self.dead)]
+        )
 
     def lose(self) -> None:
         table = self.machine.table
-        self.machine.lose(self.draw.choice(sorted(set(table.mirror.values()) & table.members or table.members)))
+        self.machine.lose(
+            self.draw.choice(sorted(set(table.mirror.values()) & table.members or table.members))
+        )
 
     def happen(self, outages: float = 0.1, losses: float = 0.05) -> None:
         """One thing that is not the worker's."""
@@ -143,7 +165,10 @@ class Traffic:
                 self.happen()
 
     def finish(self) -> bool:
-        """Goes on until the plan has ended, or nothing more can be done. Returns whether it has ended."""
+        """Goes on until the plan has ended, or nothing more can be done.
+
+        Returns whether it has ended.
+        """
         machine = self.machine
         while len(machine.progress.done) < len(machine.steps):
             if self.draw.random() < 0.15:

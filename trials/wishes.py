@@ -1,21 +1,24 @@
 #!/usr/bin/env python3
-"""How good the rings are that `ringplan goal` makes of a change, with weights and racks: the owners behind its plan, against the exact best of small rings, which a
-minimum cost flow finds. It wants the program as it is built. `trials/wishes.py COUNT` tries so many random changes, else 300.
+"""How good the rings are that `ringplan goal` makes of a change, with weights and racks: the owners
+behind its plan, against the exact best of small rings, which a minimum cost flow finds. It wants
+the program as it is built. `trials/wishes.py COUNT` tries so many random changes, else 300.
 
-It says how many share racks, or lack slots of joiners' parts, or move more than the best, and ends with 0 only where none does; and how many are as even as the best, and the worst ratio."""
-import os
+It says how many share racks, or lack slots of joiners' parts, or move more than the best, and ends
+with 0 only where none does; and how many are as even as the best, and the worst ratio.
+"""
 import random
-import subprocess
 import sys
 import tempfile
 from collections.abc import Iterator
 from math import lcm
 
-TOP = os.path.dirname(os.path.dirname(os.path.abspath(__file__)))
-RUN = os.path.join(TOP, "crates", "ringplan", "out", "ringplan")
+from changes import answer, owners, rows_after
+from ringplan import texts
+
 # The owners of each partition, by their numbers.
 Rows = list[list[int]]
-# The quorum's N, who is a member, what each node bears, the owners, who joins, who leaves, the weights and the racks.
+# The quorum's N, who is a member, what each node bears, the owners, who joins, who leaves, the
+# weights and the racks.
 Change = tuple[int, list[bool], list[str], Rows, list[int], list[int], list[int], list[int]]
 # A vertex of the network: one of its two ends, or a word with numbers.
 Vertex = str | tuple[str, int] | tuple[str, int, int]
@@ -40,20 +43,29 @@ def case(number: int) -> Change:
         rows = [[members[(p * n + i) % len(members)] for i in range(n)] for p in range(q)]
     else:
         rows = [pick.sample(members, n) for _ in range(q)]
-    bears = ["%d" % pick.randint(1, 4) if pick.random() < 0.5 else "%d %d" % (pick.randint(1, 4), pick.randint(1, 4)) for _ in range(count)]
+    bears = [
+        "%d" % pick.randint(1, 4)
+        if pick.random() < 0.5
+        else "%d %d" % (pick.randint(1, 4), pick.randint(1, 4))
+        for _ in range(count)
+    ]
     return n, member, bears, rows, joins, leaves, weights, racks
 
 
 def asked(change: Change) -> tuple[list[str], str, str]:
     """The names of the nodes, the lines of the layout and the bundle."""
     n, member, bears, rows, joins, leaves, weights, racks = change
-    names = ["n%d.%s" % (v, "k%d" % racks[v] if v < len(racks) else "own%d" % v) for v in range(len(member))]
-    lines = ["ring 2", "space %d" % len(rows), "quorum %d 1 %d" % (n, n)]
-    lines += ["node %s %s %s" % (names[v], bears[v], "in" if member[v] else "out") for v in range(len(member))]
-    lines += ["slots %d %s" % (p, " ".join(names[v] for v in row)) for p, row in enumerate(rows)]
-    lines += ["end", "change 1"] + ["join " + names[v] for v in joins] + ["leave " + names[v] for v in leaves] + ["end"]
+    names = [
+        "n%d.%s" % (v, "k%d" % racks[v] if v < len(racks) else "own%d" % v)
+        for v in range(len(member))
+    ]
+    members = {name for name, is_in in zip(names, member) if is_in}
+    named = [[names[v] for v in row] for row in rows]
+    allowances = {name: tuple(map(int, it.split())) for name, it in zip(names, bears)}
+    ring = texts.Ring.of(names, members, named, (n, 1, n), allowances, form=2)
+    moved = texts.Change(tuple(names[v] for v in joins), tuple(names[v] for v in leaves))
     layout = "".join("weight %s %d\n" % (names[v], weight) for v, weight in enumerate(weights))
-    return names, layout, "\n".join(lines) + "\n"
+    return names, layout, texts.write_texts([ring, moved])
 
 
 def answered(change: Change) -> Rows | None:
@@ -63,25 +75,16 @@ def answered(change: Change) -> Rows | None:
         file.write("layout 1\n" + layout + "end\n")
         file.flush()
         options = ["--racks-behind", ".", "--layout", file.name]
-        ran = subprocess.run([RUN, "goal", *options], input=text.encode(), capture_output=True, timeout=60)
-    out = (ran.stdout + (ran.stderr if ran.returncode else b"")).decode()
-    if out.startswith("no 28\n") and ran.returncode == 1:
+        out, status = answer(["goal", *options], text)
+    if out.startswith("no 28\n") and status == 1:
         return None
-    if ran.returncode:
+    if status:
         raise SystemExit("%s: %s" % (" ".join(options), out.splitlines()[:2]))
-    rows = [[names.index(word) for word in line.split()[2:]] for line in text.splitlines() if line.startswith("slots")]
-    mirrors: dict[tuple[str, str], int] = {}
-    for line in out.split("end\n")[1].splitlines():
-        fields = line.split()
-        if fields[0] == "mirror":
-            mirrors[fields[1], fields[2]] = names.index(fields[3])
-        if fields[0] == "switch":
-            rows[int(fields[1])][int(fields[2])] = mirrors[fields[1], fields[2]]
-    return rows
+    return [[names.index(x) for x in row] for row in rows_after(owners(text), out)[0]]
 
 
 class Known:
-    """What the rules say of a case: who is a member in the end, with which weight, rack and part."""
+    """What the rules say of a case: the members in the end, with weight, rack and part."""
 
     def __init__(self, change: Change) -> None:
         self.n, member, _, self.rows, joins, leaves, weights, racks = change
@@ -92,7 +95,9 @@ class Known:
         self.rack = [racks[v] if v < len(racks) else -1 - v for v in range(count)]
         total = sum(self.weight[v] for v in self.after)
         q = len(self.rows)
-        self.part = [min(q, q * self.n * self.weight[v] // total) if v in joins else 0 for v in range(count)]
+        self.part = [
+            min(q, q * self.n * self.weight[v] // total) if v in joins else 0 for v in range(count)
+        ]
         self.unit = lcm(*(self.weight[v] for v in self.after))
         self.move = self.unit * (q * self.n + 1) ** 2 * 4
         self.lack = self.move * (q * self.n + 1)
@@ -101,18 +106,24 @@ class Known:
     def cost(self, rows: Rows) -> tuple[int, int]:
         """The cost of owners, and the sum of their squares by weight alone."""
         load = [sum(v in row for row in rows) for v in range(len(self.rack))]
-        pairs = sum(self.rack[a] == self.rack[b] for row in rows for k, a in enumerate(row) for b in row[:k])
+        pairs = sum(
+            self.rack[a] == self.rack[b] for row in rows for k, a in enumerate(row) for b in row[:k]
+        )
         moves = sum(v not in old for row, old in zip(rows, self.rows) for v in row)
         return self.price(load, pairs, moves)
 
     def price(self, load: list[int] | tuple[int, ...], pairs: int, moves: int) -> tuple[int, int]:
-        """The cost of owners with these loads, pairs of slots in one rack and moves, and the sum of the squares."""
+        """The cost of owners with these loads, pairs of slots in one rack and moves, and the sum of
+        the squares.
+        """
         met = sum(min(load[v], self.part[v]) for v in self.after)
         squares = sum(load[v] ** 2 * self.unit // self.weight[v] for v in self.after)
         return pairs * self.pair - met * self.lack + moves * self.move + squares, squares
 
     def edges(self) -> Iterator[tuple[Vertex, Vertex, int, int]]:
-        """A network whose flows are the choices of owners: partitions, their racks, members; each unit of a rack and of a member has its own cost."""
+        """A network whose flows are the choices of owners: partitions, their racks, members; each
+        unit of a rack and of a member has its own cost.
+        """
         for p, row in enumerate(self.rows):
             yield "from", ("p", p), self.n, 0
             for rack in set(self.rack[v] for v in self.after):
@@ -122,7 +133,9 @@ class Known:
                 yield ("r", p, self.rack[v]), ("v", v), 1, 0 if v in row else self.move
         for v in self.after:
             for k in range(1, len(self.rows) + 1):
-                yield ("v", v), "to", 1, (2 * k - 1) * self.unit // self.weight[v] - (self.lack if k <= self.part[v] else 0)
+                yield ("v", v), "to", 1, (2 * k - 1) * self.unit // self.weight[v] - (
+                    self.lack if k <= self.part[v] else 0
+                )
 
 
 def least(known: Known) -> int:
@@ -162,13 +175,19 @@ def judge(known: Known, answer: Rows | None) -> tuple[str | None, float]:
     if not known.has_plan or answer is None:
         return None if not known.has_plan and answer is None else "refused wrongly or not at all", 1
     rows = answer
-    if len(rows) != len(known.rows) or any(len(set(row) & set(known.after)) != known.n or len(row) != known.n for row in rows):
+    if len(rows) != len(known.rows) or any(
+        len(set(row) & set(known.after)) != known.n or len(row) != known.n for row in rows
+    ):
         return "no owners of the members", 1
-    if any(v in row and row[k] != v for row, old in zip(rows, known.rows) for k, v in enumerate(old)):
+    if any(
+        v in row and row[k] != v for row, old in zip(rows, known.rows) for k, v in enumerate(old)
+    ):
         return "an owner that stays has another index", 1
     cost, squares = known.cost(rows)
     over = cost - least(known)
-    return (None if over < known.move else "not the best"), squares / (squares - over) if over < known.move else 1
+    return (None if over < known.move else "not the best"), squares / (
+        squares - over
+    ) if over < known.move else 1
 
 
 def main(count: int) -> int:
@@ -179,7 +198,10 @@ def main(count: int) -> int:
         if fault:
             faults += 1
             print("case %d: %s" % (number, fault))
-    print("%d wishes: %d faults; %d as even as the best, the worst %.3f times it" % (count, faults, ratios.count(1), max(ratios, default=1)))
+    print(
+        "%d wishes: %d faults; %d as even as the best, the worst %.3f times it"
+        % (count, faults, ratios.count(1), max(ratios, default=1))
+    )
     return 1 if faults else 0
 
 
