@@ -23,3 +23,4 @@ pub mod Parts
 pub mod Forms
 pub mod MoreForms
 pub mod Places
+pub mod Plains

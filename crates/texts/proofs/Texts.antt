@@ -43,6 +43,13 @@ lines-text ((f ∷ fs) ∷ ls) p =
     ap (λ (t : List ℕ). slice_split (λ b. eqb b 10) t) (text_of-cons (f ∷ fs) ls) ∙ slice_split_at (λ b. eqb b 10) (join_with_byte 32 (f ∷ fs)) 10 (text_of ls) (All-from_recursion (λ b. eqb b 10 ≡ false) (join_with_byte 32 (f ∷ fs)) (unended f fs p.0.0 p.0.1)) refl in
     ap (λ (ps : List (List ℕ)). map fields_of ps) cut ∙ rw (fields-join f fs p.0.0 p.0.1, lines-text ls p.1) refl
 
+-- the first line of a text that begins with a line that was joined
+pub lines-cut : (fs : List (List ℕ)) (rest : List ℕ) → IsPlainLine fs → lines_of (line_text fs ++ rest) ≡ fs ∷ lines_of rest
+lines-cut [] rest p = absurd p
+lines-cut (f ∷ fs) rest p =
+    let cut = slice_split_at (λ b. eqb b 10) (join_with_byte 32 (f ∷ fs)) 10 rest (All-from_recursion (λ b. eqb b 10 ≡ false) (join_with_byte 32 (f ∷ fs)) (unended f fs p.0 p.1)) refl in
+    ap lines_of (append_assoc (join_with_byte 32 (f ∷ fs)) (10 ∷ []) rest) ∙ ap (λ (ps : List (List ℕ)). map fields_of ps) cut ∙ rw (fields-join f fs p.0 p.1) refl
+
 -- ---- from a text to fields, and back
 
 joined : (ps : List (List ℕ)) → map (λ (l : List (List ℕ)). join_with_byte 32 l) (map fields_of ps) ≡ ps

@@ -13,6 +13,7 @@ mod measure;
 mod name;
 mod number;
 mod number_row;
+mod plain;
 mod writing;
 
 pub use fields::Fields;
@@ -22,4 +23,5 @@ pub use lines::Lines;
 pub use name::{are_name_bytes, is_name};
 pub use number::CAP;
 pub use number_row::NumberRow;
+pub use plain::{after_word, plain_number, plain_numbers, plain_word};
 pub use writing::push_numbers;

@@ -82,6 +82,25 @@ impl<'a> Lines<'a> {
         stands_in_front(self.rest, word, b'\n')
     }
 
+    /// The bytes that are left.
+    #[inline(always)]
+    pub fn bytes(&self) -> &'a [u8]
+        ensures { self.now.lines ≡ lines_of result.now }
+    {
+        self.rest
+    }
+
+    /// Goes on to the next line, whose bytes and those after it are `rest`.
+    #[inline(always)]
+    pub fn go_on(&mut self, rest: &'a [u8])
+        ensures { self.new ≡ record { line = next_number self.old.line; lines = lines_of rest.now } }
+    {
+        *self = Lines {
+            line: behind(self.line),
+            rest,
+        };
+    }
+
     /// Whether nothing is left.
     pub fn is_over(&self) -> bool
         ensures { result ≡ is_over self.now }

@@ -23,7 +23,7 @@ pub(crate) struct Front<'a> {
 
 // Whether some digits are a number: there are some, and no leading zero.
 #[inline(always)]
-fn are_number(digits: &[u8]) -> bool
+pub(crate) fn are_number(digits: &[u8]) -> bool
     ensures { all_ascii_digits digits.now ≡ true → result ≡ is_number digits.now }
 {
     match digits.first() {

@@ -1,0 +1,74 @@
+//! Taking plainly spelled parts from the front of a text, without cutting it into lines and fields first.
+//! A reader that gets `None` here reads the line by its fields, which names the fault if there is one.
+
+ghost use Rattle.std.specs.Prelude.{◌≡◌, ◌++◌, map, IfSome};
+ghost use Rattle.std.specs.Fmt.{decimal};
+ghost use Rattle.texts.specs.Parts.{spaced};
+
+use crate::number::are_number;
+
+/// The text after this word, if it begins with the word.
+#[inline(always)]
+pub fn after_word<'a>(text: &'a [u8], word: &[u8]) -> Option<&'a [u8]>
+    ensures { IfSome result (λ rest. text.now ≡ word.now ++ rest.now) }
+{
+    if text.len() < word.len() {
+        return None;
+    }
+    for at in 0..word.len() {
+        if text[at] != word[at] {
+            return None;
+        }
+    }
+    Some(&text[word.len()..])
+}
+
+/// The bytes before the first space or line end, and the text after them.
+#[inline(always)]
+pub fn plain_word(text: &[u8]) -> (&[u8], &[u8])
+    ensures { text.now ≡ result.0.now ++ result.1.now }
+{
+    for at in 0..text.len() {
+        if text[at] <= b' ' {
+            return (&text[..at], &text[at..]);
+        }
+    }
+    (text, &text[text.len()..])
+}
+
+/// The number at the front of the text, and the text after it. A number of more than 9 digits is not taken.
+#[inline(always)]
+pub fn plain_number(text: &[u8]) -> Option<(u32, &[u8])>
+    ensures { IfSome result (λ x. text.now ≡ decimal x.0 ++ x.1.now) }
+{
+    // after more than 9 digits it means nothing
+    let mut value = 0u64;
+    for at in 0..text.len() {
+        let byte = text[at];
+        if !byte.is_ascii_digit() {
+            if at > 9 || !are_number(&text[..at]) {
+                return None;
+            }
+            return Some((value as u32, &text[at..]));
+        }
+        value = value.wrapping_mul(10).wrapping_add((byte - b'0') as u64);
+    }
+    None
+}
+
+/// Takes numbers, each after a space, into `out`, and returns the text after them.
+#[inline(always)]
+pub fn plain_numbers<'a>(text: &'a [u8], out: &mut Vec<u32>) -> Option<&'a [u8]>
+    ensures { IfSome result (λ rest. text.now ≡ spaced (map decimal out.new.items) ++ rest.now) }
+{
+    out.clear();
+    let mut rest = text;
+    'numbers: while let Some(digits) = after_word(rest, b" ") {
+        let (number, behind) = plain_number(digits)?;
+        if out.push(number).is_err() {
+            return None;
+        }
+        rest = behind;
+    }
+    Some(rest)
+}
