@@ -6,5 +6,6 @@ pub mod Below
 pub mod PlanForm
 pub mod PlanLaws
 pub mod WriteLaws
+pub mod PlainLaws
 pub mod PlanLates
 pub mod ChangeLaws

@@ -12,7 +12,7 @@ use Rattle.texts.proofs.Forms.{IsPart, Any, Left, header_at, each-grows, all-eac
 use Rattle.ring_names.proofs.InLists.{different_more, different_apart}
 use Rattle.ring_table.proofs.NodesLaws.{nodes-length}
 use Rattle.plan_text.specs.Valid.{HasSources, is_ring_slot, is_declared, step_suits, Suits}
-use Rattle.plan_text.specs.Fits.{IsNext}
+use Rattle.plan_text.specs.Fits.{IsNext, IsMove}
 use Rattle.plan_text.specs.Spelling.{plan_lines, plan_text}
 use Rattle.plan_text.specs.Reading.{said_at, steps_at, plan_at, plan_reading}
 use Rattle.plan_text.proofs.Pushed.{IsPlan-push, named-push}
@@ -58,6 +58,19 @@ module _ (ring : RingValue) where
   step-more seen (Drop s x) p = (rw (p.0.0, p.0.1, node-suits x p.1) refl, tt, no-more (joined seen), no-more (retired seen))
   step-more seen (Retire x) p = (node-suits x p.0, tt, no-more (joined seen), λ e. different_more (retired seen) x.0 e p.1.0)
 
+  -- a step that neither joins nor retires a node fits anywhere
+  move-fits : (seen : List Planned) (s : Step) → IsMove ring s → StepFits ring seen s
+  move-fits seen (Join x) m = absurd (let e = m.joins in cc)
+  move-fits seen (Mirror s x) m = (let b = and_parts (is_ring_slot ring s) (is_declared ring x) m.suits in (and_parts _ _ b.0, node-fits x b.1))
+  move-fits seen (Copy s Owner) m = (and_parts _ _ (and_parts (is_ring_slot ring s) true m.suits).0, tt)
+  move-fits seen (Copy s (Slots from)) m =
+      let b = and_parts (is_ring_slot ring s) (list_all (λ i. nat_lt i ring.n) from) m.suits in
+      let h = m.sources in
+      (and_parts _ _ b.0, (ne_eqb (length from) 0 (λ z. let some = h.0 in absurd (omega arith)), (ap not (le-leb (length from) 7 h.1), (ap not b.1, tt))))
+  move-fits seen (Switch s) m = and_parts (nat_lt s.partition ring.q) (nat_lt s.index ring.n) m.suits
+  move-fits seen (Drop s x) m = (let b = and_parts (is_ring_slot ring s) (is_declared ring x) m.suits in (and_parts _ _ b.0, node-fits x b.1))
+  move-fits seen (Retire x) m = absurd (let e = m.retires in cc)
+
   -- a step of a plan fits after those before it
   step-fits : (seen : List Planned) (s : Step) (js rs : List ℕ) → step_suits ring s ≡ true → HasSources s
       → all_different (joined seen ++ (joins s ++ js)) ≡ true → all_different (retired seen ++ (retires s ++ rs)) ≡ true → StepFits ring seen s
@@ -65,13 +78,10 @@ module _ (ring : RingValue) where
       let b = and_parts (is_declared ring x) (not (is_member ring.nodes x)) e in
       let new = or_from (is_member ring.nodes x) (has x.0 (joined seen)) (not-true _ b.1) (different_apart (joined seen) x.0 js j) in
       (node-fits x b.0, (new, tt))
-  step-fits seen (Mirror s x) js rs e h j r = (let b = and_parts (is_ring_slot ring s) (is_declared ring x) e in (and_parts _ _ b.0, node-fits x b.1))
-  step-fits seen (Copy s Owner) js rs e h j r = (and_parts _ _ (and_parts (is_ring_slot ring s) true e).0, tt)
-  step-fits seen (Copy s (Slots from)) js rs e h j r =
-      let b = and_parts (is_ring_slot ring s) (list_all (λ i. nat_lt i ring.n) from) e in
-      (and_parts _ _ b.0, (ne_eqb (length from) 0 (λ z. let some = h.0 in absurd (omega arith)), (ap not (le-leb (length from) 7 h.1), (ap not b.1, tt))))
-  step-fits seen (Switch s) js rs e h j r = and_parts (nat_lt s.partition ring.q) (nat_lt s.index ring.n) e
-  step-fits seen (Drop s x) js rs e h j r = (let b = and_parts (is_ring_slot ring s) (is_declared ring x) e in (and_parts _ _ b.0, node-fits x b.1))
+  step-fits seen (Mirror s x) js rs e h j r = move-fits seen (Mirror s x) (record { suits = e; sources = h; joins = refl; retires = refl })
+  step-fits seen (Copy s from) js rs e h j r = move-fits seen (Copy s from) (record { suits = e; sources = h; joins = refl; retires = refl })
+  step-fits seen (Switch s) js rs e h j r = move-fits seen (Switch s) (record { suits = e; sources = h; joins = refl; retires = refl })
+  step-fits seen (Drop s x) js rs e h j r = move-fits seen (Drop s x) (record { suits = e; sources = h; joins = refl; retires = refl })
   step-fits seen (Retire x) js rs e h j r = (node-fits x e, (different_apart (retired seen) x.0 rs r, tt))
 
   -- ---- what a step waits for
@@ -102,6 +112,12 @@ module _ (ring : RingValue) where
   next-is seen x le p =
       let a = after-more seen x.after le p.1 in
       (a.0, record { ascending = a.1; earlier = a.2; few = a.3; sources = (step-more seen x.step p.0.1).1 }, ltb-true (length seen) 131072 p.0.0, a.4)
+
+  pub next-move : (seen : List Planned) (x : Planned) → IsNext seen x → IsMove ring x.step → IsNextStep ring seen x
+  next-move seen x n m =
+      let p = n.planned in
+      let room = n.room in
+      ((lt-ltb (length seen) 131072 n.room, move-fits seen x.step m), after-fits seen x.after (omega arith) p.ascending p.earlier p.few n.few)
 
   next-suits : (seen : List Planned) (x : Planned) → IsPlan seen × Suits ring seen → IsNextStep ring seen x
       → IsPlan (seen ++ x ∷ []) × Suits ring (seen ++ x ∷ [])
@@ -141,7 +157,7 @@ module _ (ring : RingValue) where
 
 -- what was returned of a line can be the next step
 pub next-if : (ring : RingValue) → IsRing ring → (seen : List Planned) (k : ℕ) (fields : List (List ℕ)) (r : Result (Said × List ℕ) Refusal)
-    → dependencies seen ≤ 524288 → r ≡ said_at ring seen k fields → IfOk r (λ x. IsNext seen x)
+    → dependencies seen ≤ 524288 → r ≡ said_at ring seen k fields → IfOk r (λ x. IsNext seen (planned_of x))
 unfolding said_at
 next-if ring valid seen k fields (Ok x) few e =
     let n = next-is ring seen (planned_of x) few (((said_line ring seen).exact valid k).takes fields x (sym e)).1 in

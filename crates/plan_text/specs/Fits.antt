@@ -1,15 +1,22 @@
 -- Which lines' steps can be kept.
-use Rattle.std.specs.Prelude.{◌≡◌, ℕ, ◌+◌, ◌<◌, ◌≤◌, true, List, length}
+use Rattle.std.specs.Prelude.{◌≡◌, ◌+◌, ◌<◌, ◌≤◌, true, List, [], length}
 use Rattle.texts.specs.Numbers.{are_small}
-use Rattle.plan_text.specs.declared.said.Said.{Said}
+use Rattle.ring_table.specs.Value.{RingValue}
+use Rattle.plan_text.specs.declared.step.Step.{Step}
 use Rattle.plan_text.specs.declared.step.Planned.{Planned}
-use Rattle.plan_text.specs.Said.{planned_of}
-use Rattle.plan_text.specs.Steps.{dependencies}
-use Rattle.plan_text.specs.Valid.{IsPlanned}
+use Rattle.plan_text.specs.Steps.{dependencies, joins, retires}
+use Rattle.plan_text.specs.Valid.{HasSources, IsPlanned, step_suits}
 
--- what a line says can be the next step of the plan
-pub record IsNext (plan : List Planned) (x : Said × List ℕ) : Type 0 where
-  pub after : are_small x.1 ≡ true
-  pub planned : IsPlanned (length plan) (planned_of x)
+-- the step can be the next one of the plan
+pub record IsNext (plan : List Planned) (x : Planned) : Type 0 where
+  pub after : are_small x.after ≡ true
+  pub planned : IsPlanned (length plan) x
   pub room : length plan < 131072
-  pub few : dependencies plan + length x.1 ≤ 524288
+  pub few : dependencies plan + length x.after ≤ 524288
+
+-- the step suits the ring, and neither joins nor retires a node
+pub record IsMove (ring : RingValue) (s : Step) : Type 0 where
+  pub suits : step_suits ring s ≡ true
+  pub sources : HasSources s
+  pub joins : joins s ≡ []
+  pub retires : retires s ≡ []

@@ -7,6 +7,7 @@ mod index;
 mod indexes;
 mod kind;
 mod place;
+mod plain;
 mod plan;
 mod reading;
 mod said;

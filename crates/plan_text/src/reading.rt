@@ -14,6 +14,7 @@ ghost use Rattle.plan_text.specs.declared.step.Planned.{Planned};
 
 use crate::after::after;
 use crate::kind::kind;
+use crate::plain::take_plain;
 use crate::plan::Plan;
 use crate::said::{Said, to_step};
 use ring_names::Refusal;
@@ -29,7 +30,7 @@ fn step_line<'a>(
     mut fields: Fields<'a>,
 ) -> Result<(Said, NumberRow<'a>), Refusal>
     ensures value { result ≡ said_at ring.now plan.now fields.entry.number fields.entry.fields }
-    ensures next { IfOk result (λ x. IsNext plan.now x) }
+    ensures next { IfOk result (λ x. IsNext plan.now (planned_of x)) }
     ensures at { IfErr result (λ e. IsAt fields.entry.number e) }
 {
     // A ring is valid, which the prover knows once a number of it is read.
@@ -43,7 +44,7 @@ fn step_line<'a>(
 
 // Adds the step of a line that was judged behind the steps of the plan.
 fn add(alloc: Global, plan: &mut Plan, said: Said, after: NumberRow) -> Result<(), Refusal>
-    requires { IsNext plan.old (said, after) }
+    requires { IsNext plan.old (planned_of (said, after)) }
     ensures ok { OnOk result (plan.new ≡ plan.old ++ planned_of (said, after.entry) ∷ []) }
     ensures memory { IfErr result (λ e. e ≡ OutOfMemory) }
 {
@@ -62,7 +63,12 @@ fn read_into(alloc: Global, ring: &Ring, plan: &mut Plan, lines: &mut Lines) -> 
         (steps_from ring.now plan.old lines.old.line lines.old.lines) }
     ensures late { Late 1 result lines.old lines.new (steps_from ring.now plan.old lines.old.line lines.old.lines) }
 {
+    // the steps that the next one waits for
+    let mut after = Vec::new(alloc);
     'steps: while !lines.begins(b"end") {
+        if take_plain(ring, plan, lines, &mut after) {
+            continue 'steps;
+        }
         let fields = lines.next()?;
         let (said, after) = step_line(ring, plan, fields)?;
         add(alloc, plan, said, after)?;
