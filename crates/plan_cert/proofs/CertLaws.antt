@@ -4,12 +4,22 @@ use Rattle.std.proofs.lemmas.Bool.{lt-ltb, ltb-true, not-false, and_parts}
 use Rattle.texts.proofs.Forms.{IsPart, Any, Left, header_at, each-all, each-few, few-each, text-found, text-given, some-first, are_small}
 use Rattle.plan_cert.proofs.Terms.{RingValue, allowance_of, IsRing, Chain, Cert, cert_format, cert_of}
 use Rattle.ring_table.proofs.NodesLaws.{side-below, nodes-length}
-use Rattle.plan_cert.specs.Valid.{is_fact, is_chain, IsCert, Suits}
+use Rattle.plan_cert.specs.Valid.{is_fact, is_chain, IsCert, IsNextFact, IsNextChain, Suits}
 use Rattle.plan_cert.specs.Spelling.{cert_lines, cert_text}
 use Rattle.plan_cert.specs.Reading.{path_at, steps_at, node_side_at, fact_at, chain_at, cert_at, cert_reading}
 use Rattle.plan_cert.proofs.CertForm.{fact_line, chain_line, body_form, cert_form}
 
+-- what can be the next fact is allowed as one
+pub fact-fits : (W : Type 0) (seen : List (List ℕ)) (x : List ℕ) → IsNextFact seen x → (fact_line {W = W} seen).allowed x
+fact-fits W seen x n =
+    let two = and_parts (nat_le 2 (length x)) (nat_le (length x) 1024) n.fact in
+    ((lt-ltb (length seen) 262144 n.room, tt), (ap not two.0, (ap not two.1, (ap not n.small, tt))))
+
 module _ (ring : RingValue) (valid : IsRing ring) where
+  -- what can be the next chain is allowed as one
+  pub chain-fits : (seen : List Chain) (x : Chain) → IsNextChain ring seen x → (chain_line ring seen).allowed x
+  chain-fits seen x n = let has = and_parts (is_some (allowance_of ring x.node.0 x.side)) (nat_le 1 (length x.steps)) n.chain in ((lt-ltb (length seen) 65536 n.room, ((tt, rw nodes-length (side-below ring x.node.0 x.side has.0)), (ap not has.0, tt))), (ap not has.1, (ap not n.small, tt)))
+
   -- the definitions are the form, by computing
   pub cert-part : IsPart Any (cert_at ring) (cert_lines ring) (cert_form ring).allowed
   unfolding cert_at fact_at chain_at path_at steps_at node_side_at
@@ -30,11 +40,9 @@ module _ (ring : RingValue) (valid : IsRing ring) where
 
   suits-parts : (v : Cert) → IsCert v → Suits ring v → (cert_form ring).allowed v
   suits-parts v is suits =
-      let facts = few-each (λ seen. (fact_line {W = IsRing ring} seen).allowed) 262144 is_fact are_small
-      (λ seen x lt a b. let two = and_parts (nat_le 2 (length x)) (nat_le (length x) 1024) a in ((lt-ltb (length seen) 262144 lt, tt), (ap not two.0, (ap not two.1, (ap not b, tt)))))
+      let facts = few-each (λ seen. (fact_line {W = IsRing ring} seen).allowed) 262144 is_fact are_small (λ seen x lt a b. fact-fits (IsRing ring) seen x (record { room = lt; fact = a; small = b }))
       [] v.facts 262144 (omega arith) suits.few_facts suits.facts is.facts in
-      let chains = few-each (λ seen. (chain_line ring seen).allowed) 65536 (is_chain ring) (λ c. are_small c.steps)
-      (λ seen x lt a b. let has = and_parts (is_some (allowance_of ring x.node.0 x.side)) (nat_le 1 (length x.steps)) a in ((lt-ltb (length seen) 65536 lt, ((tt, rw nodes-length (side-below ring x.node.0 x.side has.0)), (ap not has.0, tt))), (ap not has.1, (ap not b, tt))))
+      let chains = few-each (λ seen. (chain_line ring seen).allowed) 65536 (is_chain ring) (λ c. are_small c.steps) (λ seen x lt a b. chain-fits seen x (record { room = lt; chain = a; small = b }))
       [] v.chains 65536 (omega arith) suits.few_chains suits.chains is.chains in
       (tt, (facts, (chains, tt)))
 

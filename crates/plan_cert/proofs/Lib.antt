@@ -4,3 +4,4 @@ pub mod Written
 pub mod CertForm
 pub mod CertLaws
 pub mod CertLates
+pub mod PlainLaws

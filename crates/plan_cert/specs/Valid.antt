@@ -1,5 +1,5 @@
 -- Which certificates a text can say.
-use Rattle.std.specs.Prelude.{◌≡◌, ℕ, ◌≤◌, Bool, true, ◌&&◌, nat_le, List, length, is_some}
+use Rattle.std.specs.Prelude.{◌≡◌, ℕ, ◌<◌, ◌≤◌, Bool, true, ◌&&◌, nat_le, List, length, is_some}
 use Rattle.std.specs.List.{list_all}
 use Rattle.texts.specs.Numbers.{are_small}
 use Rattle.ring_table.specs.Value.{RingValue, allowance_of}
@@ -25,3 +25,15 @@ pub record Suits (ring : RingValue) (v : Cert) : Type 0 where
   pub facts : list_all is_fact v.facts ≡ true
   pub few_chains : length v.chains ≤ 65536
   pub chains : list_all (is_chain ring) v.chains ≡ true
+
+-- the steps can be the next fact after those seen
+pub record IsNextFact (seen : List (List ℕ)) (path : List ℕ) : Type 0 where
+  pub room : length seen < 262144
+  pub fact : is_fact path ≡ true
+  pub small : are_small path ≡ true
+
+-- the chain can be the next one after those seen
+pub record IsNextChain (ring : RingValue) (seen : List Chain) (c : Chain) : Type 0 where
+  pub room : length seen < 65536
+  pub chain : is_chain ring c ≡ true
+  pub small : are_small c.steps ≡ true

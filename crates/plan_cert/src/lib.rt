@@ -4,6 +4,7 @@
 mod cert;
 mod chains;
 mod lines;
+mod plain;
 mod reading;
 mod writing;
 

@@ -15,6 +15,7 @@ ghost use Rattle.plan_cert.specs.declared.cert.Cert.{Cert};
 use crate::cert::Cert;
 use crate::chains::Chains;
 use crate::lines::{ChainLine, chain_line, fact_line};
+use crate::plain::{take_chain, take_fact};
 use ring_names::{Refusal, Rows};
 use ring_table::Ring;
 use std::alloc::Global;
@@ -56,7 +57,12 @@ fn read_facts(alloc: Global, facts: &mut Rows, lines: &mut Lines) -> Result<(), 
     ensures late { Late 1 result lines.old lines.new
         (many_from (is_word (codes "fact")) fact_at facts.old lines.old.line lines.old.lines) }
 {
+    // the steps of the next fact
+    let mut steps = Vec::new(alloc);
     'facts: while lines.begins(b"fact") {
+        if take_fact(facts, lines, &mut steps) {
+            continue 'facts;
+        }
         let fields = lines.next()?;
         let path = fact_line(facts, fields)?;
         add_fact(alloc, facts, path)?;
@@ -85,7 +91,12 @@ fn read_chains(
     ensures late { Late 1 result lines.old lines.new
         (many_from (begins_chain ring.now) (chain_at ring.now) chains.old lines.old.line lines.old.lines) }
 {
+    // the steps of the next chain
+    let mut steps = Vec::new(alloc);
     'chains: while begins_chain(ring, lines) {
+        if take_chain(ring, chains, lines, &mut steps) {
+            continue 'chains;
+        }
         let fields = lines.next()?;
         let said = chain_line(ring, chains, fields)?;
         add_chain(alloc, chains, said)?;
