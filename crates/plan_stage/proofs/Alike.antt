@@ -20,7 +20,7 @@ use Rattle.plan_stage.proofs.Asking.{all-same}
 
 -- ---- clauses that fail first alike
 
--- the first refusal, or the second where there is none
+-- the first refusal, or the second if there is none
 abbrev or_later : Option Refusal → Option Refusal → Option Refusal
 or_later None p = p
 or_later (Some e) p = Some e
@@ -113,7 +113,7 @@ has_dropped-alike ring plan O P same p t x =
     each_below-alike (λ j. has_dropped_slot ring plan O t (record { partition = p; index = j }) x) (λ j. has_dropped_slot ring plan P t (record { partition = p; index = j }) x)
     (λ j. dropped_slot-alike ring plan O P same t (record { partition = p; index = j }) x) ring.n
 
--- ---- the clauses of a step, of a slot and of a partition
+-- ---- clauses of a step, a slot and a partition
 
 pub step-alike : (ring : RingValue) (plan : List Planned) (O P : Test) → ((a b : ℕ) → O a b ≡ P a b) → (p n : ℕ) (s : Step) → first_failing (step_clauses ring plan O p n s) ≡ first_failing (step_clauses ring plan P p n s)
 step-alike ring plan O P same p n (Join x) = refl

@@ -25,7 +25,7 @@ pub below-none : (f : ℕ → List (Bool × Refusal)) → first_failing (below f
 unfolding below
 below-none f = refl
 
--- one more number's clauses, after those below it hold
+-- if the clauses of all numbers below n hold, those of n decide
 pub below-then : (f : ℕ → List (Bool × Refusal)) (n : ℕ) → first_failing (below f n) ≡ None → first_failing (below f (n + 1)) ≡ first_failing (f n)
 unfolding below
 below-then f n h = rw add-one (first-then (below f n) (f n) h)
@@ -45,14 +45,14 @@ below-at f e k n h l here =
     let r = below-kept f e (k + 1) (n - (k + 1)) g in
     rw s at r
 
-first-split : (cs ds : List (Bool × Refusal)) → first_failing (cs ++ ds) ≡ None → (first_failing cs ≡ None) × (first_failing ds ≡ None)
+pub first-split : (cs ds : List (Bool × Refusal)) → first_failing (cs ++ ds) ≡ None → (first_failing cs ≡ None) × (first_failing ds ≡ None)
 first-split [] ds h = (refl, h)
 first-split (c ∷ cs) ds h =
     let m = met c.0 c.1 (first_failing (cs ++ ds)) h in
     let s = first-split cs ds m.1 in
     (rw (m.0, s.0) refl, s.1)
 
--- no clause fails exactly where none of any number fails
+-- no clause fails exactly if none of any number fails
 pub below-met : (f : ℕ → List (Bool × Refusal)) (n : ℕ) → first_failing (below f n) ≡ None → (k : ℕ) → k < n → first_failing (f k) ≡ None
 unfolding below
 below-met f zero h k l = absurd (omega arith)

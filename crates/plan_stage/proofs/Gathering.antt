@@ -137,7 +137,7 @@ slot-stays ring plan slot old new g h = record {
   steps = λ n is. step-stays plan n old new g (h.steps n is);
 }
 
--- the retirement of the slot's first owner is there, whoever that is
+-- the retirement of the slot's first owner is there, whichever node that is
 pub owner-has : (plan : List Planned) (o : Option NodeId) (y x : NodeId) (numbers : List ℕ) → o ≡ Some y → o ≡ Some x → HasRetirement plan y numbers → HasRetirement plan x numbers
 owner-has plan o y x numbers e f h = (let same_node : x ≡ y = cc in rw same_node h)
 

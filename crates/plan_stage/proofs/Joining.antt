@@ -16,7 +16,7 @@ abbrev pub comes_before : Test → Option ℕ → ℕ → Bool
 comes_before O None t = false
 comes_before O (Some j) t = O j t
 
--- whether one joins the node is asked of its step, and of those behind it
+-- whether a step joins the node is asked of the first step, and of those behind it
 in_front : (x : ℕ) (s : Step) (rest : List ℕ) → has x (joins s ++ rest) ≡ (is_join_of x s || has x rest)
 in_front x (Join y) rest = refl
 in_front x (Mirror t y) rest = refl
@@ -60,6 +60,6 @@ joins_first O x t n (p ∷ ps) h =
     (λ is. none_joins O x t (n + 1) ps (once x p.step (joined ps) h is))
     (λ other. joins_first O x t (n + 1) ps (behind p.step (joined ps) h))
 
--- where no node joins twice, some step joins the node before step t just where the first one does
+-- if no node joins twice, some step joins the node before step t exactly if the first one does
 pub joins-join_of : (O : Test) (plan : List Planned) (x t : ℕ) → all_different (joined plan) ≡ true → some_step (λ j s. is_join_of x s && O j t) 0 plan ≡ comes_before O (join_of plan x) t
 joins-join_of O plan x t h = joins_first O x t 0 plan h

@@ -1,4 +1,4 @@
--- What is asked of the first holdings that are kept and of the others is what is asked of all of them.
+-- What is asked of all holdings is what is asked of the first, which are kept, and then of the others.
 use Rattle.std.proofs.Common.{◌≡◌, ◌∙◌, Bool, true, false, List, [], ◌∷◌, ◌++◌, Option, Some, None, refl, sym, ap}
 use Rattle.std.specs.Prelude.{ℕ, ◌&&◌, reverse}
 use Rattle.std.specs.List.{list_all}

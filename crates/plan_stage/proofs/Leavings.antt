@@ -1,4 +1,4 @@
--- In a slot whose steps fit, a node leaves at a switch, and which one is known from the switches alone.
+-- In a slot whose steps fit, a node leaves at a switch, and the switches suffice to know which one.
 use Rattle.std.proofs.Common.{◌≡◌, ◌∙◌, ℕ, Bool, true, false, not, cond, List, [], ◌∷◌, Option, Some, None, refl, sym, ap, subst}
 use Rattle.std.specs.Prelude.{◌==◌, ◌&&◌, slice_get, option_map, unwrap_or, is_some}
 use Rattle.std.proofs.lemmas.Bool.{and_parts, not-true}

@@ -1,4 +1,4 @@
--- What is noted of a step's clauses, and of those of a partition.
+-- What is noted of the clauses for a step and for a partition.
 use Rattle.std.proofs.Common.{◌≡◌, ◌⊎◌, ℕ, Bool, true, false, cond, List, [], ◌∷◌, Option, Some, None, refl, sym, subst, inl, inr, eqb-true}
 use Rattle.std.specs.Prelude.{◌||◌, ◌==◌}
 use Rattle.std.specs.List.{list_all}

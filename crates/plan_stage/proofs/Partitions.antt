@@ -1,4 +1,4 @@
--- The clauses of a partition: those of its slots, and then those of the plan's steps.
+-- The clauses of a partition: for its slots, and then for the plan's steps.
 use Rattle.std.proofs.Common.{◌≡◌, ℕ, ◌-◌, List, [], ◌∷◌, ◌++◌, length, Some, None, sym, ◌∙◌}
 use Rattle.std.specs.Prelude.{◌||◌, ◌==◌, slice_index, Result, Ok, Err}
 use Rattle.ring_names.specs.declared.ids.Slot.{Slot}

@@ -54,7 +54,7 @@ place_from k (x ∷ xs) slot j l = by (is_on slot x.step) j l (λ i m. place_fro
 pub place : (plan : List Planned) (slot : Slot) (j : ℕ) → j < length (steps_of plan slot) → count_below (get_or (steps_of plan slot) j 0) (steps_of plan slot) ≡ j
 place plan slot j l = place_from 0 plan slot j l
 
--- ---- a test that all steps of other slots pass asks the slot's own steps alone
+-- ---- a test that all steps of other slots pass asks only the slot's own steps
 
 own_from : (plan : List Planned) (slot : Slot) (f : ℕ → Step → Bool) (g : ℕ → Bool) → ((n : ℕ) (s : Step) → is_on slot s ≡ false → f n s ≡ true) → ((n : ℕ) (s : Step) → step_at plan n ≡ Some s → is_on slot s ≡ true → f n s ≡ g n)
     → (k : ℕ) (xs : List Planned) → ((i : ℕ) → step_at plan (k + i) ≡ step_at xs i) → each_step f k xs ≡ list_all g (steps_from k xs slot)

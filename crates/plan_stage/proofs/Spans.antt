@@ -32,7 +32,7 @@ mirrored slot x a (Switch s) e = absurd cc
 mirrored slot x a (Drop s y) e = absurd cc
 mirrored slot x a (Retire y) e = absurd cc
 
--- one step of the slot, of which it is known whether it mirrors the node
+-- one step of the slot, if it is known whether the step mirrors the node
 span-step : (plan : List Planned) (slot : Slot) (x : NodeId) (a : Stage) (b : ℕ) (bs : List ℕ) (v : Bool) → (v ≡ true → leaving plan x a bs ≡ second_switch plan slot bs) → holdings_from plan slot x a bs ≡ spans plan slot x bs
     → cond v (record { begin = Some b; end = leaving plan x a bs; drop = dropping plan x slot bs } ∷ holdings_from plan slot x a bs) (holdings_from plan slot x a bs)
     ≡ cond v (record { begin = Some b; end = second_switch plan slot bs; drop = dropping plan x slot bs } ∷ spans plan slot x bs) (spans plan slot x bs)

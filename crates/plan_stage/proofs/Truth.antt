@@ -19,7 +19,7 @@ use Rattle.plan_stage.specs.Partition.{steps_clauses}
 
 -- ---- truth values
 
--- a test that is asked for only where another holds
+-- a test that is asked for only if another holds
 pub where_asked : (a b : Bool) → (not a || b) ≡ true → a ≡ true → b ≡ true
 where_asked true b h k = h
 where_asked false b h k = absurd cc
@@ -54,7 +54,7 @@ together (c ∷ cs) ds h k =
     let m = met c.0 c.1 (first_failing cs) h in
     push c.0 c.1 (first_failing (cs ++ ds)) m.0 (together cs ds m.1 k)
 
--- tests that are asked for only where another holds
+-- tests that are asked for only if another holds
 pub asked-met : (a : Bool) (cs : List Guard) → first_failing (cond a cs []) ≡ None → a ≡ true → first_failing cs ≡ None
 asked-met true cs h k = h
 asked-met false cs h k = absurd cc

@@ -28,7 +28,7 @@ below clauses (suc n) = below clauses n ++ clauses n
 abbrev pub is_staged : List Planned → Stage → List ℕ → ℕ → Bool
 is_staged plan a numbers k = fits_at plan a (slice_index numbers k)
 
--- the result is `Ok` where no test fails, and otherwise the first refusal; but memory may be refused
+-- the result is `Ok` if no test fails, and otherwise the first refusal; but memory may be refused
 abbrev pub Gives : Result (Unit {0}) Refusal → List (Bool × Refusal) → Type 0
 Gives r clauses = MatchResult r (λ _. first_failing clauses ≡ None) (λ e. (e ≡ OutOfMemory → ⊥) → first_failing clauses ≡ Some e)
 

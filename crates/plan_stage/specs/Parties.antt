@@ -32,7 +32,7 @@ abbrev pub owners_before : RingValue → List Planned → ℕ → List Slot → 
 owners_before ring plan n [] = []
 owners_before ring plan n (slot ∷ slots) = with_node (stage_before ring plan slot n).owner (owners_before ring plan n slots)
 
--- the owners of the source slots of step n; none where it is no copy
+-- the owners of the source slots of step n; none if it is not a copy
 abbrev pub sources_of : RingValue → List Planned → ℕ → Step → List NodeId
 sources_of ring plan n s = elim (copy_of s) [ Some c ↦ owners_before ring plan n (source_slots c.0 c.1) | None ↦ [] ]
 
@@ -45,7 +45,7 @@ abbrev pub with_target : Option NodeId → List NodeId → List NodeId
 with_target None xs = xs
 with_target (Some x) xs = with_node x xs
 
--- of the mirror and the others those whose side it is: both, the one that receives, or those that are read
+-- the nodes whose side it is, of the mirror and the others: both, the receiver, or the nodes that are read
 abbrev pub on_side : Side → Option NodeId → List NodeId → List NodeId
 on_side Both target sources = with_target target sources
 on_side Take target sources = with_target target []

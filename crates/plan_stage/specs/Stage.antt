@@ -47,7 +47,7 @@ next a (Drop s x) = record { owner = a.owner; mirror = a.mirror; copied = a.copi
 next a (Join x) = a
 next a (Retire x) = a
 
--- at first the ring's owner is alone
+-- at first there is only the ring's owner
 abbrev pub opening : RingValue → Slot → Stage
 opening ring slot = record { owner = unwrap_or (owner_of ring slot) (record { 0 = 0 }); mirror = None; copied = false; leftovers = [] }
 

@@ -1,4 +1,4 @@
-//! Whether a partition meets what a sound plan must, and the stage of a slot.
+//! The test of a partition's clauses, and the stage of a slot.
 
 ghost use Rattle.std.specs.Prelude.{◌≡◌, ◌<◌, IfOk, IfErr, true, length, nat_lt, slice_index, EachIndex};
 ghost use Rattle.std.specs.List.{list_all};
@@ -24,9 +24,10 @@ use ring_names::{Refusal, Slot};
 use ring_table::Ring;
 use std::alloc::Global;
 
-/// Tests what a partition must meet, and answers with the first refusal: each of its slots by index and the slot's steps by
-/// number, then the plan's steps by number. It reads the partition's steps alone, and the retirements of the nodes that hold
-/// its slots, and costs a look-up for each pair of steps that it compares.
+/// Tests a partition's clauses in order: its slots by index with their steps by number, then the plan's steps
+/// by number.
+///
+/// Reads only the partition's steps, and the retirements of the nodes that hold its slots.
 pub fn check_partition(
     alloc: Global,
     ring: &Ring,
@@ -42,7 +43,6 @@ pub fn check_partition(
     check_in(alloc, &Context { ring, plan, facts }, partition)
 }
 
-// Tests what a partition must meet, in a context.
 fn check_in(alloc: Global, context: &Context, partition: u32) -> Result<(), Refusal>
     requires { partition < context.now.ring.now.q }
     ensures { Gives result (partition_clauses context.now.ring.now context.now.plan.now (order context.now) partition) }
@@ -63,7 +63,6 @@ pub(crate) fn check_slots(alloc: Global, context: &Context, partition: u32) -> R
     Ok(())
 }
 
-// Tests whether the steps of one slot act in order.
 fn check_slot(alloc: Global, context: &Context, slot: Slot) -> Result<(), Refusal>
     requires partition { slot.partition < context.now.ring.now.q }
     requires index { slot.index < context.now.ring.now.n }
@@ -78,7 +77,7 @@ fn check_slot(alloc: Global, context: &Context, slot: Slot) -> Result<(), Refusa
     Ok(())
 }
 
-// Tests the slot's k-th step, before it acts.
+// Tests the slot's k-th step before it acts.
 fn check_place(walk: &Walk, context: &Context, numbers: &[u32], k: usize) -> Result<(), Refusal>
     requires k { k < length numbers.now }
     requires within { EachIndex numbers.now (λ i. slice_index numbers.now i < length context.now.plan.now) }
@@ -94,7 +93,6 @@ fn check_place(walk: &Walk, context: &Context, numbers: &[u32], k: usize) -> Res
     Ok(())
 }
 
-// Tests each step of the plan that the partition has to look at.
 fn check_steps(alloc: Global, context: &Context, partition: u32) -> Result<(), Refusal>
     requires partition { partition < context.now.ring.now.q }
     requires staged { IsStagedIn context.now.ring.now context.now.plan.now partition }
@@ -106,7 +104,6 @@ fn check_steps(alloc: Global, context: &Context, partition: u32) -> Result<(), R
     check_numbers(context, &holdings, partition, numbers.as_slice())
 }
 
-// Tests the steps of these numbers.
 fn check_numbers(
     context: &Context,
     holdings: &Holdings,
@@ -126,7 +123,7 @@ fn check_numbers(
     Ok(())
 }
 
-/// The stage of a slot after its first `k` steps, or after all of them where it has fewer.
+/// Returns the stage of a slot after its first `k` steps, or after all if it has fewer.
 pub fn stage_at(
     alloc: Global,
     ring: &Ring,

@@ -1,4 +1,4 @@
-//! What one step of a partition must meet.
+//! The clauses of one step.
 
 ghost use Rattle.std.specs.Prelude.{◌≡◌, ◌<◌, ◌||◌, ◌&&◌, ◌==◌, not, true, length, slice_get, option_map, Some, nat_lt};
 ghost use Rattle.std.specs.Prelude.{nat_le, EachIndex, slice_index, reverse};
@@ -22,14 +22,12 @@ use plan_order::Context;
 use plan_text::{Plan, Source, Step};
 use ring_names::{NodeId, Refusal, Slot};
 
-// Whether the number is one of these.
 fn is_among(number: u32, numbers: &[u32]) -> bool
     ensures { result ≡ list_any (λ x. number == x) numbers.now }
 {
     numbers.iter().any(|other| number == *other)
 }
 
-// Whether no number stands twice.
 #[tactic(auto, using(crate::proofs::Slots::any_has))]
 fn are_different(numbers: &[u32]) -> bool
     ensures { result ≡ all_different numbers.now }
@@ -42,7 +40,6 @@ fn are_different(numbers: &[u32]) -> bool
     new && different
 }
 
-// Whether there is such a step, and it comes before the other.
 fn ends_before(context: &Context, end: Option<u32>, number: u32) -> bool
     ensures { result ≡ ends_before (order context.now) end number }
 {
@@ -52,14 +49,13 @@ fn ends_before(context: &Context, end: Option<u32>, number: u32) -> bool
     }
 }
 
-// Whether the step of that number is a switch.
 fn switches(plan: &Plan, number: u32) -> bool
     ensures { result ≡ switches plan.now number }
 {
     number < plan.len() && matches!(plan.step(number), Step::Switch(_))
 }
 
-// Whether the step of a slot is no switch of it, or comes before or after the other step.
+// Whether the other step is not a switch, or comes before or after the step.
 fn settles(context: &Context, number: u32, other: u32) -> bool
     ensures { result ≡ is_settling context.now.plan.now (order context.now) number other }
 {
@@ -68,14 +64,12 @@ fn settles(context: &Context, number: u32, other: u32) -> bool
         || context.ordered(number, other)
 }
 
-// Whether each switch among these steps comes before or after the step.
 fn are_settled(context: &Context, number: u32, others: &[u32]) -> bool
     ensures { result ≡ list_all (is_settling context.now.plan.now (order context.now) number) others.now }
 {
     others.iter().all(|other| settles(context, number, *other))
 }
 
-// Whether each switch of the slot comes before or after the step.
 fn is_settled_slot(context: &Context, number: u32, slot: Slot) -> bool
     ensures { result ≡ each_step (λ m s. not (is_switch_of slot s) ||
         (order context.now m number || order context.now number m)) 0 context.now.plan.now }
@@ -83,7 +77,6 @@ fn is_settled_slot(context: &Context, number: u32, slot: Slot) -> bool
     are_settled(context, number, context.plan.slot_steps(slot))
 }
 
-// Whether each switch of a listed slot comes before or after the step.
 fn is_settled(context: &Context, number: u32, slot: Slot, from: &[u32]) -> bool
     ensures { result ≡ is_settled context.now.plan.now (order context.now) number slot from.now }
 {
@@ -96,7 +89,6 @@ fn is_settled(context: &Context, number: u32, slot: Slot, from: &[u32]) -> bool
     })
 }
 
-// Whether the holding begins at the start or before the step.
 fn begins_before(holding: &Holding, number: u32) -> bool
     ensures { result ≡ begins_before number holding.now }
 {
@@ -106,8 +98,7 @@ fn begins_before(holding: &Holding, number: u32) -> bool
     }
 }
 
-// Whether those of these holdings that begin before the step, from the last on, are ended by then. It stops at the first that
-// begins later.
+// Whether the holdings that begin before the step have ended by then. Goes from the last on, and stops at the first that begins later.
 fn are_left(context: &Context, number: u32, held: &[Holding]) -> bool
     ensures { result ≡ are_left (order context.now) number (reverse held.now) }
 {
@@ -117,7 +108,7 @@ fn are_left(context: &Context, number: u32, held: &[Holding]) -> bool
         .all(|holding| ends_before(context, holding.end, number))
 }
 
-// Whether those of the node among these that begin before the step are ended by then.
+// Whether the node's holdings that begin before the step have ended by then.
 fn are_first_left(context: &Context, number: u32, node: NodeId, found: &[Found]) -> bool
     ensures { result ≡ list_all (is_left_before (order context.now) number) (held_among found.now node) }
 {
@@ -130,7 +121,6 @@ fn are_first_left(context: &Context, number: u32, node: NodeId, found: &[Found])
         })
 }
 
-// Whether the node has left the slot of which this is kept, where it served it from the start or from an earlier step on.
 fn has_left_held(context: &Context, number: u32, node: NodeId, held: &Held) -> bool
     ensures { result ≡ has_left_held (order context.now) number node held.now }
 {
@@ -139,7 +129,7 @@ fn has_left_held(context: &Context, number: u32, node: NodeId, held: &Held) -> b
 }
 
 impl Holdings {
-    // Whether the node has left the slot of that index, where it served it from the start or from an earlier step on.
+    // Whether the node has left the slot, if it served it before the step.
     fn has_left_at(&self, context: &Context, number: u32, node: NodeId, index: u32) -> bool
         ensures { result ≡ has_left_at (order context.now) number self.now index node }
     {
@@ -150,7 +140,6 @@ impl Holdings {
     }
 }
 
-// Whether what all these holdings held is dropped by the step.
 fn are_dropped(context: &Context, number: u32, held: &[Holding]) -> bool
     ensures { result ≡ list_all (is_dropped_before (order context.now) number) held.now }
 {
@@ -158,7 +147,7 @@ fn are_dropped(context: &Context, number: u32, held: &[Holding]) -> bool
         .all(|holding| ends_before(context, holding.drop, number))
 }
 
-// Whether what the node held by those of these that are its own is dropped by the step.
+// Whether what the node held is dropped by the step.
 fn are_first_dropped(context: &Context, number: u32, node: NodeId, found: &[Found]) -> bool
     ensures { result ≡ list_all (is_dropped_before (order context.now) number) (held_among found.now node) }
 {
@@ -169,7 +158,6 @@ fn are_first_dropped(context: &Context, number: u32, node: NodeId, found: &[Foun
         .all(|holding| ends_before(context, holding.drop, number))
 }
 
-// Whether the node has dropped what it held of the slot of that index.
 fn is_dropped_at(
     context: &Context,
     holdings: &Holdings,
@@ -188,7 +176,7 @@ fn is_dropped_at(
     }
 }
 
-// Whether the node has left each other slot of the partition that it served from the start or from an earlier step on.
+// Whether the node has left each other slot of the partition that it served before the step.
 fn has_left(context: &Context, holdings: &Holdings, number: u32, slot: Slot, node: NodeId) -> bool
     requires { AreHeld context.now.ring.now context.now.plan.now slot.partition holdings.now }
     ensures { result ≡ has_left context.now.ring.now context.now.plan.now (order context.now) number slot node }
@@ -201,7 +189,6 @@ fn has_left(context: &Context, holdings: &Holdings, number: u32, slot: Slot, nod
     true
 }
 
-// Whether the node has dropped all that it held of the partition.
 fn has_dropped(
     context: &Context,
     holdings: &Holdings,
@@ -220,7 +207,6 @@ fn has_dropped(
     true
 }
 
-// Tests a step that mirrors a slot to a node.
 fn check_mirror(
     context: &Context,
     holdings: &Holdings,
@@ -241,7 +227,6 @@ fn check_mirror(
     Ok(())
 }
 
-// Tests a step that copies from listed slots.
 fn check_listed(context: &Context, number: u32, slot: Slot, from: &[u32]) -> Result<(), Refusal>
     ensures { Gives result
         (copy_clauses context.now.ring.now context.now.plan.now (order context.now) number slot from.now) }
@@ -255,7 +240,6 @@ fn check_listed(context: &Context, number: u32, slot: Slot, from: &[u32]) -> Res
     Ok(())
 }
 
-// Tests a step that copies to the slot's mirror.
 fn check_copy(context: &Context, number: u32, slot: Slot, source: &Source) -> Result<(), Refusal>
     ensures { Gives result (step_clauses context.now.ring.now context.now.plan.now
         (order context.now) slot.partition number (Copy slot source.now)) }
@@ -266,7 +250,7 @@ fn check_copy(context: &Context, number: u32, slot: Slot, source: &Source) -> Re
     }
 }
 
-/// Tests what the step of that number must meet in the partition. Costs a look-up for each pair of steps that it compares.
+/// Tests the step's clauses in the partition.
 pub fn check_step(
     context: &Context,
     holdings: &Holdings,

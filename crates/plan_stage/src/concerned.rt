@@ -13,7 +13,7 @@ use ring_names::{NodeId, Refusal, Slot};
 use ring_table::Ring;
 use std::alloc::Global;
 
-/// The numbers of the steps that a partition has to look at, ascending. Costs a sort of those of its slots.
+/// Returns the numbers of the steps that a partition has to look at, ascending. Costs a sort.
 pub fn concerned(
     alloc: Global,
     ring: &Ring,
@@ -30,7 +30,7 @@ pub fn concerned(
     Ok(numbers)
 }
 
-/// Puts the numbers in ascending order, each once. Costs a sort of them.
+/// Sorts the numbers, and keeps each once.
 pub fn put_in_order(numbers: &mut Vec<u32>)
     ensures ascending { ascending numbers.new.items ≡ true }
     ensures same { (n : ℕ) → has n numbers.new.items ≡ has n numbers.old.items }
@@ -39,7 +39,6 @@ pub fn put_in_order(numbers: &mut Vec<u32>)
     numbers.dedup();
 }
 
-// What each slot of the partition has to look at.
 fn gather(alloc: Global, ring: &Ring, plan: &Plan, partition: u32) -> Result<Vec<u32>, Refusal>
     requires { partition < ring.now.q }
     ensures ok { IfOk result (λ numbers. IsGathered ring.now plan.now partition numbers.items) }
@@ -52,7 +51,7 @@ fn gather(alloc: Global, ring: &Ring, plan: &Plan, partition: u32) -> Result<Vec
     Ok(numbers)
 }
 
-// Adds the mirrors and copies of the slot, and the retirements of its first owner and of the nodes that are mirrored.
+// Adds the slot's mirrors and copies, and the retirements of its first owner and of mirrored nodes.
 fn add_slot(numbers: &mut Vec<u32>, ring: &Ring, plan: &Plan, slot: Slot) -> Result<(), Refusal>
     requires partition { slot.partition < ring.now.q }
     requires index { slot.index < ring.now.n }
@@ -69,7 +68,7 @@ fn add_slot(numbers: &mut Vec<u32>, ring: &Ring, plan: &Plan, slot: Slot) -> Res
     Ok(())
 }
 
-// Adds the step if it is a mirror or a copy, and for a mirror the retirement of the node.
+// Adds the step if it is a mirror or a copy, and for a mirror also the node's retirement.
 fn add_step(numbers: &mut Vec<u32>, plan: &Plan, number: u32) -> Result<(), Refusal>
     requires { number < length plan.now }
     ensures grows { OnOk result (Grows plan.now numbers.old.items numbers.new.items) }
@@ -86,7 +85,6 @@ fn add_step(numbers: &mut Vec<u32>, plan: &Plan, number: u32) -> Result<(), Refu
     }
 }
 
-// Adds the step that retires the node, if there is one.
 fn add_retirement(numbers: &mut Vec<u32>, plan: &Plan, node: NodeId) -> Result<(), Refusal>
     ensures grows { OnOk result (Grows plan.now numbers.old.items numbers.new.items) }
     ensures retirement { OnOk result (HasRetirement plan.now node numbers.new.items) }
@@ -98,7 +96,6 @@ fn add_retirement(numbers: &mut Vec<u32>, plan: &Plan, node: NodeId) -> Result<(
     }
 }
 
-// Adds the number of a step.
 fn add_number(numbers: &mut Vec<u32>, plan: &Plan, number: u32) -> Result<(), Refusal>
     requires { number < length plan.now }
     ensures grows { OnOk result (Grows plan.now numbers.old.items numbers.new.items) }

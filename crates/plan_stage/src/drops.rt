@@ -18,8 +18,7 @@ pub struct Dropped {
     pub number: u32,
 }
 
-/// The drop that was set last for each node. The first few that are set take no memory, and are no longer looked at where the
-/// node is among the others.
+/// The drop that was set last for each node. The first few take no memory.
 #[derive(Drop)]
 pub struct Drops {
     alloc: Global,
@@ -28,7 +27,7 @@ pub struct Drops {
 }
 
 impl Drops {
-    /// No node drops anything.
+    /// Returns an empty set of drops.
     pub fn new(alloc: Global) -> Drops
         ensures { (x : TheNode) → dropped_in result x ≡ None }
     {
@@ -42,7 +41,7 @@ impl Drops {
         }
     }
 
-    /// The drop of the node, if there is one.
+    /// Returns the drop of the node, if there is one.
     pub fn get(&self, node: NodeId) -> Option<u32>
         ensures { result ≡ dropped_in self.now node }
     {

@@ -1,10 +1,10 @@
-//! A few values that take no memory of their own.
+//! A few values without an allocation.
 
 ghost use Rattle.std.specs.Prelude.{◌≡◌, [], ◌∷◌, ◌++◌, length, nat_lt, if◌then◌else◌};
 
 use std::marker::Model;
 
-/// At most four values, in the order in which they were put.
+/// At most four values, in the order in which they were added.
 #[derive(Drop)]
 pub struct Few<T> {
     places: [T; 4],
@@ -22,7 +22,7 @@ impl<T> Model for Few<T> {
 }
 
 impl<T: Copy> Few<T> {
-    /// No value: the filler stands in each place until a value does.
+    /// Returns an empty list. The filler stands in unused places.
     pub fn new(filler: T) -> Few<T>
         ensures { result ≡ [] }
     {
@@ -32,7 +32,7 @@ impl<T: Copy> Few<T> {
         }
     }
 
-    /// Puts the value last where there is a place for it, and says whether there was.
+    /// Adds the value if there is room, and returns whether there was.
     pub fn try_push(&mut self, value: T) -> bool
         ensures place { result ≡ nat_lt (length self.old) 4 }
         ensures items { self.new ≡ (if result then self.old ++ value ∷ [] else self.old) }

@@ -11,14 +11,14 @@ use crate::holding::Holding;
 use ring_names::{Lists, NodeId, Refusal};
 use std::alloc::Global;
 
-/// A node, and one time for which it holds versions of the slot.
+/// A node, and one of its holdings of the slot.
 #[derive(Clone, Copy)]
 pub struct Found {
     pub node: NodeId,
     pub holding: Holding,
 }
 
-/// What each node holds of one slot. The first few that are added take no memory; the others stand apart, so that it is small.
+/// What each node holds of one slot. The first few holdings take no memory.
 #[derive(Drop)]
 pub struct Held {
     alloc: Global,
@@ -27,7 +27,7 @@ pub struct Held {
 }
 
 impl Held {
-    /// No node holds anything.
+    /// Returns an empty set of holdings.
     pub fn new(alloc: Global) -> Held
         ensures { (x : TheNode) → held_of result x ≡ [] }
     {
@@ -46,7 +46,7 @@ impl Held {
         }
     }
 
-    /// Puts one more last among those of its node.
+    /// Adds a holding after the others of its node.
     pub fn add(&mut self, node: NodeId, holding: Holding) -> Result<(), Refusal>
         ensures ok { OnOk result ((x : TheNode) → held_of self.new x
             ≡ (if is_node x node then held_of self.old x ++ holding ∷ [] else held_of self.old x)) }
@@ -65,14 +65,14 @@ impl Held {
         }
     }
 
-    /// Those that were added first, of all nodes.
+    /// Returns the first few holdings, of all nodes.
     pub fn first(&self) -> &[Found]
         ensures { result.now ≡ self.now.first }
     {
         self.first.as_slice()
     }
 
-    /// Those of the node that were added later.
+    /// Returns the node's later holdings.
     pub fn others(&self, node: NodeId) -> &[Holding]
         ensures { result.now ≡ held_beside self.now.others node }
     {

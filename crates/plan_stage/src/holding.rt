@@ -1,4 +1,4 @@
-//! How long nodes hold versions of the slots of a partition.
+//! How long nodes hold versions of a partition's slots.
 
 ghost use Rattle.std.specs.Prelude.{◌≡◌, ◌<◌, IfOk, IfErr, option_copied, slice_get};
 ghost use Rattle.ring_names.specs.declared.refusal.Refusal.TheVariants.{OutOfMemory};
@@ -12,18 +12,18 @@ use ring_names::{Refusal, Slot};
 use ring_table::Ring;
 use std::alloc::Global;
 
-/// One time for which a node holds versions of a slot. Steps are told by their numbers.
+/// One period for which a node holds versions of a slot, by step numbers.
 #[derive(Clone, Copy, Debug)]
 pub struct Holding {
-    /// The step that mirrored the slot to the node; none where the node owned it before the first step.
+    /// The step that mirrored the slot to the node. None if the node owned it from the start.
     pub begin: Option<u32>,
-    /// The step after which the node no longer owns the slot that it owned, if there is one.
+    /// The step after which the node no longer owns the slot, if there is one.
     pub end: Option<u32>,
-    /// The next step in which the node drops what it has of the slot, if there is one.
+    /// The next step in which the node drops the slot's versions, if there is one.
     pub drop: Option<u32>,
 }
 
-// What each node holds of one slot, the last holding first. Costs one pass over the slot's steps.
+// What each node holds of one slot, the last holding first. Takes one pass over the slot's steps.
 fn slot_holdings(alloc: Global, ring: &Ring, plan: &Plan, slot: Slot) -> Result<Held, Refusal>
     requires partition { slot.partition < ring.now.q }
     requires index { slot.index < ring.now.n }
@@ -48,7 +48,7 @@ pub struct Holdings {
 }
 
 impl Holdings {
-    /// The holdings of one partition. Costs one pass over the steps of its slots.
+    /// Returns what nodes hold of a partition, by one pass over the steps of its slots.
     pub fn of(alloc: Global, ring: &Ring, plan: &Plan, partition: u32) -> Result<Holdings, Refusal>
         requires partition { partition < ring.now.q }
         requires staged { IsStagedIn ring.now plan.now partition }
@@ -62,7 +62,7 @@ impl Holdings {
         Ok(Holdings { slots })
     }
 
-    /// What the nodes hold of the slot of that index, the last holding first.
+    /// Returns what the nodes hold of a slot, the last holding first.
     pub fn slot(&self, index: u32) -> Option<&Held>
         ensures { option_copied result ≡ slice_get self.now.slots.items index }
     {

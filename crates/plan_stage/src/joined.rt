@@ -1,4 +1,4 @@
-//! Whether a node is on the ring before a step.
+//! Whether a node is a member before a step.
 
 ghost use Rattle.std.specs.Prelude.{◌≡◌, ◌&&◌};
 ghost use Rattle.plan_text.specs.Steps.{is_join_of};
@@ -13,7 +13,7 @@ use plan_text::Plan;
 use ring_names::NodeId;
 use ring_table::Ring;
 
-/// Whether the node is a member at the start, or joins before the step. Takes no memory, and costs a few look-ups.
+/// Whether the node is a member at the start, or joins before the step. Takes no memory.
 pub fn has_joined(ring: &Ring, plan: &Plan, facts: &Facts, step: u32, node: NodeId) -> bool
     requires suits { Suits ring.now plan.now }
     requires facts { AreFactsOf plan.now facts.now }
@@ -23,14 +23,13 @@ pub fn has_joined(ring: &Ring, plan: &Plan, facts: &Facts, step: u32, node: Node
     has_joined_by(&context, step, node)
 }
 
-/// Whether the node is a member at the start, or joins before the step, by the ring, plan and facts of a context.
+/// As `has_joined`, by the ring, plan and facts of a context.
 pub fn has_joined_by(context: &Context, step: u32, node: NodeId) -> bool
     ensures { result ≡ has_joined context.now.ring.now context.now.plan.now (order context.now) step node }
 {
     context.ring.is_member(node) || joins_before(context, step, node)
 }
 
-// Whether the step that joins the node comes before the step.
 fn joins_before(context: &Context, step: u32, node: NodeId) -> bool
     ensures { result ≡ some_step (λ j s. is_join_of node.0 s && order context.now j step) 0 context.now.plan.now }
 {

@@ -1,4 +1,4 @@
-//! Nodes by number, of which there is mostly one at a time.
+//! A small set of nodes by number: mostly one.
 
 ghost use Rattle.std.specs.Prelude.{◌≡◌, [], IfOk, IfErr, OnOk};
 ghost use Rattle.ring_names.specs.declared.refusal.Refusal.TheVariants.{OutOfMemory};
@@ -9,12 +9,12 @@ use std::alloc::{AllocError, Global};
 use std::collections::BTreeSet;
 use std::marker::Model;
 
-/// The nodes that owned a slot and still have what it held. One alone takes no memory.
+/// The nodes that owned a slot and have not dropped it. A single one takes no memory.
 #[derive(Drop)]
 pub struct Leftovers {
-    // the node, where it is the only one
+    // the node, if it is the only one
     one: Option<NodeId>,
-    // else all of them
+    // otherwise all of them
     more: BTreeSet<NodeId>,
 }
 
@@ -31,7 +31,7 @@ impl Model for Leftovers {
 }
 
 impl Leftovers {
-    /// No nodes.
+    /// Returns the empty set.
     pub fn new(alloc: Global) -> Leftovers
         ensures { result ≡ [] }
     {
@@ -70,7 +70,7 @@ impl Leftovers {
         Ok(())
     }
 
-    /// Takes the node out, if it is there.
+    /// Removes the node, if it is there.
     pub fn remove(&mut self, node: NodeId)
         ensures { self.new ≡ without_node node self.old }
     {
@@ -86,7 +86,7 @@ impl Leftovers {
         }
     }
 
-    /// The nodes, by number.
+    /// Returns the nodes, by number.
     pub fn to_vec(&self, alloc: Global) -> Result<Vec<NodeId>, AllocError>
         ensures { IfOk result (λ list. list.items ≡ self.now) }
     {

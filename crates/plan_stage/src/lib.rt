@@ -1,6 +1,5 @@
-//! The stages through which a plan's steps take each slot, whether those steps act in order, and whether each step of a
-//! partition meets what a sound plan asks of it besides: its mirrors, its copies and the retirements of its nodes. Also who
-//! takes part in a copy.
+//! The stages through which a plan's steps take each slot, and the clauses of these steps. They say that steps
+//! act in order, and what mirrors, copies and retirements must meet. Also who takes part in a copy.
 #![tactic(auto)]
 
 mod behind;

@@ -1,18 +1,18 @@
 //! Which clauses of a partition's steps may fail: a walk that goes on after the first that does.
 
-ghost use Rattle.std.specs.Prelude.{◌≡◌, ℕ, ◌<◌, IfOk, IfErr, OnOk, Some, true, false, length, nat_lt};
+ghost use Rattle.std.specs.Prelude.{◌≡◌, ℕ, ◌<◌, IfOk, IfErr, OnOk, Some, None, true, false, length, nat_lt};
 ghost use Rattle.std.specs.List.{list_all};
 ghost use Rattle.ring_names.specs.Lists.{has};
 ghost use Rattle.ring_names.specs.declared.refusal.Refusal.{Refusal as TheRefusal};
 ghost use Rattle.ring_names.specs.declared.refusal.Refusal.TheVariants.{OutOfMemory};
 ghost use Rattle.plan_order.specs.Order.{order};
 ghost use Rattle.plan_text.specs.declared.step.Step.{Step as TheStep};
-ghost use Rattle.plan_stage.specs.Clauses.{IsStagedIn};
+ghost use Rattle.plan_stage.specs.Clauses.{IsStagedIn, first_failing};
 ghost use Rattle.plan_stage.specs.Each.{step_at};
 ghost use Rattle.plan_stage.specs.Missed.{misses, IsNoted, StaysNoted, HoldBut, HoldsBut};
-ghost use Rattle.plan_stage.specs.Partition.{step_clauses};
+ghost use Rattle.plan_stage.specs.Partition.{partition_clauses, step_clauses, steps_clauses};
 ghost use Rattle.plan_stage.specs.Looking.Held.{AreHeld};
-ghost use Rattle.plan_stage.specs.Looking.Looked.{clauses_at};
+ghost use Rattle.plan_stage.specs.Looking.Looked.{clauses_at, clauses_of};
 
 use crate::check::check_slots;
 use crate::clauses::check_step;
@@ -73,7 +73,6 @@ impl Missed {
     }
 }
 
-// Notes which clauses of one step may fail.
 fn note_step(
     context: &Context,
     holdings: &Holdings,
@@ -85,6 +84,8 @@ fn note_step(
     requires held { AreHeld context.now.ring.now context.now.plan.now partition holdings.now }
     ensures holds { OnOk result (HoldBut missed.new (clauses_at (step_clauses context.now.ring.now
         context.now.plan.now (order context.now) partition) context.now.plan.now number)) }
+    ensures clean { OnOk result (first_failing (clauses_at (step_clauses context.now.ring.now context.now.plan.now
+        (order context.now) partition) context.now.plan.now number) ≡ None → missed.new ≡ missed.old) }
     ensures stays { StaysNoted missed.old missed.new }
     ensures memory { IfErr result (λ e. e ≡ OutOfMemory) }
 {
@@ -100,7 +101,6 @@ fn note_step(
     }
 }
 
-// Notes which clauses of the steps of these numbers may fail.
 fn note_numbers(
     context: &Context,
     holdings: &Holdings,
@@ -112,6 +112,8 @@ fn note_numbers(
     requires held { AreHeld context.now.ring.now context.now.plan.now partition holdings.now }
     ensures holds { OnOk result ((n : ℕ) → has n numbers.now ≡ true → HoldBut missed.new (clauses_at
         (step_clauses context.now.ring.now context.now.plan.now (order context.now) partition) context.now.plan.now n)) }
+    ensures clean { OnOk result (first_failing (clauses_of (step_clauses context.now.ring.now context.now.plan.now
+        (order context.now) partition) context.now.plan.now numbers.now) ≡ None → missed.new ≡ missed.old) }
     ensures stays { StaysNoted missed.old missed.new }
     ensures memory { IfErr result (λ e. e ≡ OutOfMemory) }
 {
@@ -123,7 +125,6 @@ fn note_numbers(
     Ok(())
 }
 
-// Notes which clauses of the partition's steps may fail, once the steps of its slots act in order.
 fn note_steps(
     alloc: Global,
     context: &Context,
@@ -134,6 +135,8 @@ fn note_steps(
     requires staged { IsStagedIn context.now.ring.now context.now.plan.now partition }
     ensures holds { OnOk result ((n : ℕ) (s : TheStep) → step_at context.now.plan.now n ≡ Some s → HoldBut missed.new
         (step_clauses context.now.ring.now context.now.plan.now (order context.now) partition n s)) }
+    ensures clean { OnOk result (first_failing (steps_clauses (step_clauses context.now.ring.now context.now.plan.now
+        (order context.now) partition) 0 context.now.plan.now) ≡ None → missed.new ≡ missed.old) }
     ensures stays { StaysNoted missed.old missed.new }
     ensures memory { IfErr result (λ e. e ≡ OutOfMemory) }
 {
@@ -142,8 +145,10 @@ fn note_steps(
     note_numbers(context, &holdings, partition, numbers.as_slice(), missed)
 }
 
-/// Notes which kinds of clauses may fail at the partition's steps, if the steps of each of its slots act in order; whether they do. Costs what
-/// `check_partition` costs where no clause fails.
+/// Notes which kinds of clauses may fail at the partition's steps. Costs as much as a `check_partition` that
+/// says yes.
+///
+/// Returns whether the steps of each slot act in order: if not, nothing is noted.
 pub fn note_partition(
     alloc: Global,
     context: &Context,
@@ -153,6 +158,8 @@ pub fn note_partition(
     requires { partition < context.now.ring.now.q }
     ensures holds { IfOk result (λ b. b ≡ true →
         HoldsBut missed.new context.now.ring.now context.now.plan.now (order context.now) partition) }
+    ensures clean { IfOk result (λ b. first_failing (partition_clauses context.now.ring.now context.now.plan.now
+        (order context.now) partition) ≡ None → (b ≡ true) × (missed.new ≡ missed.old)) }
     ensures stays { StaysNoted missed.old missed.new }
     ensures memory { IfErr result (λ e. e ≡ OutOfMemory) }
 {
@@ -161,7 +168,9 @@ pub fn note_partition(
             note_steps(alloc, context, partition, missed)?;
             Ok(true)
         }
-        Err(Refusal::OutOfMemory) => Err(Refusal::OutOfMemory),
-        Err(_) => Ok(false),
+        Err(refusal) => match refusal {
+            Refusal::OutOfMemory => Err(refusal),
+            _ => Ok(false),
+        },
     }
 }

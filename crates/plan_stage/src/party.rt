@@ -18,8 +18,8 @@ use ring_table::{Ring, Side};
 use std::alloc::Global;
 use std::collections::BTreeSet;
 
-/// The nodes that take part in a copy, by number: its mirror, and the owners of its source slots just before it. None
-/// where the step is no copy.
+/// Returns the nodes that take part in a copy, by number: the mirror, and its sources' owners just before. None
+/// if the step is not a copy.
 pub fn parties(
     alloc: Global,
     ring: &Ring,
@@ -33,7 +33,7 @@ pub fn parties(
     parties_on(alloc, ring, plan, Side::Both, step)
 }
 
-/// The nodes from which a copy reads, by number: the owners of its source slots just before it. None where the step is no copy.
+/// Returns the nodes from which a copy reads, by number: its sources' owners just before it. None if the step is not a copy.
 pub fn sources(
     alloc: Global,
     ring: &Ring,
@@ -47,7 +47,7 @@ pub fn sources(
     parties_on(alloc, ring, plan, Side::Give, step)
 }
 
-// A step of a plan of a ring, in front of which is looked.
+// A step of a plan of a ring.
 #[derive(Clone, Copy)]
 struct Before<'a> {
     alloc: Global,
@@ -56,7 +56,7 @@ struct Before<'a> {
     step: u32,
 }
 
-// The nodes that take part in a copy on that side, by number. None where the step is no copy.
+// The nodes that take part in a copy on that side, by number. None if the step is not a copy.
 fn parties_on(
     alloc: Global,
     ring: &Ring,
@@ -85,7 +85,6 @@ fn parties_on(
     }
 }
 
-// The nodes of the step, which copies the slot.
 fn copy_parties(
     before: &Before,
     side: Side,
@@ -112,7 +111,6 @@ fn copy_parties(
     Ok(Listed::from_vec(listed(before.alloc, &party)?))
 }
 
-// These nodes, and the mirror with them.
 fn with_target(
     mut party: BTreeSet<NodeId>,
     target: Option<NodeId>,
@@ -126,7 +124,6 @@ fn with_target(
     Ok(party)
 }
 
-// The owners of the slots from which the step copies, just before it.
 fn owners_before(before: &Before, slot: Slot, source: &Source) -> Result<BTreeSet<NodeId>, Refusal>
     requires partition { slot.partition < before.now.ring.now.q }
     requires index { slot.index < before.now.ring.now.n }
@@ -145,7 +142,6 @@ fn owners_before(before: &Before, slot: Slot, source: &Source) -> Result<BTreeSe
     }
 }
 
-// The owners of the listed slots of a partition, just before the step.
 fn listed_owners(before: &Before, partition: u32, from: &[u32]) -> Result<BTreeSet<NodeId>, Refusal>
     requires partition { partition < before.now.ring.now.q }
     requires indexes { list_all (λ i. nat_lt i before.now.ring.now.n) from.now ≡ true }
@@ -165,7 +161,7 @@ fn listed_owners(before: &Before, partition: u32, from: &[u32]) -> Result<BTreeS
     Ok(party)
 }
 
-// Puts the owner of the slot, just before the step, among the others.
+// Adds the slot's owner just before the step.
 fn add_owner(before: &Before, slot: Slot, party: &mut BTreeSet<NodeId>) -> Result<(), Refusal>
     requires partition { slot.partition < before.now.ring.now.q }
     requires index { slot.index < before.now.ring.now.n }
@@ -177,7 +173,6 @@ fn add_owner(before: &Before, slot: Slot, party: &mut BTreeSet<NodeId>) -> Resul
     add_node(party, stage.owner)
 }
 
-// Puts one more node among the others.
 fn add_node(party: &mut BTreeSet<NodeId>, node: NodeId) -> Result<(), Refusal>
     ensures ok { OnOk result (party.new.keys ≡ with_node node party.old.keys) }
     ensures memory { IfErr result (λ e. e ≡ OutOfMemory) }
@@ -186,7 +181,6 @@ fn add_node(party: &mut BTreeSet<NodeId>, node: NodeId) -> Result<(), Refusal>
     Ok(())
 }
 
-// The stage of the slot just before the step.
 fn stage_before(before: &Before, slot: Slot) -> Result<Stage, Refusal>
     requires partition { slot.partition < before.now.ring.now.q }
     requires index { slot.index < before.now.ring.now.n }
@@ -198,14 +192,13 @@ fn stage_before(before: &Before, slot: Slot) -> Result<Stage, Refusal>
     stage_at(before.alloc, before.ring, before.plan, slot, count)
 }
 
-// How many of the slot's steps stand before the step.
+// How many of the slot's steps come before the step.
 fn count_before(plan: &Plan, step: u32, slot: Slot) -> u32
     ensures { result ≡ count_below step (steps_of plan.now slot) }
 {
     count_less(plan.slot_steps(slot), step) as u32
 }
 
-// How many of the numbers are less than the limit.
 fn count_less(numbers: &[u32], limit: u32) -> usize
     ensures { result ≡ count_by (λ number. nat_lt number limit) numbers.now }
 {

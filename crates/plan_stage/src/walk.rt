@@ -1,4 +1,4 @@
-//! A slot on its way through its steps.
+//! A walk through a slot's steps.
 
 ghost use Rattle.std.specs.Prelude.{◌≡◌, ◌<◌, IfErr, IfOk, OnOk};
 ghost use Rattle.ring_names.specs.declared.refusal.Refusal.TheVariants.{OutOfMemory};
@@ -12,7 +12,7 @@ use ring_names::{Listed, NodeId, Refusal, Slot};
 use ring_table::Ring;
 use std::alloc::Global;
 
-/// A stage whose leftovers are found fast.
+/// A stage with its leftovers as a set.
 #[derive(Drop)]
 pub struct Walk {
     owner: NodeId,
@@ -22,7 +22,7 @@ pub struct Walk {
 }
 
 impl Walk {
-    /// Before the first step.
+    /// Returns the stage before the first step.
     pub fn new(alloc: Global, ring: &Ring, slot: Slot) -> Walk
         requires partition { slot.partition < ring.now.q }
         requires index { slot.index < ring.now.n }
@@ -71,7 +71,7 @@ impl Walk {
         Ok(())
     }
 
-    // The mirror becomes the owner, and the owner a leftover.
+    // Makes the mirror the owner, and the owner a leftover.
     fn switch(&mut self) -> Result<(), Refusal>
         ensures ok { OnOk result (stage_of self.new ≡ switched (stage_of self.old)) }
         ensures memory { IfErr result (λ e. e ≡ OutOfMemory) }
@@ -83,7 +83,7 @@ impl Walk {
         Ok(())
     }
 
-    /// The stage, with its leftovers listed.
+    /// Returns the stage, with its leftovers as a list.
     pub fn into_stage(self, alloc: Global) -> Result<Stage, Refusal>
         ensures ok { IfOk result (λ stage. stage ≡ stage_of self) }
         ensures memory { IfErr result (λ e. e ≡ OutOfMemory) }

@@ -1,4 +1,4 @@
--- How the checker looks at a clause: what is asked of one step of a slot, and of the holdings of a node.
+-- How the checker looks at a clause: what is asked of a slot's step, and of a node's holdings.
 use Rattle.std.specs.Prelude.{ℕ, Bool, true, not, ◌&&◌, ◌||◌, nat_lt, List, Some, None, is_some, reverse, slice_get}
 use Rattle.std.specs.List.{list_all, take_while}
 use Rattle.ring_names.specs.declared.ids.NodeId.{NodeId}
@@ -15,7 +15,7 @@ use Rattle.plan_stage.specs.Looking.Held.{held_among, held_beside}
 abbrev pub switches : List Planned → ℕ → Bool
 switches plan m = passes (λ s. is_some (switch_of s)) plan m
 
--- step m is no switch, or comes before or after step n
+-- step m is not a switch, or comes before or after step n
 abbrev pub is_settling : List Planned → Test → ℕ → ℕ → Bool
 is_settling plan O n m = not (switches plan m) || (O m n || O n m)
 
@@ -27,7 +27,8 @@ begins_before t h = elim h.begin [ None ↦ true | Some b ↦ nat_lt b t ]
 abbrev pub is_ended_before : Test → ℕ → Holding → Bool
 is_ended_before O t h = ends_before O h.end t
 
--- of holdings in the order in which they begin, those in front of the first that begins at step t or later are ended by step t
+-- holdings stand in the order in which they begin. Those in front of the first that begins at step t or later
+-- are ended by step t
 abbrev pub are_left : Test → ℕ → List Holding → Bool
 are_left O t hs = list_all (is_ended_before O t) (take_while (begins_before t) hs)
 

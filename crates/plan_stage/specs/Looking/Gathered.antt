@@ -37,7 +37,7 @@ pub record Grows (plan : List Planned) (old new : List ℕ) : Type 0 where
 abbrev pub HasRetirement : List Planned → NodeId → List ℕ → Type 0
 HasRetirement plan x numbers = (n : ℕ) → retirement_of plan x.0 ≡ Some n → has n numbers ≡ true
 
--- so is this step, where it is looked at, and the retirement of the node that it mirrors a slot to
+-- so is this step, if it is looked at, and the retirement of the node that it mirrors a slot to
 pub record HasStep (plan : List Planned) (n : ℕ) (numbers : List ℕ) : Type 0 where
   pub here : (s : Step) → step_at plan n ≡ Some s → is_looked_at s ≡ true → has n numbers ≡ true
   pub mirrored : (s : Step) (x : NodeId) → step_at plan n ≡ Some s → mirrored_node s ≡ Some x → HasRetirement plan x numbers

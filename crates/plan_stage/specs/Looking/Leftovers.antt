@@ -2,11 +2,11 @@
 use Rattle.std.specs.Prelude.{◌≡◌, List, [], ◌∷◌, Option, Some, None, IsSome}
 use Rattle.ring_names.specs.declared.ids.NodeId.{NodeId}
 
--- the node that is alone, or else the others
+-- the only node, or otherwise the others
 abbrev pub nodes_of : Option NodeId → List NodeId → List NodeId
 nodes_of (Some x) more = x ∷ []
 nodes_of None more = more
 
--- beside a node that is alone there are no others
+-- beside an only node there are no others
 abbrev pub IsAlone : Option NodeId → List NodeId → Type 0
 IsAlone one more = IsSome one → more ≡ []

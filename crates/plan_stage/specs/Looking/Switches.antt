@@ -1,4 +1,5 @@
--- How the checker looks at a clause: what the later steps of a slot say of a holding, where each step fits the stage before it.
+-- How the checker looks at a clause: what a slot's later steps say of a holding, if each step fits the stage
+-- before.
 use Rattle.std.specs.Prelude.{◌≡◌, ℕ, true, List, [], ◌∷◌, Option, Some, None, reverse, if◌then◌else◌}
 use Rattle.ring_names.specs.declared.ids.NodeId.{NodeId}
 use Rattle.ring_names.specs.declared.ids.Slot.{Slot}
@@ -40,7 +41,7 @@ pub record IsBehind (plan : List Planned) (slot : Slot) (a : Behind) (bs : List 
   pub drops : (x : NodeId) → drop_of a x ≡ dropping plan x slot bs
   pub held : (x : NodeId) → held_of a.held x ≡ reverse (spans plan slot x bs)
 
--- what was kept of the steps behind is now kept of the step of that number too
+-- what was kept of the steps behind now also covers the step with that number
 abbrev pub GoesBehind : Behind → Behind → Step → ℕ → Type 0
 GoesBehind old new step number = (plan : List Planned) (slot : Slot) (bs : List ℕ) → step_at plan number ≡ Some step → is_on slot step ≡ true
     → IsBehind plan slot old bs → IsBehind plan slot new (number ∷ bs)
