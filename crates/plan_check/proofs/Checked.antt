@@ -56,7 +56,7 @@ pub facts-bad : {X : Type 0} → (o : Option Refusal) (r : Result X Refusal) (d 
 facts-bad None r d bad good is ne = absurd (ne (good refl))
 facts-bad {X} (Some e) r d bad good is ne = (let h : err X e ≡ err X d = sym (bad e refl) ∙ is in cc)
 
--- ---- where memory is refused
+-- ---- memory is refused
 
 bad-path : (plan : List Planned) (n : ℕ) (fs : List (List ℕ)) (e : Refusal) → first_bad plan n fs ≡ Some e → e ≡ OutOfMemory → ⊥
 bad-path plan n [] e h m = absurd cc

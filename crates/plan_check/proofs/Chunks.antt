@@ -67,7 +67,7 @@ module _ (ring : RingValue) (plan : List Planned) (k : Holds ring plan) (w : Wor
   slots_keep s = more_slots ring plan w w.is_open w.up (with_mark w.marked n c) w.puts w.gets after_chunk.stored w.hinted
       (λ y t v e. with_mirror_more w.stored (stage_now ring plan w slot).mirror slot (is_copied ring plan w slot from c) y t v e) (λ y t v e. e) s
 
-  -- a put of the chunk, or one that succeeds it, is copied where the source has it
+  -- a put of the chunk, or a successor, is copied if the source has it
   copies : (v i a : ℕ) → put_slot ring w v i ≡ slot → chunk_of_put ring w v ≡ c → Succeeds w a v → a < length w.puts
       → source_has ring plan w slot from a ≡ true → is_copied ring plan w slot from c a ≡ true
   copies v i a is same s l read =

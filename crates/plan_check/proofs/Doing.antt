@@ -64,7 +64,7 @@ idle_keeps ring plan w o a gs r h x =
     quiet_keeps ring plan w o a w.puts gs w.stored w.hinted r h x
     (more_slots ring plan w o a w.marked w.puts gs w.stored w.hinted (λ y t v e. e) (λ y t v e. e)) (λ v i g e. inl e) (λ v e. inl e)
 
--- a step that is no copy
+-- a step that is not a copy
 do_keeps : (ring : RingValue) (plan : List Planned) → Known ring plan → (w : World) (n : ℕ) (m : Option Step) → step_at plan n ≡ m → Reached ring plan w
     → Holding ring plan w
     → Extends w (elim m [ Some s ↦ step_effect (record w { done = with_number w.done n }) s | None ↦ w ]) → Ready plan w.done n → w.done n ≡ false
@@ -92,7 +92,7 @@ close_keeps ring plan k w n (Some c) at one r h is_open x =
     done_keeps ring plan k w n (without_number w.is_open n) w.up w.stored r h x (r.copies.ready n is_open) (r.copies.unfinished n is_open) (Copy c.0 c.1)
     (copy_is (step_at plan n) c.0 c.1 at) (λ s z v f e. e)
 
--- with chunk c of step n marked, and what the copy that it is, if it is one, reads of the chunk at the slot's mirror
+-- with chunk c of step n marked. If the step is a copy, the slot's mirror gets what the copy reads of the chunk
 abbrev with_chunk : RingValue → List Planned → World → ℕ → ℕ → Option (Slot × Source) → World
 with_chunk ring plan w n c o = record w {
   marked = with_mark w.marked n c;

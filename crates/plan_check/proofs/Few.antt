@@ -75,7 +75,7 @@ in_chain c (x ∷ xs) = by (has x c) refl (in_chain c xs)
 in_rest : (n : ℕ) (c : List ℕ) (cs : List (List ℕ)) → has n c ≡ false → in_some n (c ∷ cs) ≡ true → in_some n cs ≡ true
 in_rest n c cs e h = elim (or_cases (has n c) (in_some n cs) h) [ inl f ↦ absurd cc | inr f ↦ f ]
 
--- where no chain has two of the numbers there are no more numbers than chains
+-- if no chain has two of the numbers, there are at most as many numbers as chains
 no_more : (plan : List Planned) (test : ℕ → Bool) → ((n m : ℕ) → test n ≡ true → test m ≡ true → Before plan n m → ⊥) → (cs : List (List ℕ)) (xs : List ℕ) → AreChains (Before plan) cs → all_different xs ≡ true
     → ((n : ℕ) → has n xs ≡ true → test n ≡ true) → ((n : ℕ) → has n xs ≡ true → in_some n cs ≡ true) → length xs ≤ length cs
 no_more plan test apart [] [] are d t h = omega arith

@@ -107,13 +107,13 @@ pub record Rest (ring : RingValue) (plan : List Planned) (w u : World) (v : ℕ)
   pub enough : length slots + w.losses ≤ length rest + u.losses
   pub among : (i : ℕ) → has i rest ≡ true → has i slots ≡ true
 
--- all of them, where the event is no loss
+-- all of them, if the event is not a loss
 kept_rest : (ring : RingValue) (plan : List Planned) (w u : World) (v : ℕ) (slots : List ℕ) → KeepsFirm ring plan w u → is_acked w v ≡ true
     → FirmSlots ring plan w v slots → Rest ring plan w u v slots
 kept_rest ring plan w u v slots k a f =
     record { rest = slots; firm = slots_stay ring plan w u v slots k a f; enough = (let same = k.losses in omega arith); among = λ i h. h }
 
--- all but one, where it is
+-- all but one, if it is a loss
 loss_rest : (ring : RingValue) (plan : List Planned) → Holds ring plan → (w : World) → Inv ring plan w → (x : NodeId) → AllMet (guards ring plan w (Lose x))
     → (v : ℕ) (slots : List ℕ) → is_acked w v ≡ true → FirmSlots ring plan w v slots
     → Rest ring plan w (effect ring plan w (Lose x)) v slots

@@ -37,7 +37,7 @@ pub record CopiedAt (plan : List Planned) (slot : Slot) (k : ℕ) : Type 0 where
   pub copy : step_at plan (get_or (steps_of plan slot) place 0) ≡ Some (Copy slot from)
   pub behind : (i : ℕ) → place ≤ i → i < k → is_some (mirror_at plan (get_or (steps_of plan slot) i 0)) ≡ false
 
--- one more step, which is no mirror
+-- another step, which is not a mirror
 further : (plan : List Planned) (slot : Slot) (k : ℕ) → is_some (mirror_at plan (get_or (steps_of plan slot) k 0)) ≡ false → CopiedAt plan slot k
     → CopiedAt plan slot (suc k)
 further plan slot k none c = record { place = c.place; less = (let l = c.less in omega arith); from = c.from; copy = c.copy; behind = behind }

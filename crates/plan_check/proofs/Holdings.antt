@@ -29,7 +29,7 @@ use Rattle.plan_check.proofs.Standing.{keeps_holding}
 
 -- ---- one event
 
--- a store is lost only where the ring allows it
+-- a node loses its data only if the ring allows it
 pub may_lose : (ring : RingValue) (plan : List Planned) (w : World) (x : NodeId) → AllMet (guards ring plan w (Lose x)) → 0 < ring.loss
 unfolding guards
 may_lose ring plan w x g = (let l = ltb-true w.losses ring.loss g.1.0 in omega arith)
@@ -48,7 +48,7 @@ event_holding ring plan k w i h e g = keeps_holding ring plan w (effect ring pla
 
 -- ---- a run
 
--- what is known of one world of a run, of the next
+-- what is known of a run's world is known of the next
 pub next_inv : (ring : RingValue) (plan : List Planned) → Holds ring plan → (x : Entry) (w u : World) → answer ring plan w x.event ≡ Ok (u, x.reply)
     → Inv ring plan w → Inv ring plan u
 next_inv ring plan k x w u l i = run_inv ring plan k (x ∷ []) w u i (u, l, refl)

@@ -32,6 +32,13 @@ pub not_both : (x y : Bool) → (x && y) ≡ false → x ≡ true → y ≡ fals
 not_both true y h e = h
 not_both false y h e = absurd cc
 
+pub no_both : (x y : Bool) → y ≡ false → (x && y) ≡ false
+no_both true y e = e
+no_both false y e = refl
+
+pub neither : (x y : Bool) → x ≡ false → y ≡ false → (not x && not y) ≡ true
+neither x y e f = rw (e, f) refl
+
 -- a plan that suits its ring, facts of it, and what is noted of the clauses of all partitions
 module _ (ring : RingValue) (plan : List Planned) (facts : List Ends) (a : Missed) (suits : Suits ring plan) (are : AreFactsOf plan facts)
     (h : (p : ℕ) → p < ring.q → HoldsBut a ring plan (is_ordered plan facts) p) where

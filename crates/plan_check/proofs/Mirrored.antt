@@ -35,7 +35,8 @@ pub record Known (ring : RingValue) (plan : List Planned) : Type 0 where
 pub known : (ring : RingValue) (plan : List Planned) → IsRing ring → IsPlan plan → Sound ring plan → Known ring plan
 known ring plan r p sound = record { is_ring = r; is_plan = p; in_turn = sound.1.in_turn }
 
--- what is known of a plan by which puts stay held: its copies read enough, and where stores may be lost no two slots of a partition share a node
+-- what is known of a plan by which puts stay held. Its copies read enough, and if nodes may lose their data, no
+-- two slots of a partition share a node
 pub record Holds (ring : RingValue) (plan : List Planned) : Type 0 where
   pub known : Known ring plan
   pub sources : ReadEnough ring plan

@@ -27,7 +27,7 @@ both_off true false c h = h
 both_off false true c h = sym h
 both_off false false c h = refl
 
--- a step that is no mirror of the slot leaves the number of its finished mirrors
+-- a step that is not a mirror of the slot leaves the number of its finished mirrors
 pub mirrors_left : (plan : List Planned) (D : ℕ → Bool) (n : ℕ) (slot : Slot) → (has n (steps_of plan slot) ≡ true → is_some (mirror_at plan n) ≡ false)
     → count (λ s. with_number D n s && is_some (mirror_at plan s)) (steps_of plan slot) ≡ count (λ s. D s && is_some (mirror_at plan s)) (steps_of plan slot)
 mirrors_left plan D n slot never = count_same (λ s. D s && is_some (mirror_at plan s)) (λ s. with_number D n s && is_some (mirror_at plan s))
@@ -48,7 +48,7 @@ mirrors_up plan D n slot i off on =
     (or_right (m == n) (D m) b.0) b.1))
     i (rw off refl) (and_from (with_number D n n) (is_some (mirror_at plan n)) (rw (eq-eqb n n refl) refl) on)
 
--- the mirrors of the slot in front of a step of it that is ready are finished
+-- if a step of the slot is ready, the slot's mirrors in front of it are finished
 pub mirrors_ahead : (ring : RingValue) (plan : List Planned) → Known ring plan → (D : ℕ → Bool) (n : ℕ) (slot : Slot) → Closed plan D → Ready plan D n
     → has n (steps_of plan slot) ≡ true
     → mirrors_before plan slot n ≤ count (λ s. D s && is_some (mirror_at plan s)) (steps_of plan slot)

@@ -83,7 +83,7 @@ gone : (b c : Bool) → c ≡ true → (b && not c) ≡ false
 gone true c e = rw e refl
 gone false c e = refl
 
--- who serves after a step served before it and does not leave by it, or is mirrored by it
+-- who serves after a step served before and does not leave by the step, or is mirrored by the step
 next-serves : (x : NodeId) (a : Stage) (t : Step) → InStage x (next a t) → (InStage x a × ((is_node x a.owner && not (is_node x (next a t).owner)) ≡ false)) ⊎ ((slot : Slot) × (t ≡ Mirror slot x))
 next-serves x a (Join y) h = inl (h, and_not (is_node x a.owner))
 next-serves x a (Mirror slot y) h = elim h [

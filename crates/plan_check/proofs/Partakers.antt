@@ -81,7 +81,7 @@ own_count ring plan k D n slot c y off h = done ∙ sym front
       ]
     ]
 
--- ---- the owner stays where no step is a switch
+-- ---- the owner stays if no step is a switch
 
 after_owner : (a : Stage) (t : Step) (slot : Slot) → is_on slot t ≡ true → (t ≡ Switch slot → ⊥) → (next a t).owner ≡ a.owner
 after_owner a (Join y) slot on never = refl

@@ -1,4 +1,5 @@
--- What a sound plan promises of every run: at every moment the store is safe, and gets see the puts that were acknowledged before them.
+-- What a sound plan promises of every run: at every moment the store is safe, and gets see the puts
+-- acknowledged before them.
 use Rattle.std.proofs.Common.{◌≡◌, ◌∙◌, ℕ, ◌+◌, ◌<◌, ◌≤◌, Bool, true, false, List, [], ◌∷◌, ◌++◌, length, length-append, Option, Some, None, refl, sym, subst}
 use Rattle.std.proofs.Common.{arith, lt-ltb, leb-true}
 use Rattle.std.specs.Prelude.{nat_lt, is_some, Ok}

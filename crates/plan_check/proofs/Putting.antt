@@ -143,7 +143,7 @@ hint_keeps ring plan w n j k l m r h x = quiet_keeps ring plan w w.is_open w.up 
 
 -- ---- a put is acknowledged
 
--- the slots of its current tickets are those at which it is firm
+-- the put is firm at the slots of its current tickets
 pub ack_keeps : (ring : RingValue) (plan : List Planned) (w : World) (n : ℕ) → n < length w.puts → ring.w ≤ current_tickets ring plan w n
     → Reached ring plan w → Holding ring plan w
     → Extends w (ack_effect w n) → KeepsFirm ring plan w (ack_effect w n)

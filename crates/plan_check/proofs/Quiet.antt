@@ -1,4 +1,5 @@
--- What an event keeps that is about no step and no chunk: what nodes have for slots only grows, and goes from keepers to those who serve.
+-- What an event keeps that is about no step and no chunk. What nodes have for slots only grows, and goes from
+-- keepers to those who serve.
 use Rattle.std.proofs.Common.{◌≡◌, inl, inr, ◌∙◌, ℕ, ◌<◌, ◌≤◌, Bool, true, false, List, length, Option, Some, None, refl, sym, ap, subst, arith}
 use Rattle.std.proofs.lemmas.Bool.{or_right, or_cases, or_left}
 use Rattle.ring_names.specs.declared.ids.NodeId.{NodeId}

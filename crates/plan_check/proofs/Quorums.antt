@@ -52,7 +52,7 @@ less-without n (x ∷ xs) h =
     (λ e. rest)
     (λ e. (let lt = ltb-true x (suc n) p.0 in let less = lt-ltb x n (grind (arith, lt, e)) in rw (less, rest) refl))
 
--- nothing is taken where the number is not there, and one where it is
+-- nothing is taken if the number is not there, and one if it is
 none-taken : (n : ℕ) (xs : List ℕ) → has n xs ≡ false → length (without n xs) ≡ length xs
 none-taken n [] h = refl
 none-taken n (x ∷ xs) h = by_equal n x (λ b. (b || has n xs) ≡ false → length (cond b (without n xs) (x ∷ without n xs)) ≡ suc (length xs))

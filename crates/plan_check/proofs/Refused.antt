@@ -1,4 +1,4 @@
--- No clause of the checker fails exactly where the certificate certifies the plan.
+-- No clause of the checker fails exactly if the certificate certifies the plan.
 use Rattle.std.proofs.Common.{◌≡◌, ℕ, suc, ◌-◌, ◌<◌, Bool, true, false, cond, Option, List, [], ◌∷◌, ◌++◌, length, refl, arith, Some, None}
 use Rattle.std.specs.Prelude.{◌&&◌, ◌||◌, ◌==◌, nat_le, slice_index, is_some}
 use Rattle.std.specs.List.{list_all}
@@ -197,7 +197,7 @@ leaves-joined ring plan cert O suits h n x at =
     let none = asked-met (x.0 == x.0) ((has_joined ring plan O n x, NotJoined n) ∷ []) (h.retired x (retires-within ring plan suits n x at) n (Retire x) at) (same x.0) in
     (met (has_joined ring plan O n x) (NotJoined n) None none).0
 
--- ---- where no clause fails
+-- ---- no clause fails
 
 chains-good : (ring : RingValue) (plan : List Planned) (cert : Cert) (O : Test) → Nodes ring plan cert O → (x : NodeId) → x.0 < length ring.nodes → AllGood ring plan O x cert.chains
 chains-good ring plan cert O h x l = λ side. chains-met ring plan O x side 0 cert.chains (h.chains x l)

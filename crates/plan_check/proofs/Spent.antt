@@ -1,4 +1,4 @@
--- No clause of the checker is refused by the refusal of a limit of turns.
+-- No clause of the checker is refused because a limit of turns was spent.
 use Rattle.std.proofs.Common.{◌≡◌, ℕ, suc, zero, ◌+◌, Bool, true, false, cond, List, [], ◌∷◌, ◌++◌, length, min, sym, ap, ◌∙◌, Option, Some, Err}
 use Rattle.ring_names.specs.declared.refusal.Refusal.{Refusal}
 use Rattle.ring_names.specs.declared.refusal.Refusal.TheVariants.{BadPath, TurnsSpent, OutOfMemory}
@@ -41,7 +41,7 @@ one-more false r cs other rest e = other (some-injective e)
     some-injective : Some r ≡ Some TurnsSpent → r ≡ TurnsSpent
     some-injective f = cc
 
--- from the first clause alone, or from those behind it
+-- only from the first clause, or from those behind it
 headed : (b : Bool) (r : Refusal) (o p : Option Refusal) → (cond b o (Some r) ≡ Some TurnsSpent → ⊥) → ((o ≡ Some TurnsSpent → ⊥) → p ≡ Some TurnsSpent → ⊥) → cond b p (Some r) ≡ Some TurnsSpent → ⊥
 headed true r o p left later e = later left e
 headed false r o p left later e = left e

@@ -1,4 +1,4 @@
--- What is held and mirrored stays so where a slot's nodes and keepers go on to have what they had.
+-- What is held and mirrored stays so if a slot's nodes and keepers go on to have what they had.
 use Rattle.std.proofs.Common.{◌≡◌, ◌⊎◌, inl, inr, ℕ, ◌+◌, ◌<◌, ◌≤◌, Bool, true, false, refl, List, length, Option, Some, None, sym, ap, subst, arith}
 use Rattle.std.proofs.lemmas.Bool.{or_cases}
 use Rattle.ring_names.specs.declared.ids.NodeId.{NodeId}
@@ -50,7 +50,8 @@ mirror_exists ring plan w r slot a h = elim (or_cases (elim (stage_now ring plan
 
 -- ---- one slot
 
--- it goes on to have the puts that it had, and its mirror, if there still is one, those that the mirror had
+-- the slot goes on to have the puts that it had. Its mirror, if there still is one, goes on to have the puts
+-- that the mirror had
 pub record SlotKeeps (ring : RingValue) (plan : List Planned) (w u : World) (slot : Slot) : Type 0 where
   pub held : (a : ℕ) → slot_has ring plan w slot a ≡ true → slot_has ring plan u slot a ≡ true
   pub alone : (stage_now ring plan w slot).mirror ≡ None → (stage_now ring plan u slot).mirror ≡ None
@@ -101,7 +102,7 @@ same_chunk ring w u v x l = ap (λ (k : List ℕ). (place_of ring.q k).chunk) (x
 pub same_slot : (ring : RingValue) (w u : World) (v i : ℕ) → Extends w u → v < length w.puts → put_slot ring u v i ≡ put_slot ring w v i
 same_slot ring w u v i x l = ap (λ (k : List ℕ). slot_at (place_of ring.q k).partition i) (x.key v l)
 
--- what is firm stays firm where no chunk is given that was not given before
+-- what is firm stays firm if no chunk is given that was not given before
 pub firm_stays : (ring : RingValue) (plan : List Planned) (w u : World) (slot : Slot) → Reached ring plan w → Extends w u → SlotKeeps ring plan w u slot
     → (v : ℕ) → v < length w.puts
     → (IsGiven plan u slot (chunk_of_put ring w v) → IsGiven plan w slot (chunk_of_put ring w v)) → IsFirm ring plan w v slot → IsFirm ring plan u v slot
@@ -120,8 +121,8 @@ TicketsAreDue ring plan w u = (v i g : ℕ) → ticket_of u v i ≡ Some g → (
 abbrev pub AcksAreDue : RingValue → List Planned → World → World → Type 0
 AcksAreDue ring plan w u = (v : ℕ) → is_acked u v ≡ true → (is_acked w v ≡ true) ⊎ IsFirmEnough ring plan u v
 
--- what every event but a loss leaves so: no store is lost, current tickets are of puts at owner and mirror, what was firm stays firm,
--- and an acknowledged put was so before or is firm enough
+-- what every event but a loss leaves so. No node loses its data, current tickets are of puts at owner and
+-- mirror, and what was firm stays firm. An acknowledged put was so before or is firm enough
 pub record KeepsFirm (ring : RingValue) (plan : List Planned) (w u : World) : Type 0 where
   pub extends : Extends w u
   pub losses : u.losses ≡ w.losses

@@ -71,7 +71,7 @@ a_fact : first_refusal narrow_ring (step (Join (the 3)) ([]) ∷ step (Mirror (a
 unfolding below
 a_fact = refl
 
--- a link of the path is no dependency
+-- a link of the path is not a dependency
 a_broken_fact : first_refusal narrow_ring (step (Join (the 3)) ([]) ∷ step (Mirror (at 0 1) (the 3)) (0 ∷ []) ∷ step (Copy (at 0 1) Owner) (1 ∷ []) ∷ step (Switch (at 0 1)) (2 ∷ []) ∷ step (Mirror (at 1 1) (the 3)) (0 ∷ []) ∷ step (Copy (at 1 1) Owner) (4 ∷ []) ∷ step (Switch (at 1 1)) (5 ∷ []) ∷ []) (record { facts = (2 ∷ 3 ∷ 4 ∷ 5 ∷ []) ∷ []; chains = record { node = the 1; side = Both; steps = 2 ∷ 5 ∷ [] } ∷ record { node = the 3; side = Both; steps = 2 ∷ 5 ∷ [] } ∷ [] }) ≡ Some (BadPath 0)
 unfolding below
 a_broken_fact = refl

@@ -15,8 +15,9 @@ use Rattle.plan_check.specs.Sound.{Meets, HaveOnly, is_party_of}
 abbrev pub ordered_by : List Planned → Cert → ℕ → ℕ → Bool
 ordered_by plan cert a b = depends plan a b || some_leads a b cert.facts
 
--- the facts are paths, the plan meets all by what they prove and by the certificate's own chains, these have nothing but copies in
--- which their node takes part on their side, and a declared node has no chain of a side that its allowance does not count
+-- the facts are paths, and the plan meets all by what they prove and by the certificate's own chains. These
+-- have only copies in which their node takes part on their side. A declared node has no chain on a side that
+-- its allowance does not count
 pub record IsCertified (ring : RingValue) (plan : List Planned) (cert : Cert) : Type 0 where
   pub facts : list_all (is_path plan) cert.facts ≡ true
   pub meets : Meets ring plan (λ a b. ordered_by plan cert a b ≡ true) (λ x side. chains_from x side cert.chains)

@@ -26,7 +26,7 @@ IsGiven plan w slot c =
 abbrev pub mirror_has : RingValue → List Planned → World → Slot → ℕ → Bool
 mirror_has ring plan w slot v = elim (stage_now ring plan w slot).mirror [ Some x ↦ w.stored x.0 slot v | None ↦ false ] || some_hinted ring w slot v
 
--- the slot has no mirror, or the put, or one that succeeds it, is at the mirror or kept for the slot as a hint
+-- if the slot has a mirror, the put or a successor is at the mirror or kept for the slot as a hint
 abbrev pub IsMirrored : RingValue → List Planned → World → ℕ → Slot → Type 0
 IsMirrored ring plan w v slot = ((stage_now ring plan w slot).mirror ≡ None) ⊎ ((u : ℕ) × Succeeds w u v × (mirror_has ring plan w slot u ≡ true))
 

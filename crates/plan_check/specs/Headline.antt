@@ -15,7 +15,7 @@ use Rattle.plan_runs.specs.Answers.{answer}
 use Rattle.plan_runs.specs.Runs.{Always, Leads, IsRun}
 use Rattle.plan_check.specs.Safe.{Safe}
 
--- the put or one that succeeds it is among those that the get answers
+-- the put or a successor is among the puts that the get answers
 abbrev pub IsAnswered : World → ℕ → List ℕ → Type 0
 IsAnswered w v found = (u : ℕ) × (has u found ≡ true) × Succeeds w u v
 

@@ -19,3 +19,7 @@ pub record KeepsWhatIsSaid (ring : RingValue) (plan : List Planned) (said : Kept
   pub apart : said.apart ≡ true → Always ring plan (GroupsAreApart ring plan)
   pub few : said.few ≡ true → Always ring plan (TransfersAreFew ring plan)
   pub members : said.members ≡ true → Always ring plan (ServersAreMembers ring plan)
+
+-- each promise is said to be kept
+abbrev pub NamesAll : Kept → Type 0
+NamesAll said = (said.held ≡ true) × (said.apart ≡ true) × (said.few ≡ true) × (said.members ≡ true)

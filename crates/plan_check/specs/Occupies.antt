@@ -25,7 +25,7 @@ FromMirror ring plan slot x k b = (b < k) × (step_at plan (get_or (steps_of pla
 abbrev pub Serves : RingValue → List Planned → Slot → NodeId → ℕ → Type 0
 Serves ring plan slot x k = (x ≡ (stage ring plan slot k).owner) ⊎ ((stage ring plan slot k).mirror ≡ Some x)
 
--- it serves since one of the two, and the end of that, if there is one, is a later step
+-- it serves since one of the two, and if there is an end of that, the end is a later step
 pub record Occupies (ring : RingValue) (plan : List Planned) (slot : Slot) (x : NodeId) (k : ℕ) : Type 0 where
   pub since : FromStart ring plan slot x k ⊎ ((b : ℕ) × FromMirror ring plan slot x k b)
   pub first_later : FromStart ring plan slot x k → (e : ℕ) → first_end ring plan slot ≡ Some e
@@ -33,12 +33,12 @@ pub record Occupies (ring : RingValue) (plan : List Planned) (slot : Slot) (x : 
   pub mirror_later : (b : ℕ) → FromMirror ring plan slot x k b → (e : ℕ) → mirror_end ring plan slot b x ≡ Some e
       → has e (drop k (steps_of plan slot)) ≡ true
 
--- whoever serves a slot of the ring after its first k steps occupies it
+-- a node that serves a slot of the ring after its first k steps occupies it
 abbrev pub ServersOccupy : RingValue → List Planned → Type 0
 ServersOccupy ring plan = (slot : Slot) (x : NodeId) (k : ℕ) → slot.partition < ring.q → slot.index < ring.n
     → k ≤ length (steps_of plan slot) → Serves ring plan slot x k → Occupies ring plan slot x k
 
--- whoever occupies a slot of the ring serves it
+-- a node that occupies a slot of the ring serves it
 abbrev pub OccupantsServe : RingValue → List Planned → Type 0
 OccupantsServe ring plan = (slot : Slot) (x : NodeId) (k : ℕ) → slot.partition < ring.q → slot.index < ring.n
     → k ≤ length (steps_of plan slot) → FromStart ring plan slot x k ⊎ ((b : ℕ) × FromMirror ring plan slot x k b)

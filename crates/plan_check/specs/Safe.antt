@@ -30,7 +30,7 @@ mirrors_now ring plan w x slot from = mirrors (stage_now ring plan w slot) x
 abbrev pub gives_now : RingValue → List Planned → World → ℕ → Slot → Source → Bool
 gives_now ring plan w x slot from = list_any (λ t. x == (stage_now ring plan w t).owner.0) (source_slots slot from)
 
--- it takes part in the copy on that side, now: on both where it does one or the other
+-- the node takes part in the copy on that side, now: on both if it does either
 abbrev pub takes_part_now : RingValue → List Planned → World → ℕ → Side → Slot → Source → Bool
 takes_part_now ring plan w x Both slot from = mirrors_now ring plan w x slot from || gives_now ring plan w x slot from
 takes_part_now ring plan w x Take slot from = mirrors_now ring plan w x slot from

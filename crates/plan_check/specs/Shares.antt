@@ -11,7 +11,7 @@ use Rattle.plan_check.specs.declared.shares.ShareOutcome.TheVariants.{Stopped, C
 abbrev pub share_count : ℕ → ℕ → ℕ
 share_count workers q = max 1 (min workers q)
 
--- the first partition of share s, of so many shares of q partitions; rounded down
+-- the first partition in share s, if q partitions have so many shares; rounded down
 abbrev pub first_of : ℕ → ℕ → ℕ → ℕ
 first_of q shares s = s * q / shares
 
@@ -27,7 +27,8 @@ MayStop may_refuse workers q = (s : ℕ) × (s < share_count workers q) × may_r
 abbrev pub MustStop : (ℕ → ℕ → Type 0) → ℕ → ℕ → Type 0
 MustStop must_refuse workers q = (s : ℕ) × (s < share_count workers q) × must_refuse s (first_of q (share_count workers q) s)
 
--- what may come of share s: its pass was refused; or it was let through, and what was found is what its partitions give
+-- what may come of share s: the pass was refused, or it was let through, and what was found is what the
+-- partitions give
 abbrev pub IsOutcome : RingValue → List Planned → Test → (ℕ → ℕ → Type 0) → (ℕ → ℕ → Type 0) → ℕ → ℕ → ShareOutcome → Type 0
 IsOutcome ring plan O may_refuse must_refuse shares s Stopped = may_refuse s (first_of ring.q shares s)
 IsOutcome ring plan O may_refuse must_refuse shares s (Checked r) = (must_refuse s (first_of ring.q shares s) → ⊥) × Gives r (share_clauses ring plan O (first_of ring.q shares s) (first_of ring.q shares (s + 1)))

@@ -97,7 +97,8 @@ pub record ServeAsMembers (ring : RingValue) (plan : List Planned) (O : Order) :
   pub dropped_later : (t b : ℕ) (slot : Slot) (x : NodeId) → step_at plan t ≡ Some (Retire x)
       → step_at plan b ≡ Some (Mirror slot x) → EndsBefore O (mirror_drop plan slot (place_in plan slot b) x) t
 
--- of each side that a declared node's allowance counts at most so many chains have all copies in which it takes part on that side
+-- on each side that a declared node's allowance counts, at most so many chains have all copies in which the
+-- node takes part there
 abbrev pub AreCovered : RingValue → List Planned → Order → (ℕ → Side → List (List ℕ)) → Type 0
 AreCovered ring plan O chains = (x : ℕ) (side : Side) (a : ℕ) → allowance_of ring x side ≡ Some a → Covers O a (is_party_of ring plan x side) (chains x side)
 

@@ -7,14 +7,13 @@ use ring_names::Refusal;
 use ring_table::Ring;
 use std::marker::Model;
 
-/// A ring with a plan that the checker accepted: the plan is sound, and so every run of it keeps the promises that
-/// `sound_plans_keep_promises` states. Only the checker makes one.
+/// A ring and a plan that the checker accepted. Only the checker makes one.
 pub struct Approved {
     ring: Ring,
     plan: Plan,
 }
 
-// Dropped by a call, so that no crate above goes through its parts wherever what was approved ends.
+// Dropped by a call: otherwise each crate above proves the drop of its parts.
 impl Drop for Approved {
     fn drop(self) {
         let Approved { ring, plan } = self;
@@ -36,7 +35,6 @@ impl Model for Approved {
 impl Approved {
     ghost use Rattle.plan_check.specs.Approval.{Approval, IsApproved};
 
-    /// The two together.
     pub(crate) fn new(ring: Ring, plan: Plan) -> Approved
         requires { IsApproved ring plan }
         ensures { result ≡ record { ring = ring; plan = plan } }
@@ -44,7 +42,7 @@ impl Approved {
         Approved { ring, plan }
     }
 
-    /// The ring.
+    /// Returns the ring.
     pub fn ring(&self) -> &Ring
         ensures value { result.now ≡ self.now.ring }
         ensures approved { IsApproved self.now.ring self.now.plan }
@@ -52,7 +50,7 @@ impl Approved {
         &self.ring
     }
 
-    /// The plan.
+    /// Returns the plan.
     pub fn plan(&self) -> &Plan
         ensures value { result.now ≡ self.now.plan }
         ensures approved { IsApproved self.now.ring self.now.plan }
@@ -61,7 +59,7 @@ impl Approved {
     }
 }
 
-/// A ring and a plan that are given back, and why.
+/// A ring and a plan that the checker refused, and why.
 #[derive(Drop)]
 pub struct Turned {
     pub ring: Ring,

@@ -25,13 +25,17 @@ use std::alloc::Global;
 use std::sync::Wait;
 use std::thread::Threads;
 
-/// Checks a plan against the ring that it suits, by a certificate: its facts by number, then the partitions, then the nodes.
+/// Checks a plan by a certificate: first its facts by number, then the partitions, then the nodes.
 ///
-/// A plan that is accepted is sound, and so it keeps its promises at every moment of every run of it. For each acknowledged put, any R slots of its
-/// partition include one whose owner or hint keeper holds it or a causal successor. No two slots of a partition share a node, no node has more transfers
-/// open than its allowance, each slot's owner and mirror are members, and gets see what was acknowledged before they started. Any other plan is
-/// refused by the first clause that does not hold, and comes back with its ring as it was. So does one for which there was no memory, once all
-/// facts are verified. The cost is about that of reading the texts: of each two steps that a clause compares one comes directly before the other or by a fact, or the check ends.
+/// In every run of an accepted plan, at every moment:
+/// - For each acknowledged put, any R slots of its partition include one whose owner or hint keeper holds it or a causal successor.
+/// - No two slots of a partition share a node.
+/// - No node has more transfers open than its allowance.
+/// - Each slot's owner and mirror are members.
+/// - Gets see what was acknowledged before they started.
+///
+/// Other plans are refused by the first clause that fails, and come back with their ring. Out of memory comes after all facts are verified.
+/// Costs about as much as reading the texts.
 pub fn check(alloc: Global, ring: Ring, plan: Plan, cert: &Cert) -> Result<Approved, Turned>
     requires { Suits ring plan }
     ensures same { IfOk result (λ a. (a.ring ≡ ring) × (a.plan ≡ plan)) }
@@ -58,14 +62,14 @@ pub fn check(alloc: Global, ring: Ring, plan: Plan, cert: &Cert) -> Result<Appro
     }
 }
 
-/// Checks as `check` does, the facts by as many threads as there are processors and the partitions in shares, by as many workers as are asked for but
-/// not more than there are partitions; none is as one. Of Q partitions and m shares, share s begins with partition s Q / m, rounded down: worker s passes
-/// the gate with that number for its mark, and then checks its share. Where no thread can be started, the calling thread does the shares in turn.
+/// Checks as `check` does, with threads: one per processor for the facts, and `workers` for shares of the partitions, but at most one per partition.
+/// Zero workers are as one.
 ///
-/// The answer is that of `check`, the first refusal included, whatever the number of workers and whoever was first. But where the gate does not let a
-/// worker pass, it is `TurnsSpent`, whatever else was found. After a path that is none no share is begun. Where the gate must refuse one of
-/// the passes with which shares begin, and all facts are paths, no plan is accepted: the answer is `TurnsSpent`, or `OutOfMemory` where memory ran out
-/// before the shares had been done.
+/// Of Q partitions and m shares, share s begins with partition s Q / m, rounded down. Its worker passes the gate with that number as the mark, and
+/// then checks the share. If no thread can be started, the calling thread does the shares in turn.
+///
+/// The answer is that of `check`, whatever the number of workers. But if the gate stops a worker, it is `TurnsSpent`, whatever else was found.
+/// If a fact is not a path, no share begins. If the gate must stop a worker, the answer may also be `OutOfMemory`.
 pub fn check_parallel<R: Threads + Wait + Sync, G: Gate + Sync>(
     rt: &R,
     alloc: Global,
@@ -138,7 +142,7 @@ fn check_all(alloc: Global, ring: &Ring, plan: &Plan, cert: &Cert) -> Result<(),
     }
 }
 
-// Tests all clauses, those of the partitions by workers. None where the gate stopped one.
+// Tests all clauses, those of the partitions by workers. None if the gate stopped one.
 fn check_all_by_workers<R: Threads + Wait + Sync, G: Gate + Sync>(
     by: &Workers<R, G>,
     ring: &Ring,
@@ -170,7 +174,7 @@ fn check_all_by_workers<R: Threads + Wait + Sync, G: Gate + Sync>(
     }
 }
 
-// Tests the clauses of the nodes, behind what those of the partitions gave.
+// Tests the clauses of the nodes, unless one of a partition failed.
 fn check_rest(
     alloc: Global,
     context: &Context,

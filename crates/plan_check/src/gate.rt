@@ -4,23 +4,23 @@ ghost use Rattle.std.specs.Prelude.{ℕ, IsTrue, IsFalse};
 
 use std::sync::Wait;
 
-/// A gate, which each worker of a call passes before a piece of its work, at a mark that tells which piece that is. A gate may hold a
-/// worker until others have come as far, for a number of turns that it sets itself; a test shows by it that threads overlap. It tells which
-/// passes it may refuse and which it refuses for certain, so that the contract of a call that asks it can say what follows.
+/// A gate that each worker of a call passes before a piece of work. The mark says which piece.
+///
+/// A gate may hold a worker until others have come as far, up to a limit of its own. Tests show by it that threads overlap.
 pub trait Gate {
-    /// Whether the pass of that worker at that mark may be refused.
+    /// Whether the gate may refuse this worker at this mark.
     ghost may_refuse: { Self → ℕ → ℕ → Type 0 };
 
-    /// Whether the pass of that worker at that mark is refused for certain.
+    /// Whether the gate refuses this worker at this mark in any case.
     ghost must_refuse: { Self → ℕ → ℕ → Type 0 };
 
-    /// Lets the worker pass, as soon as the gate lets it. False where the gate's own limit of turns is used up.
+    /// Waits until the worker may pass. False if the gate's own limit is used up.
     fn pass<R: Wait>(&self, rt: &R, worker: u32, mark: u64) -> bool
         ensures refused { IsFalse result → may_refuse self.now worker mark }
         ensures passed { IsTrue result → must_refuse self.now worker mark → ⊥ };
 }
 
-/// A gate that lets every worker pass at once: it may refuse none, and must refuse none.
+/// A gate that lets every worker pass at once.
 #[derive(Clone, Copy, Debug)]
 pub struct OpenGate;
 

@@ -1,6 +1,7 @@
-//! Which promises a plan keeps, also where the checker refuses it.
+//! Which promises a plan keeps, also if the checker refuses it.
 
-ghost use Rattle.std.specs.Prelude.{◌≡◌, ◌&&◌, not, ℕ, ◌<◌, IfOk, IfErr, None, true, length};
+ghost use Rattle.std.specs.Prelude.{◌≡◌, ◌&&◌, not, ℕ, ◌<◌, IfOk, IfErr, None, true, false, length};
+ghost use Rattle.ring_names.specs.declared.refusal.Refusal.{Refusal as TheRefusal};
 ghost use Rattle.ring_names.specs.declared.refusal.Refusal.TheVariants.{OutOfMemory};
 ghost use Rattle.plan_text.specs.Valid.{Suits};
 ghost use Rattle.plan_order.specs.Facts.{AreFactsOf};
@@ -8,8 +9,10 @@ ghost use Rattle.plan_order.specs.Order.{order};
 ghost use Rattle.plan_order.specs.Paths.{first_bad};
 ghost use Rattle.plan_cover.specs.Clauses.{node_clauses};
 ghost use Rattle.plan_stage.specs.Clauses.{below, first_failing};
-ghost use Rattle.plan_stage.specs.Missed.{HoldsBut, StaysNoted};
-ghost use Rattle.plan_check.specs.Kept.{KeepsWhatIsSaid};
+ghost use Rattle.plan_stage.specs.Missed.{misses, HoldsBut};
+ghost use Rattle.plan_stage.specs.Partition.{partition_clauses};
+ghost use Rattle.plan_check.specs.First.{first_refusal};
+ghost use Rattle.plan_check.specs.Kept.{KeepsWhatIsSaid, NamesAll};
 
 use crate::laws::{groups_stay_apart, puts_stay_held, servers_stay_members, transfers_stay_few};
 use plan_cert::Cert;
@@ -34,10 +37,12 @@ pub struct Kept {
     pub members: bool,
 }
 
-// Notes which kinds of clauses may fail in any partition, if the steps of each slot act in order; whether they do.
+// Notes which kinds of clauses may fail in any partition. Returns whether the steps of each slot act in order.
 fn note_all(alloc: Global, context: &Context, missed: &mut Missed) -> Result<bool, Refusal>
     ensures holds { IfOk result (λ b. b ≡ true → (p : ℕ) → p < context.now.ring.now.q
         → HoldsBut missed.new context.now.ring.now context.now.plan.now (order context.now) p) }
+    ensures clean { IfOk result (λ b. first_failing (below (partition_clauses context.now.ring.now context.now.plan.now
+        (order context.now)) context.now.ring.now.q) ≡ None → (b ≡ true) × (missed.new ≡ missed.old)) }
     ensures memory { IfErr result (λ e. e ≡ OutOfMemory) }
 {
     for partition in 0..context.ring.q() {
@@ -48,14 +53,12 @@ fn note_all(alloc: Global, context: &Context, missed: &mut Missed) -> Result<boo
     Ok(true)
 }
 
-// Whether neither holds.
 fn is_neither(a: bool, b: bool) -> bool
     ensures { result ≡ (not a && not b) }
 {
     !a && !b
 }
 
-// Whether both hold.
 fn are_both(a: bool, b: bool) -> bool
     ensures { result ≡ (a && b) }
 {
@@ -67,6 +70,8 @@ fn is_covered(alloc: Global, context: &Context, cert: &Cert) -> Result<bool, Ref
     requires { AreFactsOf context.now.plan.now context.now.facts.now }
     ensures ok { IfOk result (λ b. b ≡ true → first_failing (below (λ x. node_clauses context.now.ring.now
         context.now.plan.now cert.now (order context.now) (record { 0 = x })) (length context.now.ring.now.nodes)) ≡ None) }
+    ensures all { first_failing (below (λ x. node_clauses context.now.ring.now context.now.plan.now cert.now
+        (order context.now) (record { 0 = x })) (length context.now.ring.now.nodes)) ≡ None → IfOk result (λ b. b ≡ true) }
     ensures memory { IfErr result (λ e. e ≡ OutOfMemory) }
 {
     match check_nodes(alloc, context.ring, context.plan, context.facts, cert) {
@@ -78,14 +83,15 @@ fn is_covered(alloc: Global, context: &Context, cert: &Cert) -> Result<bool, Ref
     }
 }
 
-// Which promises are kept if the steps of each slot act in order.
+// Which promises are kept, if the steps of each slot act in order.
 fn kept_by(context: &Context, cert: &Cert, missed: Missed, covered: bool) -> Kept
     requires holds { (p : ℕ) → p < context.now.ring.now.q
         → HoldsBut missed context.now.ring.now context.now.plan.now (order context.now) p }
     requires facts { AreFactsOf context.now.plan.now context.now.facts.now }
     requires covered { covered ≡ true → first_failing (below (λ x. node_clauses context.now.ring.now
         context.now.plan.now cert.now (order context.now) (record { 0 = x })) (length context.now.ring.now.nodes)) ≡ None }
-    ensures { KeepsWhatIsSaid context.now.ring.now context.now.plan.now result }
+    ensures kept { KeepsWhatIsSaid context.now.ring.now context.now.plan.now result }
+    ensures all { ((r : TheRefusal) → misses missed r ≡ false) → covered ≡ true → NamesAll result }
 {
     let (ring, plan) = (context.ring, context.plan);
     puts_stay_held(ring, plan);
@@ -100,12 +106,14 @@ fn kept_by(context: &Context, cert: &Cert, missed: Missed, covered: bool) -> Kep
     }
 }
 
-/// Which promises a plan keeps in every run, as far as a certificate shows it: each is decided by its own clauses. None is named if the steps of a slot are
-/// not shown to act in order. A fact that is not a path is refused as by `check`. Costs what `check` costs where no clause fails.
+/// Says which promises a certificate shows that a plan keeps: all if `check` says yes, none if a slot's steps may act out of order.
+/// A fact that is not a path is refused as by `check`. Costs as much as a `check` that says yes.
 pub fn promises_kept(alloc: Global, ring: &Ring, plan: &Plan, cert: &Cert) -> Result<Kept, Refusal>
     requires { Suits ring.now plan.now }
     ensures kept { IfOk result (λ said. KeepsWhatIsSaid ring.now plan.now said) }
+    ensures all { first_refusal ring.now plan.now cert.now ≡ None → IfOk result NamesAll }
     ensures refused { IfErr result (λ e. first_bad plan.now 0 cert.now.facts ≡ None → e ≡ OutOfMemory) }
+    ensures late { IfErr result (λ e. e ≡ OutOfMemory → first_bad plan.now 0 cert.now.facts ≡ None) }
 {
     let facts = Facts::verify(alloc, plan, &cert.facts)?;
     let context = Context {

@@ -1,4 +1,4 @@
-//! Laws about the definitions, which cost nothing: each is the contract of a function that does nothing.
+//! Laws about the definitions: each is the contract of a function that does nothing.
 
 ghost use Rattle.std.specs.Prelude.{◌≡◌, ◌↔◌, ◌<◌, ◌+◌, ℕ, List, true, None, length, nat_lt};
 ghost use Rattle.std.specs.List.{list_all};
@@ -23,12 +23,12 @@ use plan_cert::Cert;
 use plan_text::Plan;
 use ring_table::Ring;
 
-/// What a certificate proves in order is before, so a plan that it certifies is sound.
+/// A plan that a certificate certifies is sound.
 pub fn certified_is_sound()
     ensures { (ring : RingValue) (plan : List Planned) (cert : TheCert) → IsCertified ring plan cert → Sound ring plan }
 {}
 
-/// No clause of the checker fails exactly where the certificate certifies the plan.
+/// No clause of the checker fails exactly if the certificate certifies the plan.
 pub fn first_is_none_where_certified(ring: &Ring, plan: &Plan, cert: &Cert)
     requires { Suits ring.now plan.now }
     ensures { (first_refusal ring.now plan.now cert.now ≡ None) ↔ IsCertified ring.now plan.now cert.now }
@@ -42,13 +42,12 @@ pub fn migration_changes_no_refusal()
         → first_refusal (migrated ring) plan cert ≡ first_refusal ring plan cert }
 {}
 
-/// After each of a slot's steps its owner is no node that still has to drop what it held, and its mirror is neither of these.
+/// After each of a slot's steps, its owner has nothing left to drop, and its mirror is a third node.
 pub fn stages_are_good()
     ensures { (ring : RingValue) (plan : List Planned) → Sound ring plan → AreGoodStages ring plan }
 {}
 
-/// A node that owns or mirrors a slot has begun to, at the start or by a mirror step, and has not left it since; and where each
-/// step of a slot fits its stage, whoever has begun and has not left owns or mirrors it.
+/// A node owns or mirrors a slot exactly if it has begun to and has not left it since. One direction holds only if each step fits its stage.
 pub fn servers_occupy(ring: &Ring, plan: &Plan)
     ensures occupy { ServersOccupy ring.now plan.now }
     ensures serve { AllStaged ring.now plan.now → OccupantsServe ring.now plan.now }
@@ -56,15 +55,15 @@ pub fn servers_occupy(ring: &Ring, plan: &Plan)
     let _ = (ring.n(), plan.len());
 }
 
-/// In every run of a plan whose slots act in order the finished steps of a slot are its first ones.
+/// In every run, a slot's finished steps are its first ones, if its steps act in order.
 pub fn finished_steps_come_first(ring: &Ring, plan: &Plan)
     ensures { AreInTurn ring.now plan.now (Before plan.now) → Always ring.now plan.now (AreFinishedFirst plan.now) }
 {
     let _ = (ring.n(), plan.len());
 }
 
-/// If slots act in order and copies read enough, acknowledged puts are held in every run, and gets see them. If stores may be lost, nodes must also
-/// leave a slot before they serve another one of the partition.
+/// Acknowledged puts are held in every run, and gets see them, if slots act in order and copies read enough. If nodes may lose their data, each must also
+/// leave a slot before it serves another of the partition.
 pub fn puts_stay_held(ring: &Ring, plan: &Plan)
     ensures { AreInTurn ring.now plan.now (Before plan.now) → ReadEnough ring.now plan.now
         → (0 < ring.now.loss → HaveLeft ring.now plan.now (Before plan.now)) → HoldsPuts ring.now plan.now }
@@ -72,8 +71,8 @@ pub fn puts_stay_held(ring: &Ring, plan: &Plan)
     let _ = (ring.n(), plan.len());
 }
 
-/// If slots act in order and nodes leave a slot before they serve another one of the partition, no two slots of a partition share a node in any run,
-/// keepers of hints included.
+/// No two slots of a partition share a node in any run, hint keepers included, if slots act in order and each node leaves a slot before it serves
+/// another of the partition.
 pub fn groups_stay_apart(ring: &Ring, plan: &Plan)
     ensures { AreInTurn ring.now plan.now (Before plan.now) → HaveLeft ring.now plan.now (Before plan.now)
         → Always ring.now plan.now (GroupsAreApart ring.now plan.now) }
@@ -81,8 +80,7 @@ pub fn groups_stay_apart(ring: &Ring, plan: &Plan)
     let _ = (ring.n(), plan.len());
 }
 
-/// If slots act in order, no source moves while it is read, and chains cover the copies, no node takes part in more open copies than its allowance in any
-/// run, on any side that this counts.
+/// No node has more transfers open than its allowance in any run, if slots act in order, no source moves while it is read, and chains cover the copies.
 pub fn transfers_stay_few(ring: &Ring, plan: &Plan)
     ensures { AreInTurn ring.now plan.now (Before plan.now) → AreSettled plan.now (Before plan.now)
         → (chains : ℕ → Side → List (List ℕ)) → AreCovered ring.now plan.now (Before plan.now) chains
@@ -91,7 +89,7 @@ pub fn transfers_stay_few(ring: &Ring, plan: &Plan)
     let _ = (ring.n(), plan.len());
 }
 
-/// If slots act in order and nodes serve after they join and before they retire, each slot's owner and mirror are members in every run.
+/// Each slot's owner and mirror are members in every run, if slots act in order and nodes serve only between joining and retiring.
 pub fn servers_stay_members(ring: &Ring, plan: &Plan)
     ensures { AreInTurn ring.now plan.now (Before plan.now) → ServeAsMembers ring.now plan.now (Before plan.now)
         → Always ring.now plan.now (ServersAreMembers ring.now plan.now) }
@@ -99,17 +97,16 @@ pub fn servers_stay_members(ring: &Ring, plan: &Plan)
     let _ = (ring.n(), plan.len());
 }
 
-/// The headline: a sound plan keeps its promises at every moment of every run of it, with any puts, gets, outages, hints and handoffs between and as many
-/// lost stores as the ring allows. For each acknowledged put, any R slots of its partition include one whose owner or hint keeper holds it or a causal
-/// successor. No two slots of a partition share a node, no node has more transfers open than its allowance, and each slot's owner and mirror are members.
-/// The reply of each get has, for each put of its key that was acknowledged before the get started, that put or a causal successor.
+/// The headline: a sound plan keeps its promises at every moment of every run.
+///
+/// A run has any puts, gets, outages, hints and handoffs, and as many nodes that lose their data as the ring allows. `check` lists the promises.
 pub fn sound_plans_keep_promises(ring: &Ring, plan: &Plan)
     ensures { Sound ring.now plan.now → KeepsPromises ring.now plan.now }
 {
     let _ = (ring.n(), plan.len());
 }
 
-/// Where the checker has no refusal, the plan keeps its promises.
+/// A plan keeps its promises if the checker has no refusal.
 pub fn accepted_plans_keep_promises(ring: &Ring, plan: &Plan, cert: &Cert)
     requires { Suits ring.now plan.now }
     ensures { first_refusal ring.now plan.now cert.now ≡ None → KeepsPromises ring.now plan.now }
@@ -119,7 +116,7 @@ pub fn accepted_plans_keep_promises(ring: &Ring, plan: &Plan, cert: &Cert)
     sound_plans_keep_promises(ring, plan);
 }
 
-/// Two lists of different numbers below n that are together longer than n share a number: every read meets every write.
+/// Every read meets every write: two lists of different numbers below n share a number if they are together longer than n.
 pub fn quorums_meet()
     ensures { (n : ℕ) (xs ys : List ℕ) → all_different xs ≡ true → all_different ys ≡ true
         → list_all (λ x. nat_lt x n) xs ≡ true → list_all (λ y. nat_lt y n) ys ≡ true → n < length xs + length ys

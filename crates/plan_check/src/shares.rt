@@ -1,4 +1,4 @@
-//! The partitions in shares, which workers check side by side.
+//! Shares of the partitions, which workers check in parallel.
 
 ghost use Rattle.std.specs.Prelude.{◌≡◌, ◌^◌, ◌<◌, ◌≤◌, ℕ, Err, IfNone, IfSome, length, slice_index_or};
 ghost use Rattle.ring_names.specs.declared.refusal.Refusal.TheVariants.{OutOfMemory};
@@ -26,7 +26,7 @@ pub(crate) enum ShareOutcome {
     Checked(Result<(), Refusal>),
 }
 
-/// Who checks: at most so many workers by threads, each of which passes the gate before its share.
+/// Who checks: at most `workers` threads, each of which passes the gate before its share.
 #[derive(Drop)]
 pub(crate) struct Workers<'r, 'g, R: Wait, G: Gate> {
     pub rt: &'r R,
@@ -35,8 +35,7 @@ pub(crate) struct Workers<'r, 'g, R: Wait, G: Gate> {
     pub gate: &'g G,
 }
 
-/// Tests the clauses of the partitions from number `from` on, up to but not including `to`, and answers with the first refusal. Costs what
-/// `check_partition` costs for each.
+/// Tests the clauses of partitions `from` to `to`, without `to`, and answers with the first refusal.
 pub(crate) fn check_share(
     alloc: Global,
     context: &Context,
@@ -84,7 +83,7 @@ fn work_share<R: Wait, G: Gate>(
     ShareOutcome::Checked(check_share(by.alloc, context, from, to))
 }
 
-// What the outcomes of all shares come to: none where a worker was stopped, and else the refusal of the first share that has one.
+// Puts the outcomes of all shares together: none if a worker was stopped, otherwise the first refusal.
 fn gather<R: Wait, G: Gate>(
     by: &Workers<R, G>,
     context: &Context,
@@ -111,16 +110,14 @@ fn gather<R: Wait, G: Gate>(
     Some(first)
 }
 
-/// Tests the clauses of every partition, by as many workers as are asked for but not more than there are partitions; none is as one. Worker s
-/// passes the gate with the first partition of its share for its mark, and then checks its share; where no thread can be started, the calling
-/// thread does the shares in turn. None where the gate stopped a worker, and else the refusal of the least partition that has one.
+/// Tests the clauses of every partition, as `check_parallel` shares them. None if the gate stopped a worker, otherwise the first refusal.
 pub(crate) fn check_shares<R: Threads + Wait + Sync, G: Gate + Sync>(
     by: &Workers<R, G>,
     context: &Context,
 ) -> Option<Result<(), Refusal>>
     requires facts { AreFactsOf context.now.plan.now context.now.facts.now }
     ensures stopped { IfNone result (MayStop (G.may_refuse by.now.gate.now) by.now.workers context.now.ring.now.q) }
-    // Where a pass must be refused and yet none was, memory for the threads' answers ran out.
+    // If a pass must be refused and none was, memory for the threads' answers ran out.
     ensures turned { MustStop (G.must_refuse by.now.gate.now) by.now.workers context.now.ring.now.q
         → IfSome result (λ r. r ≡ Err OutOfMemory) }
     ensures first { IfSome result (λ r. Gives r (below (partition_clauses context.now.ring.now context.now.plan.now
