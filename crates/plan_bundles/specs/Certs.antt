@@ -29,7 +29,8 @@ front_at = map_part front_of (then_part ring_at plan_at)
 abbrev pub front_reading : List ℕ → Result (RingValue × List Planned) Refusal
 front_reading bytes = map_ok (λ x. parts x.0) (front_at (record { line = 1; lines = lines_of bytes }))
 
--- the text is that of the ring, the plan and a certificate by which the checker accepts the plan, and the plan keeps its promises
+-- the text is that of the ring, the plan and a certificate by which the checker accepts the plan. The plan
+-- keeps its promises
 abbrev pub IsCertifiedBy : RingValue → List Planned → List ℕ → Type 0
 IsCertifiedBy ring plan text = (cert : Cert) × (text ≡ front_text ring plan cert) × IsCertified ring plan cert × KeepsPromises ring plan
 

@@ -17,7 +17,8 @@ waits_of plan n = elim (slice_get plan n) [ Some x ↦ x.after | None ↦ [] ]
 abbrev pub waits_in : (ℕ → ℕ) → (ℕ → ℕ) → ℕ → List ℕ → List ℕ
 waits_in window number k steps = map number (filter (λ d. window d == k) steps)
 
--- step n of the plan is a step of its window: there it waits for its dependencies that are in this window, and each other one is in a window before
+-- step n of the plan is a step of its window. There it waits for its dependencies in this window, and all
+-- others are in windows before
 pub record IsPlaced (plan : List Planned) (plans : List (List Planned)) (window number : ℕ → ℕ) (n : ℕ) : Type 0 where
   pub same : AreSame plan (plan_at plans (window n)) n (number n)
   pub waits : waits_of (plan_at plans (window n)) (number n) ≡ waits_in window number (window n) (waits_of plan n)

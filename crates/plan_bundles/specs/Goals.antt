@@ -1,4 +1,4 @@
--- What leads from a ring to the ring that it shall become.
+-- What leads from a ring to the ring that it should become.
 use Rattle.std.specs.List.{flat_map}
 use Rattle.std.specs.Prelude.{◌≡◌, ℕ, Bool, not, ◌&&◌, ◌||◌, ◌⊎◌, List, [], ◌∷◌, ◌++◌, Some, Ok, true, map, length, replicate, if◌then◌else◌}
 use Rattle.ring_names.specs.declared.ids.NodeId.{NodeId}
@@ -79,17 +79,18 @@ dead_named fact = []
 abbrev pub dead_names : Options → List (List ℕ)
 dead_names options = map (λ name. name.items) options.dead.items ++ flat_map (λ x. dead_named x.fact) options.layout.entries
 
--- the plan leads from the ring of the bytes to one with the members of their change, in which each dead member leaves too, around the nodes that are named dead, and
--- by sizes where there are some
+-- the plan leads from the ring of the bytes to one with the members of their change, in which each dead member
+-- leaves too. It goes around the nodes that are named dead, and by sizes if there are some
 abbrev pub IsWishReached : List ℕ → Options → Proposed → Type 0
 IsWishReached bytes options p = (w : Wanted) × (whole_text wanted_at bytes ≡ Ok w) × (wanted : RingValue) × (dead : List NodeId)
     × AreNamed w.ring (dead_names options) dead × HasChangedMembers w.ring (with_dead w.ring dead w.change) wanted
     × IsSizedAsAsked options w.ring (with_dead w.ring dead w.change) wanted × LeadsFrom w.ring (wanted_by options.unreadable w.ring dead wanted) dead p
 
--- the plan leads from the first ring of the bytes to another one: to the second of two rings, or to one with the members of a change
+-- the plan leads from the first ring of the bytes to another. That is the second of two rings, or one with the
+-- members of a change
 abbrev pub IsLed : List ℕ → Options → Proposed → Type 0
 IsLed bytes options p = IsGoalReached bytes options.unreadable (dead_names options) p ⊎ IsWishReached bytes options p
 
--- the text is that of such a plan, between those of its ring and its certificate
+-- the text is that of such a plan, between the texts of the ring and the certificate
 abbrev pub IsLedText : List ℕ → Options → List ℕ → Type 0
 IsLedText bytes options text = (p : Proposed) × IsLed bytes options p × (text ≡ front_text p.approved.ring p.approved.plan p.cert)

@@ -8,7 +8,7 @@ use Rattle.plan_text.specs.declared.step.Planned.{Planned}
 use Rattle.plan_text.specs.Steps.{joined, retired}
 use Rattle.plan_moves.specs.Owners.{last_owners}
 
--- whether the node is a member once the plan is done: it was or it joined, and it did not retire
+-- whether the node is a member once the plan is done: it was or joined, and did not retire
 abbrev pub member_after : RingValue → List Planned → NodeId → Bool
 member_after ring plan x = (is_member ring.nodes x || has x.0 (joined plan)) && not (has x.0 (retired plan))
 

@@ -1,5 +1,5 @@
--- What is promised of a ring where partitions have sizes: a slot has a new owner only if it was a leaver's, or if it has keys and goes to a node that joins and
--- stores no more than its share in the end.
+-- What is promised of a ring whose partitions have sizes. A slot has a new owner only if it was a leaver's, or
+-- if it has keys and goes to a joining node. That node stores no more than its share in the end.
 use Rattle.std.specs.Prelude.{◌≡◌, ℕ, zero, suc, ◌+◌, ◌*◌, ◌==◌, Bool, true, false, ◌&&◌, ◌||◌, nat_lt, nat_le, List, [], ◌∷◌, Some, None, length, slice_get, slice_index, slice_set, replicate, if◌then◌else◌}
 use Rattle.ring_names.specs.Lists.{has}
 use Rattle.ring_names.specs.declared.ids.NodeId.{NodeId}
@@ -59,7 +59,7 @@ unfoldable pub holds_below : (ℕ → Bool) → ℕ → Bool
 holds_below test zero = true
 holds_below test (suc x) = holds_below test x && test x
 
--- what nodes store, with a slot of that size more of one of them
+-- what nodes store, if one of them stores another slot with that size
 abbrev pub with_slot : ℕ → List ℕ → NodeId → List ℕ
 with_slot size loads x = slice_set loads x.0 (slice_index loads x.0 + size)
 
@@ -92,7 +92,8 @@ takes joins loads stored weights all x = has x (numbers joins) && nat_le (slice_
 abbrev pub is_taker : List NodeId → List ℕ → List ℕ → RingValue → ℕ → Bool
 is_taker joins sizes weights ring = takes joins (loads_below sizes ring.owners (length ring.nodes) (length ring.owners)) (all_stored sizes ring) weights (all_weights weights ring)
 
--- a slot of a partition of that size may go from one owner to the other, of a partition each, and of a ring each
+-- a slot of a partition with that size may go from one owner to the other. Then the same for a partition, and
+-- for a ring
 abbrev pub may_go : List Bool → List Bool → ℕ → NodeId → NodeId → Bool
 may_go leavers takers size old new = (old.0 == new.0) || (is_flagged leavers old.0 || (nat_lt 0 size && is_flagged takers new.0))
 

@@ -10,7 +10,7 @@ use Rattle.plan_goal.specs.Unread.{is_unread}
 use Rattle.plan_bundles.specs.Rings.{flags}
 use Rattle.plan_bundles.specs.Sized.{row_at}
 
--- a partition's owners: those before if it is unread, and else those after
+-- a partition's owners: the old ones if it is unread, and otherwise the new ones
 abbrev pub kept_row : ℕ → List NodeId → List NodeId → List NodeId → List NodeId
 kept_row r dead before after = if is_unread r dead before after then before else after
 
@@ -23,7 +23,7 @@ kept_rows r dead before after (suc p) = kept_rows r dead before after p ++ kept_
 abbrev pub owns : List (List NodeId) → ℕ → Bool
 owns rows x = list_any (λ row. has x (numbers row)) rows
 
--- whether the node is a member in the end: it should be one, or it is one and owns a slot
+-- whether the node is a member in the end: it should be a member, or is a member and owns a slot
 abbrev pub is_kept_member : RingValue → RingValue → List (List NodeId) → ℕ → Bool
 is_kept_member ring wanted rows x = is_member wanted.nodes (record { 0 = x }) || (is_member ring.nodes (record { 0 = x }) && owns rows x)
 

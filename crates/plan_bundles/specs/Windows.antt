@@ -13,14 +13,15 @@ use Rattle.plan_bundles.specs.Cuts.{IsCut}
 use Rattle.plan_goal.specs.Proposals.{front_text}
 use Rattle.plan_bundles.specs.Rings.{ring_left}
 
--- a window over a ring: the texts of the ring, of this plan, which keeps its promises, and of its certificate
+-- a window over a ring: the texts of the ring, this plan, which keeps its promises, and its certificate
 pub record IsWindow (ring : RingValue) (plan : List Planned) (text : List ℕ) : Type 0 where
   pub cert : Cert
   pub text_is : text ≡ front_text ring plan cert
   pub certified : IsCertified ring plan cert
   pub keeps : KeepsPromises ring plan
 
--- windows one after the other, by their texts and their plans, from one ring to another, each over the ring that the one before it leaves
+-- windows one after the other, by their texts and plans, from one ring to another. Each is over the ring that
+-- the one before leaves
 pub data AreWindows (first : RingValue) : List (List ℕ) → List (List Planned) → RingValue → Type 0 where
   no_window : AreWindows first [] [] first
   one_more : (texts : List (List ℕ)) (plans : List (List Planned)) (before : RingValue) (text : List ℕ) (plan : List Planned) → AreWindows first texts plans before → IsWindow before plan text

@@ -1,4 +1,4 @@
-//! A certificate for a ring and a plan, whether or not one stands behind them.
+//! Certificates for a ring and a plan. What follows the two texts is ignored.
 
 ghost use Rattle.std.specs.Prelude.{◌≡◌, IfOk};
 ghost use Rattle.texts.specs.Judging.{Gives, map_ok};
@@ -18,21 +18,20 @@ use ring_table::{Ring, Side, read_ring_section};
 use std::alloc::Global;
 use texts::Lines;
 
-/// A ring, and a plan of it.
 #[derive(Drop)]
 pub(crate) struct Front {
     pub(crate) ring: Ring,
     pub(crate) plan: Plan,
 }
 
-// A certificate that was found, and its text after those of its ring and its plan.
+// A certificate, and the text of ring, plan and certificate.
 #[derive(Drop)]
 struct Candidate {
     found: Outcome,
     text: Vec<u8>,
 }
 
-// The ring, and the plan behind it. A ring's fault comes before a plan's.
+// Reads the ring, then the plan. A ring's fault comes first.
 #[tactic(auto, unfolding(crate::specs::Certs::front_at))]
 fn read_both(alloc: Global, lines: &mut Lines) -> Result<Front, Refusal>
     ensures read { Reads result lines.new (front_at lines.old) }
@@ -43,7 +42,6 @@ fn read_both(alloc: Global, lines: &mut Lines) -> Result<Front, Refusal>
     Ok(Front { ring, plan })
 }
 
-// The ring and the plan with which the bytes begin; what stands behind them is not read.
 fn read_front(alloc: Global, bytes: &[u8]) -> Result<Front, Refusal>
     ensures read { Gives (map_ok parts result) (front_reading bytes.now) }
     ensures suits { IfOk result (λ f. PlanSuits f.ring f.plan) }
@@ -52,7 +50,7 @@ fn read_front(alloc: Global, bytes: &[u8]) -> Result<Front, Refusal>
     read_both(alloc, &mut lines)
 }
 
-// A certificate for the plan, which the checker was not asked about.
+// Finds a certificate, without asking the checker.
 fn found(alloc: Global, ring: &Ring, plan: &Plan) -> Result<Candidate, Refusal>
     requires { PlanSuits ring.now plan.now }
     ensures { IfOk result (λ f. f.text.items ≡ front_text ring.now plan.now f.found.cert) }
@@ -62,7 +60,7 @@ fn found(alloc: Global, ring: &Ring, plan: &Plan) -> Result<Candidate, Refusal>
     Ok(Candidate { found, text })
 }
 
-// The ring, the plan and the certificate that was found, where the checker accepts the plan by it.
+// Returns the texts with the certificate that was found, if the checker accepts the plan with it.
 fn certified(alloc: Global, front: Front) -> Result<Vec<u8>, Refusal>
     requires { PlanSuits front.ring front.plan }
     ensures { IfOk result (λ text. IsCertifiedBy front.ring front.plan text.items) }
@@ -75,18 +73,22 @@ fn certified(alloc: Global, front: Front) -> Result<Vec<u8>, Refusal>
     }
 }
 
-/// The texts of the ring and the plan with which the bytes begin, and of a certificate that is found for them: paths of dependencies, and the fewest chains that the
-/// plan's order allows. What stands behind the plan is not read. Refused is the first fault of the two texts; else, where that certificate is not enough, what the
-/// checker refuses with it. But where a node has too many chains since the search for fewer was given up, the refusal is `NoPlan`.
+/// Reads a ring and a plan, and returns them with a certificate. What follows the plan is not read.
+///
+/// The certificate has paths of dependencies, and the fewest chains that the plan's order allows.
+///
+/// Fails with the first fault of the two texts, then with the checker's refusal.
+///
+/// If a node has too many chains because the search for fewer was given up, fails with `NoPlan`.
 pub fn cert_bundle(alloc: Global, bytes: &[u8]) -> Result<Vec<u8>, Refusal>
-    // The ring and the plan are those of the bundle, the checker accepts the plan by the certificate, and so the plan keeps its promises.
+    // The ring and the plan are the input's. The checker accepts the plan with the certificate, so the plan keeps its promises.
     ensures certified { IfOk result (λ text. IsCertifiedText bytes.now text.items) }
 {
     let front = read_front(alloc, bytes)?;
     certified(alloc, front)
 }
 
-/// The ring and the plan with which the bytes begin, and the best certificate that was found. The checker is not asked.
+/// Reads a ring and a plan, and returns them with the best certificate found. The checker is not asked.
 pub fn found_bundle(alloc: Global, bytes: &[u8]) -> Result<Vec<u8>, Refusal>
     ensures { IfOk result (λ text. IsClaimedText bytes.now text.items) }
 {
@@ -95,7 +97,7 @@ pub fn found_bundle(alloc: Global, bytes: &[u8]) -> Result<Vec<u8>, Refusal>
     Ok(text)
 }
 
-/// Adds, where the checker refuses a found certificate since a node has too many chains, that there can be no fewer, if that is so.
+/// If the checker refused a found certificate for a node's chains, adds that fewer are impossible, if so.
 pub fn push_excess(
     alloc: Global,
     out: &mut Words,

@@ -1,4 +1,4 @@
-//! Plans that are done one behind the other.
+//! Cuts a plan into windows that run one after another.
 
 use crate::groups::Groups;
 use crate::pieces::{Pieces, Place, waits_in};
@@ -9,10 +9,9 @@ use ring_names::{Listed, Refusal};
 use ring_table::Ring;
 use std::alloc::Global;
 
-// How often the steps may be gone through until no group waits for a later window.
+// The most passes until no group waits for a later window.
 const PASSES: u32 = 64;
 
-// The window of each group.
 #[derive(Drop)]
 struct Windows<'a> {
     plan: &'a Plan,
@@ -26,7 +25,7 @@ impl<'a> Windows<'a> {
         at(&self.of_groups, group as usize)
     }
 
-    // The group of the step comes in that window or later.
+    // Puts the step's group in this window, unless it comes later.
     fn raise(&mut self, step: u32, window: u32) -> bool {
         let group = at(self.of_steps, step as usize) as usize;
         if at(&self.of_groups, group) >= window {
@@ -36,7 +35,7 @@ impl<'a> Windows<'a> {
         true
     }
 
-    // Each group comes in the window of its copy's round, counted from 1.
+    // Puts each group in the window of its copy's round, counted from 1.
     fn begin(&mut self, rounds: &[u32], width: u32) {
         let plan = self.plan;
         for number in 0..plan.len() {
@@ -49,7 +48,7 @@ impl<'a> Windows<'a> {
         }
     }
 
-    // Each group comes no sooner than those that its steps wait for. Answers whether one was too soon.
+    // Puts each group no earlier than those that its steps wait for. Returns whether one was too early.
     fn pass(&mut self) -> bool {
         let plan = self.plan;
         let mut is_raised = false;
@@ -65,7 +64,7 @@ impl<'a> Windows<'a> {
         is_raised
     }
 
-    // Passes until no step is too soon; where that takes too long, there is one window.
+    // Repeats passes until no step is too early. If that takes too long, makes one window.
     fn settle(&mut self) {
         for _ in 0..PASSES {
             if !self.pass() {
@@ -77,7 +76,6 @@ impl<'a> Windows<'a> {
         }
     }
 
-    // How many windows there are, one at least.
     fn count(&self) -> u32 {
         let mut last = 0u32;
         for window in self.of_groups.iter() {
@@ -87,7 +85,6 @@ impl<'a> Windows<'a> {
     }
 }
 
-// The step once more.
 fn again(alloc: Global, step: &Step) -> Result<Step, Refusal> {
     Ok(match step {
         Step::Join(node) => Step::Join(*node),
@@ -103,7 +100,6 @@ fn again(alloc: Global, step: &Step) -> Result<Step, Refusal> {
     })
 }
 
-// Plans that are being written, one for each window.
 #[derive(Drop)]
 struct Cutting {
     alloc: Global,
@@ -111,7 +107,6 @@ struct Cutting {
 }
 
 impl Cutting {
-    // Adds a step to its window.
     fn add(
         &mut self,
         step: &Step,
@@ -142,7 +137,6 @@ impl Cutting {
     }
 }
 
-// The plans of the windows.
 fn pieces(alloc: Global, windows: &Windows) -> Result<Pieces, Refusal> {
     let mut cutting = Cutting {
         alloc,
@@ -160,8 +154,10 @@ fn pieces(alloc: Global, windows: &Windows) -> Result<Pieces, Refusal> {
     Ok(cutting.pieces)
 }
 
-/// The plan's steps in windows of so many rounds of copies, by the round of each step: a plan for each window, in which a step waits for what it waits for in that window; what is done in
-/// earlier windows is done. The steps that take a slot from one owner to the next stay together, with the drop behind them.
+/// Cuts the plan into windows of `width` rounds of copies. The steps that hand a slot on stay together, with
+/// their drop.
+///
+/// A step keeps only dependencies in its own window; earlier ones are done.
 pub fn cut(
     alloc: Global,
     ring: &Ring,

@@ -1,4 +1,4 @@
-//! Plans that lead from a ring to the ring that it should become.
+//! Plans from a ring to another ring.
 
 ghost use Rattle.std.specs.Prelude.{◌≡◌, ◌++◌, true, map, length, IfOk, OnOk};
 ghost use Rattle.plan_bundles.specs.Rings.{flags};
@@ -19,7 +19,7 @@ use ring_names::{Listed, NodeId, Refusal};
 use ring_table::Ring;
 use std::alloc::Global;
 
-/// The nodes of these names, in their order. A name that the ring does not declare is `UnknownNode(0)`.
+/// Returns the named nodes, in order. Fails with `UnknownNode(0)` if the ring does not declare a name.
 pub fn nodes_of(alloc: Global, ring: &Ring, names: &[Vec<u8>]) -> Result<Vec<NodeId>, Refusal>
     ensures { IfOk result (λ v. AreNamed ring.now (map (λ name. name.items) names.now) v.items) }
 {
@@ -33,7 +33,6 @@ pub fn nodes_of(alloc: Global, ring: &Ring, names: &[Vec<u8>]) -> Result<Vec<Nod
     Ok(nodes)
 }
 
-// Adds the name of the node that a fact says is dead, if it says so.
 fn add_dead_name(alloc: Global, fact: &Fact, names: &mut Vec<Vec<u8>>) -> Result<(), Refusal>
     ensures { OnOk result (map (λ name. name.items) names.new.items ≡ map (λ name. name.items) names.old.items ++ dead_named fact.now) }
 {
@@ -44,7 +43,6 @@ fn add_dead_name(alloc: Global, fact: &Fact, names: &mut Vec<Vec<u8>>) -> Result
     Ok(())
 }
 
-// A copy of the names.
 fn copy_names(alloc: Global, names: &[Vec<u8>]) -> Result<Vec<Vec<u8>>, Refusal>
     ensures { IfOk result (λ copies. map (λ name. name.items) copies.items ≡ map (λ name. name.items) names.now) }
 {
@@ -55,7 +53,7 @@ fn copy_names(alloc: Global, names: &[Vec<u8>]) -> Result<Vec<Vec<u8>>, Refusal>
     Ok(copies)
 }
 
-/// The names of the nodes that are dead by the options: those of the line, and then those of the layout.
+/// Returns the dead nodes' names: from the command line, then from the layout.
 pub fn dead_by(alloc: Global, options: &Options) -> Result<Vec<Vec<u8>>, Refusal>
     ensures { IfOk result (λ names. map (λ name. name.items) names.items ≡ dead_names options.now) }
 {
@@ -67,8 +65,11 @@ pub fn dead_by(alloc: Global, options: &Options) -> Result<Vec<Vec<u8>>, Refusal
     Ok(names)
 }
 
-/// Reads two rings, and finds a plan that leads from the first to the second, around the nodes that are named dead. If unread partitions are left, their slots stay
-/// with their owners. Refused is the first fault of the rings, a name that the first does not declare, as `UnknownNode(0)`, and what `reach` refuses.
+/// Reads two rings, and finds a plan from the first to the second, around the dead nodes. If unread partitions are
+/// left, their slots stay.
+///
+/// Fails with the first fault of the rings. Then fails with `UnknownNode(0)` for a name that the first ring
+/// does not declare, and as `reach` does.
 pub fn goal_bundle(
     alloc: Global,
     bytes: &[u8],
@@ -83,7 +84,6 @@ pub fn goal_bundle(
     reach(alloc, ring, &goal, nodes.as_slice())
 }
 
-// Whether each node is a member once the change is made.
 fn members_of(alloc: Global, ring: &Ring, change: &Change) -> Result<Vec<bool>, Refusal>
     ensures { IfOk result (λ members. members.items
         ≡ flags (is_changed_member ring.now change.now) (length ring.now.nodes)) }
@@ -97,7 +97,6 @@ fn members_of(alloc: Global, ring: &Ring, change: &Change) -> Result<Vec<bool>, 
     Ok(members)
 }
 
-// Whether the node is one.
 fn is_member_of(ring: &Ring, change: &Change, node: NodeId) -> bool
     ensures { result ≡ is_changed_member ring.now change.now node.0 }
 {
@@ -105,7 +104,6 @@ fn is_member_of(ring: &Ring, change: &Change, node: NodeId) -> bool
         && !is_among(change.leaves.as_slice(), node)
 }
 
-// Adds each dead member that is none of the nodes yet.
 fn add_dead(ring: &Ring, dead: &[NodeId], leaves: &mut Vec<NodeId>) -> Result<(), Refusal>
     ensures { OnOk result (leaves.new.items ≡ leaves_too ring.now dead.now leaves.old.items) }
 {
@@ -118,7 +116,7 @@ fn add_dead(ring: &Ring, dead: &[NodeId], leaves: &mut Vec<NodeId>) -> Result<()
     add_dead(ring, more, leaves)
 }
 
-/// The change in which each dead member leaves too.
+/// Lets each dead member leave too.
 pub fn with_dead(ring: &Ring, change: Change, dead: &[NodeId]) -> Result<Change, Refusal>
     ensures { IfOk result (λ v. v ≡ the_change_with_dead ring.now dead.now change) }
 {
@@ -131,7 +129,6 @@ pub fn with_dead(ring: &Ring, change: Change, dead: &[NodeId]) -> Result<Change,
     })
 }
 
-// What is wished of the ring.
 #[derive(Drop)]
 struct Asked {
     weights: Vec<u32>,
@@ -158,7 +155,6 @@ fn asked_for(
     })
 }
 
-// The wish for a change.
 fn wish<'a>(asked: &'a Asked, change: &'a Change) -> Wish<'a> {
     Wish {
         joins: change.joins.as_slice(),
@@ -175,7 +171,6 @@ fn wish<'a>(asked: &'a Asked, change: &'a Change) -> Wish<'a> {
     }
 }
 
-// The owners that are wished for.
 fn placed(
     alloc: Global,
     ring: &Ring,
@@ -186,7 +181,6 @@ fn placed(
     wished(alloc, ring, &wish(&asked, change))
 }
 
-// The ring that is wished for.
 fn wished_ring(
     alloc: Global,
     ring: &Ring,
@@ -200,8 +194,7 @@ fn wished_ring(
     ring.with(alloc, rows.as_slice(), members.as_slice())
 }
 
-// Asks whether each slot may have its owner in the wanted ring by the sizes of the layout. If it may not, that is `NoPlan`. Without sizes there is
-// nothing to ask.
+// Checks the owners against the layout's sizes, if it has any. Fails with `NoPlan` if a slot may not have its owner.
 fn ask_sized(
     alloc: Global,
     ring: &Ring,
@@ -224,12 +217,19 @@ fn ask_sized(
     Err(Refusal::NoPlan)
 }
 
-/// Reads a ring and a change, and finds a plan that leads from the ring to one with the members of the change, around the nodes that are dead by the options, by
-/// weight and with racks apart. A dead member leaves, whether or not the change says so. If the layout has sizes, a slot has a new owner only if it was a leaver's, or if
-/// it has keys and goes to a node that joins and stores no more than its share. If unread partitions are left, their slots stay with their owners.
+/// Reads a ring and a change, and finds a plan that makes the change, around the dead nodes, by weight and with racks
+/// apart. Dead members leave in any case.
 ///
-/// Refused is the first fault of the texts; a name that the ring does not declare, and a member without a rack where racks are known, as `UnknownNode(0)`; a partition
-/// that the ring does not have, as `TooLarge` with its line in the layout; a change that leaves too few members, as `NoPlan`; and what `reach` refuses.
+/// If unread partitions are left, their slots stay.
+///
+/// With sizes in the layout, only slots of leavers get new owners, and slots with keys if the joiner is not
+/// above its share.
+///
+/// Fails with the first fault of the texts. Fails with `UnknownNode(0)` for a name that the ring does not
+/// declare, or a member without a rack if racks are known.
+///
+/// Fails with `TooLarge` and the layout's line for an unknown partition, with `NoPlan` if too few members
+/// remain, and as `reach` does.
 pub fn wish_bundle(alloc: Global, bytes: &[u8], options: &Options) -> Result<Proposed, Refusal>
     ensures reached { IfOk result (IsWishReached bytes.now options.now) }
 {
@@ -244,7 +244,7 @@ pub fn wish_bundle(alloc: Global, bytes: &[u8], options: &Options) -> Result<Pro
     reach(alloc, ring, &goal, nodes.as_slice())
 }
 
-// The ring of a bundle, and the second ring or the one that is wished for, whatever is unread.
+// The ring of a bundle and its goal ring, as read or wished for.
 fn read_aim(alloc: Global, bytes: &[u8], options: &Options) -> Result<Goal, Refusal> {
     if kind_of(bytes) != Kind::Change {
         return read_goal(alloc, bytes);
@@ -257,7 +257,7 @@ fn read_aim(alloc: Global, bytes: &[u8], options: &Options) -> Result<Goal, Refu
     Ok(Goal { ring, wanted })
 }
 
-/// The ring of a bundle with two rings or a change, the ring to which a plan should lead, and the unread partitions, ascending.
+/// Returns the ring of a bundle, the goal ring, and the unread partitions, ascending.
 pub fn goal_of(
     alloc: Global,
     bytes: &[u8],
@@ -277,8 +277,8 @@ pub fn goal_of(
     Ok((Goal { ring, wanted }, unread))
 }
 
-/// Finds a plan that leads to the ring that is wished for: `goal_bundle` of two rings, around the nodes that are dead by the options, and `wish_bundle` of a ring and a
-/// change.
+/// Finds a plan to the goal ring: by `goal_bundle` from two rings, around dead nodes, or by `wish_bundle` from a ring
+/// and a change.
 pub fn led_bundle(alloc: Global, bytes: &[u8], options: &Options) -> Result<Proposed, Refusal>
     ensures led { IfOk result (IsLed bytes.now options.now) }
 {

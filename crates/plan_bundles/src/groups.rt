@@ -1,4 +1,4 @@
-//! The steps that stay together: those that take a slot from one owner to the next, with the drop that follows them.
+//! Groups of steps that stay together: those that hand a slot on, with the drop that follows.
 
 use find_chains::Stays;
 use helpers::at;
@@ -7,7 +7,7 @@ use ring_names::Refusal;
 use ring_table::Ring;
 use std::alloc::Global;
 
-/// By step the number of its group, and how many groups there are.
+/// By step the number of its group, and the number of groups.
 #[derive(Drop)]
 pub struct Groups {
     pub of_steps: Vec<u32>,
@@ -15,7 +15,7 @@ pub struct Groups {
 }
 
 impl Groups {
-    /// The groups of a plan's steps.
+    /// Groups the steps of a plan.
     pub fn of(alloc: Global, ring: &Ring, plan: &Plan) -> Result<Groups, Refusal> {
         let mut groups = Groups {
             of_steps: Vec::new(alloc),
@@ -31,7 +31,6 @@ impl Groups {
         Ok(groups)
     }
 
-    // The group of a step that stays with this earlier one; a group more where there is none.
     fn group(&mut self, leader: Option<u32>) -> u32 {
         if let Some(step) = leader {
             return at(self.of_steps.as_slice(), step as usize);
@@ -42,7 +41,8 @@ impl Groups {
     }
 }
 
-// The earlier step with which the next one stays: a copy and a switch with their mirror, a drop with the switch by which its node left the slot.
+// The earlier step of the same group. A copy and a switch follow their mirror; a drop follows the switch by which its
+// node left the slot.
 fn leader(stays: &Stays, step: &Step) -> Option<u32> {
     match step {
         Step::Copy(slot, _) | Step::Switch(slot) => stays.stay(stays.mirror_at(*slot))?.begun,

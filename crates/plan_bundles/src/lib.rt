@@ -1,4 +1,4 @@
-//! What is made for people of rings and plans, without a run: plans that lead to a ring that is wished for, certificates, windows, and the ring that a plan leaves.
+//! Makes plans to wished rings, certificates, windows, and the ring that a plan leaves, without a run.
 #![tactic(auto)]
 
 mod cert;

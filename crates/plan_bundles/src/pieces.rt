@@ -1,4 +1,4 @@
-//! Whether plans are a plan that was cut.
+//! Whether some plans are the windows of a plan.
 
 ghost use Rattle.std.specs.Prelude.{◌≡◌, ◌<◌, ℕ, nat_le, true, IsTrue, IfOk, Some, map, length};
 ghost use Rattle.std.specs.List.{list_all};
@@ -9,25 +9,24 @@ use plan_text::Plan;
 use ring_names::Refusal;
 use std::alloc::Global;
 
-/// Where a step is: in which window, and by which number there.
+/// The window of a step, and its number there.
 #[derive(Clone, Copy, Debug)]
 pub(crate) struct Place {
     pub window: u32,
     pub number: u32,
 }
 
-/// The plans of windows.
 #[derive(Drop)]
 pub(crate) struct Pieces {
     pub plans: Vec<Plan>,
-    /// By step of the plan, where it is.
+    /// By step of the whole plan.
     pub places: Vec<Place>,
-    /// By window, the numbers that its steps have in the plan.
+    /// By window, the numbers of its steps in the whole plan.
     pub steps: Vec<Vec<u32>>,
 }
 
 impl Pieces {
-    /// No window.
+    /// No windows.
     pub fn new(alloc: Global) -> Pieces {
         Pieces {
             plans: Vec::new(alloc),
@@ -37,7 +36,6 @@ impl Pieces {
     }
 }
 
-// Where the step is.
 fn place_of(places: &[Place], step: u32) -> Place
     ensures { result ≡ place_of places.now step }
 {
@@ -50,7 +48,7 @@ fn place_of(places: &[Place], step: u32) -> Place
     }
 }
 
-/// Those of these steps that are in the window, by their numbers there.
+/// Returns the steps that are in the window, by their numbers there.
 pub(crate) fn waits_in(
     alloc: Global,
     places: &[Place],
@@ -67,7 +65,6 @@ pub(crate) fn waits_in(
     Ok(those)
 }
 
-// Whether each of these steps is in the window, or in one before it.
 fn are_before(places: &[Place], window: u32, steps: &[u32]) -> bool
     ensures { result ≡ list_all (λ d. nat_le (window_by places.now d) window) steps.now }
 {
@@ -76,7 +73,7 @@ fn are_before(places: &[Place], window: u32, steps: &[u32]) -> bool
         .all(|step| place_of(places, *step).window <= window)
 }
 
-// Whether the step waits in its window for those of its dependencies that are there, and the others are in windows before.
+// Whether the step keeps its dependencies in the window, and has the others in earlier ones.
 fn waits_alike(
     alloc: Global,
     plan: &Plan,
@@ -97,7 +94,6 @@ fn waits_alike(
     Ok(piece.deps(place.number) == there.as_slice() && are_before(places, place.window, waits))
 }
 
-// Whether the step is a step of its window.
 fn is_placed(alloc: Global, plan: &Plan, pieces: &Pieces, step: u32) -> Result<bool, Refusal>
     requires { step < length plan.now }
     ensures { IfOk result (λ is. IsTrue is
@@ -113,7 +109,6 @@ fn is_placed(alloc: Global, plan: &Plan, pieces: &Pieces, step: u32) -> Result<b
     waits_alike(alloc, plan, pieces, step, piece, place)
 }
 
-// Which step of the plan is at that place.
 fn step_by(steps: &[Vec<u32>], place: Place) -> Option<u32>
     ensures { result ≡ step_by (map (λ v. v.items) steps.now) place }
 {
@@ -121,7 +116,6 @@ fn step_by(steps: &[Vec<u32>], place: Place) -> Option<u32>
     steps.get(place.number as usize).copied()
 }
 
-// Whether that step alone is at its place.
 fn is_alone(pieces: &Pieces, step: u32) -> bool
     ensures { IsTrue result → step_by (map (λ v. v.items) pieces.now.steps.items) (place_of pieces.now.places.items step) ≡ Some step }
 {
@@ -132,7 +126,7 @@ fn is_alone(pieces: &Pieces, step: u32) -> bool
     }
 }
 
-// Whether each step of the plan is a step of its window, and alone at its place.
+// Whether each step of the plan is in its window, the only step at its place.
 fn are_placed(alloc: Global, plan: &Plan, pieces: &Pieces) -> Result<bool, Refusal>
     ensures { IfOk result (λ is. IsTrue is → (n : ℕ) → n < length plan.now
         → IsPlaced plan.now pieces.now.plans.items (window_by pieces.now.places.items) (number_by pieces.now.places.items) n
@@ -146,7 +140,6 @@ fn are_placed(alloc: Global, plan: &Plan, pieces: &Pieces) -> Result<bool, Refus
     Ok(true)
 }
 
-// Whether the window's step of that number is a step of the plan.
 fn is_of_plan(plan: &Plan, pieces: &Pieces, window: u32, number: u32) -> bool
     ensures { IsTrue result → IsOfPlan plan.now (window_by pieces.now.places.items) (number_by pieces.now.places.items) window number }
 {
@@ -159,7 +152,6 @@ fn is_of_plan(plan: &Plan, pieces: &Pieces, window: u32, number: u32) -> bool
     }
 }
 
-// Whether each of so many steps of the window is a step of the plan.
 fn are_of_plan(plan: &Plan, pieces: &Pieces, window: u32, count: u32) -> bool
     ensures { IsTrue result → (i : ℕ) → i < count
         → IsOfPlan plan.now (window_by pieces.now.places.items) (number_by pieces.now.places.items) window i }
@@ -172,7 +164,6 @@ fn are_of_plan(plan: &Plan, pieces: &Pieces, window: u32, count: u32) -> bool
     true
 }
 
-// Whether each step of that window is a step of the plan.
 fn is_window_of_plan(plan: &Plan, pieces: &Pieces, window: u32) -> bool
     ensures { IsTrue result → (i : ℕ) → i < length (plan_at pieces.now.plans.items window)
         → IsOfPlan plan.now (window_by pieces.now.places.items) (number_by pieces.now.places.items) window i }
@@ -183,7 +174,6 @@ fn is_window_of_plan(plan: &Plan, pieces: &Pieces, window: u32) -> bool
     }
 }
 
-// Whether each step of each window is a step of the plan.
 fn all_are_of_plan(plan: &Plan, pieces: &Pieces) -> bool
     ensures { IsTrue result → (k i : ℕ) → i < length (plan_at pieces.now.plans.items k)
         → IsOfPlan plan.now (window_by pieces.now.places.items) (number_by pieces.now.places.items) k i }
@@ -199,7 +189,6 @@ fn all_are_of_plan(plan: &Plan, pieces: &Pieces) -> bool
     true
 }
 
-/// Whether the pieces are the plan in windows.
 pub(crate) fn is_cut(alloc: Global, plan: &Plan, pieces: &Pieces) -> Result<bool, Refusal>
     ensures { IfOk result (λ is. IsTrue is → IsCut plan.now pieces.now.plans.items) }
 {

@@ -1,4 +1,4 @@
-//! Labels: as the layout names them, or as the names of nodes show them.
+//! Racks and aliases, from the layout or from the names of nodes.
 
 use change_text::{Options, RackRule};
 use helpers::{Labels, Words, at, is_set, put, raise, set, small, suffix};
@@ -11,27 +11,27 @@ use std::alloc::Global;
 /// How racks are known.
 #[derive(Clone, Copy, Debug, PartialEq, Eq)]
 pub enum Known {
-    /// By the layout.
+    /// From the layout.
     Named,
-    /// By what stands behind the last such byte of a node's name.
+    /// From what follows the last such byte in a node's name.
     Behind(u8),
-    /// Not at all, although they were looked for.
+    /// Not at all, after a search.
     Unknown,
-    /// Not at all, as the options say.
+    /// Not at all, by option.
     Off,
 }
 
-/// The racks of a ring's nodes, if they are known, and how.
+/// The racks of a ring's nodes, and how they are known.
 #[derive(Drop)]
 pub struct Racking {
     pub racks: Option<Labels>,
     pub known: Known,
 }
 
-// How many racks are named.
+// The most racks that are named.
 const MOST: u32 = 6;
 
-// `r1, r2, r3`, and how many others there are
+// Writes `r1, r2, r3`, and how many others there are.
 fn push_names(out: &mut Words, racks: &Labels) {
     let shown = racks.count().min(MOST);
     for number in 0..shown {
@@ -47,7 +47,7 @@ fn push_names(out: &mut Words, racks: &Labels) {
 }
 
 impl Racking {
-    /// Adds a line that says which racks are taken, or that none are known.
+    /// Adds a line that names the racks, or says that none are known.
     pub fn push(&self, out: &mut Words) {
         let Some(racks) = &self.racks else {
             if self.known == Known::Unknown {
@@ -71,11 +71,10 @@ impl Racking {
     }
 }
 
-// What is said if no racks are known.
 const NONE_KNOWN: &[u8; 112] =
     b"ringplan: no racks are known. Name them in a layout (--layout), or give the byte before them (--racks-behind C)\n";
 
-// The bytes behind which names may name racks.
+// The bytes that may precede racks in names.
 const SEPARATORS: [u8; 4] = [b'.', b'-', b':', b'_'];
 
 fn unknown() -> Racking {
@@ -85,7 +84,7 @@ fn unknown() -> Racking {
     }
 }
 
-/// Whether each node is a member or joins.
+/// By node, whether it is a member or joins.
 pub fn members_with(alloc: Global, ring: &Ring, joins: &[NodeId]) -> Result<Vec<bool>, Refusal> {
     let mut members = Vec::new(alloc);
     for node in ring.nodes() {
@@ -97,7 +96,7 @@ pub fn members_with(alloc: Global, ring: &Ring, joins: &[NodeId]) -> Result<Vec<
     Ok(members)
 }
 
-/// Whether each node is a member or joins by the plan.
+/// By node, whether it is a member or joins by the plan.
 pub fn members_by(alloc: Global, ring: &Ring, plan: &Plan) -> Result<Vec<bool>, Refusal> {
     let mut members = members_with(alloc, ring, &[])?;
     for node in 0..small(members.len()) {
@@ -115,7 +114,6 @@ enum Naming {
     Aliases,
 }
 
-// What the fact calls which node, if it is of that kind.
 fn label_in(fact: &Fact, naming: Naming) -> Option<(&[u8], &[u8])> {
     match fact {
         Fact::Rack { node, rack } if naming == Naming::Racks => {
@@ -128,7 +126,6 @@ fn label_in(fact: &Fact, naming: Naming) -> Option<(&[u8], &[u8])> {
     }
 }
 
-// Whether there is a fact of that kind.
 fn has(entries: &[Entry], naming: Naming) -> bool {
     for entry in entries {
         if label_in(&entry.fact, naming).is_some() {
@@ -138,7 +135,8 @@ fn has(entries: &[Entry], naming: Naming) -> bool {
     false
 }
 
-// For each node, 1 and the place of the fact of that kind about it, or 0. A name that the ring does not declare is `UnknownNode(0)`.
+// By node, 1 plus the place of its fact of this kind, or 0. Fails with `UnknownNode(0)` for a name that the ring does
+// not declare.
 fn places(
     alloc: Global,
     ring: &Ring,
@@ -159,7 +157,7 @@ fn places(
     Ok(places)
 }
 
-// The name that the facts of that kind give each node. A node that must have one and has none is `UnknownNode(0)`.
+// The label of each node by facts of this kind. Fails with `UnknownNode(0)` if a node must have one and has none.
 fn labels(
     alloc: Global,
     ring: &Ring,
@@ -188,7 +186,7 @@ fn labels(
     Ok(labels)
 }
 
-// The racks behind that byte of names, if each member has one.
+// The racks after this byte in names, if each member has one.
 fn behind(
     alloc: Global,
     ring: &Ring,
@@ -212,7 +210,6 @@ fn behind(
     Ok(Some(racks))
 }
 
-// How many members there are, and in how many racks.
 fn count(alloc: Global, members: &[bool], racks: &Labels) -> Result<(u32, u32), Refusal> {
     let mut seen = vec![in alloc; 0u32; members.len()]?;
     let mut count = 0u32;
@@ -231,7 +228,7 @@ fn count(alloc: Global, members: &[bool], racks: &Labels) -> Result<(u32, u32), 
     Ok((count, used))
 }
 
-// Whether no rack has more than so many slots of a partition.
+// Whether no rack has more than `most` slots of a partition.
 fn are_spread(ring: &Ring, racks: &Labels, most: u32) -> bool {
     for row in ring.rows() {
         for owner in row.as_slice() {
@@ -249,7 +246,7 @@ fn are_spread(ring: &Ring, racks: &Labels, most: u32) -> bool {
     true
 }
 
-// Whether these are racks to all appearance: at least 2, at most half as many as members, and the ring spreads each partition over them.
+// Whether these look like racks: at least 2, at most half as many as members, and each partition is spread over them.
 fn is_likely(
     alloc: Global,
     ring: &Ring,
@@ -265,7 +262,7 @@ fn is_likely(
     Ok(are_spread(ring, racks, most))
 }
 
-// The racks that names show: those behind the one byte where they look like racks.
+// The racks in names, if exactly one separator shows likely ones.
 fn shown(alloc: Global, ring: &Ring, members: &[bool]) -> Result<Racking, Refusal> {
     let mut found = unknown();
     for byte in SEPARATORS {
@@ -284,8 +281,10 @@ fn shown(alloc: Global, ring: &Ring, members: &[bool]) -> Result<Racking, Refusa
     Ok(found)
 }
 
-/// The racks of the ring's nodes by the options; the flags say which nodes are members or join. A name of the layout that the ring does not declare, and a member
-/// whose rack is not known although others' are, is `UnknownNode(0)`.
+/// Returns the racks by the options. `members` marks the nodes that are members or join.
+///
+/// Fails with `UnknownNode(0)` for a name that the ring does not declare, or a member without a rack when
+/// others have one.
 pub fn racks_of(
     alloc: Global,
     ring: &Ring,
@@ -317,7 +316,7 @@ pub fn racks_of(
     }
 }
 
-/// The first member without a rack, if racks are known by the options.
+/// Returns the first member without a rack, if racks are known by the options.
 pub fn unracked(
     alloc: Global,
     ring: &Ring,
@@ -341,7 +340,7 @@ pub fn unracked(
     Ok(None)
 }
 
-/// The aliases of the ring's nodes, if the layout has some. A name that the ring does not declare is `UnknownNode(0)`.
+/// Returns the aliases, if the layout has any. Fails with `UnknownNode(0)` for a name that the ring does not declare.
 pub fn aliases_of(alloc: Global, ring: &Ring, layout: &Layout) -> Result<Option<Labels>, Refusal> {
     let entries = layout.entries.as_slice();
     if !has(entries, Naming::Aliases) {
@@ -351,7 +350,6 @@ pub fn aliases_of(alloc: Global, ring: &Ring, layout: &Layout) -> Result<Option<
     Ok(Some(aliases))
 }
 
-// The node that a fact names, if it names one.
 fn node_of(fact: &Fact) -> Option<&[u8]> {
     match fact {
         Fact::Rack { node, rack: _ }
@@ -362,7 +360,7 @@ fn node_of(fact: &Fact) -> Option<&[u8]> {
     }
 }
 
-/// The first fact of the layout that names a node that the ring does not declare, or a partition that it does not have.
+/// Returns the layout's first fact about a node or partition that the ring does not have.
 pub fn misfit<'a>(ring: &Ring, layout: &'a Layout) -> Option<&'a Entry> {
     for entry in layout.entries.as_slice() {
         let fits = match (&entry.fact, node_of(&entry.fact)) {
@@ -377,8 +375,8 @@ pub fn misfit<'a>(ring: &Ring, layout: &'a Layout) -> Option<&'a Entry> {
     None
 }
 
-/// Asks whether each fact of the layout fits the ring. A node that the ring does not declare is `UnknownNode(0)`, a partition that it does not have `TooLarge`, with
-/// the line of the layout.
+/// Checks that the layout fits the ring. Fails with `UnknownNode(0)` for an unknown node, and with `TooLarge` and the
+/// layout's line for an unknown partition.
 pub fn ask_layout(ring: &Ring, layout: &Layout) -> Result<(), Refusal> {
     match misfit(ring, layout) {
         None => Ok(()),

@@ -10,14 +10,12 @@ use ring_names::{NodeId, Refusal};
 use ring_table::Ring;
 use std::alloc::Global;
 
-// Whether the node is a member once the plan is done.
 fn is_member_after(ring: &Ring, plan: &Plan, node: NodeId) -> bool
     ensures { result ≡ member_after ring.now plan.now node }
 {
     (ring.is_member(node) || plan.is_joined(node)) && !plan.is_retired(node)
 }
 
-// Whether each node is.
 fn members_left(alloc: Global, ring: &Ring, plan: &Plan) -> Result<Vec<bool>, Refusal>
     ensures { IfOk result (λ members. members.items ≡ members_after ring.now plan.now (length ring.now.nodes)) }
 {
@@ -30,8 +28,8 @@ fn members_left(alloc: Global, ring: &Ring, plan: &Plan) -> Result<Vec<bool>, Re
     Ok(members)
 }
 
-/// The ring once the plan is done: its slots' owners are those after the plan's last step, and its members those that were or joined,
-/// and did not retire. All else stays.
+/// Returns the ring after the plan: its last owners as owners, and as members those that were or joined and did not
+/// retire. The rest stays.
 pub fn ring_after(alloc: Global, approved: &Approved) -> Result<Ring, Refusal>
     ensures { IfOk result (λ v. v ≡ ring_left approved.now.ring approved.now.plan) }
 {

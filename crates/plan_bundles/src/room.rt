@@ -1,17 +1,17 @@
-//! Room for the texts of windows.
+//! A bound on the bytes of windows, known before they are made.
 //!
-//! Each window begins with the text of a ring. The rings of all windows have one format, one space, one quorum and the same nodes with the same allowances, for a window's
-//! ring is the one before with other owners and members (`ring_after`). So two of their texts differ in two things alone. A node's line ends with `in` or with `out`, which is
-//! a byte longer. A slot's owner is the name of a node, which is as long as the shortest name at least. The first ring's text is known before any window is made. Without a byte
-//! for each node, and with the shortest name in the place of each owner's, it is no longer than any ring's text, and so than any window.
+//! Each window begins with a ring's text. These rings differ only in owners and members (`ring_after`). So their texts
+//! differ only in two places: a node's line ends with `in`, or with `out`, a byte longer. A slot's owner is a name, at
+//! least as long as the shortest. So the first ring's text, less a byte for each node and with the shortest name for
+//! each owner, is no longer than any window.
 
 use ring_names::{NodeId, Refusal};
 use ring_table::{Node, Ring};
 
-/// The most bytes that all windows of a plan may have together: as many as a bundle may.
+/// The most bytes of a plan's windows together, as for a bundle.
 pub const MAX_WINDOWS: usize = 67_108_864;
 
-/// How many bytes the windows so far have, how many windows are still to be made, and the fewest bytes that each of these has.
+/// The bytes of the windows so far, how many windows remain, and the fewest bytes of each.
 #[derive(Clone, Copy, Debug)]
 pub struct Room {
     made: usize,
@@ -20,7 +20,7 @@ pub struct Room {
 }
 
 impl Room {
-    /// No window is made yet. The text is that of the ring.
+    /// Starts without windows. `text` is the ring's.
     pub fn new(ring: &Ring, text: &[u8], windows: usize) -> Room {
         Room {
             made: 0,
@@ -29,13 +29,13 @@ impl Room {
         }
     }
 
-    /// Counts a window that is made.
+    /// Counts a window.
     pub fn take(&mut self, window: &[u8]) {
         self.made = self.made.saturating_add(window.len());
         self.left = self.left.saturating_sub(1);
     }
 
-    /// Refuses as `TooLarge(0)` where the windows that are made and those that are left have more bytes than they may.
+    /// Fails with `TooLarge(0)` if the windows so far and those that remain need too many bytes.
     pub fn ask(&self) -> Result<(), Refusal> {
         let left = self.left.saturating_mul(self.fewest);
         if self.made.saturating_add(left) > MAX_WINDOWS {
@@ -45,7 +45,7 @@ impl Room {
     }
 }
 
-// The fewest bytes of a window, by the text of the first one's ring.
+// The fewest bytes of a window, by the first ring's text.
 fn fewest_bytes(ring: &Ring, text: &[u8]) -> usize {
     let nodes = ring.nodes();
     let shortest = shortest_name(nodes);
@@ -54,7 +54,6 @@ fn fewest_bytes(ring: &Ring, text: &[u8]) -> usize {
     text.len().saturating_sub(nodes.len()).saturating_sub(spare)
 }
 
-// How many bytes the shortest name has.
 fn shortest_name(nodes: &[Node]) -> usize {
     let mut shortest = usize::MAX;
     for node in nodes {
@@ -63,7 +62,6 @@ fn shortest_name(nodes: &[Node]) -> usize {
     shortest
 }
 
-// How many bytes the names of all slots' owners have.
 fn owners_bytes(ring: &Ring) -> usize {
     let mut bytes = 0usize;
     for row in ring.rows() {
@@ -72,7 +70,6 @@ fn owners_bytes(ring: &Ring) -> usize {
     bytes
 }
 
-// How many bytes the names of these owners have.
 fn row_bytes(ring: &Ring, owners: &[NodeId]) -> usize {
     let mut bytes = 0usize;
     for owner in owners {

@@ -2,33 +2,34 @@
 
 ghost use Rattle.std.specs.Prelude.{◌≤◌, length};
 
-/// What a bundle has behind its ring.
+use memchr::memchr;
+
+/// What follows a bundle's ring.
 #[derive(Clone, Copy, Debug, PartialEq, Eq)]
 pub enum Kind {
     /// A change of the ring's members.
     Change,
-    /// A plan and its certificate, and nothing that looks like more.
+    /// A plan and its certificate only.
     Plan,
     /// A plan, its certificate and more, which should be a history.
     History,
 }
 
-// Where the line that begins at the place ends: behind its line feed, or at the text's end.
 fn line_end(text: &[u8], start: usize) -> usize {
-    for place in start..text.len() {
-        if text[place] == b'\n' {
-            return place + 1;
-        }
+    if start >= text.len() {
+        return text.len();
     }
-    text.len()
+    match memchr(b'\n', &text[start..]) {
+        Some(place) => start.saturating_add(place).saturating_add(1),
+        None => text.len(),
+    }
 }
 
-// Whether the bytes from one place up to another are a line `end`.
 fn is_end(text: &[u8], start: usize, end: usize) -> bool {
     start <= end && end <= text.len() && &text[start..end] == b"end\n".as_slice()
 }
 
-/// How many bytes the first sections have: all up to that many lines `end`, and all bytes where there are fewer.
+/// Returns the bytes of the first sections: up to that many lines `end`, or all bytes if there are fewer.
 pub fn front(text: &[u8], sections: u32) -> usize
     ensures { result ≤ length text.now }
 {
@@ -47,12 +48,11 @@ pub fn front(text: &[u8], sections: u32) -> usize
     start.min(text.len())
 }
 
-// Whether the text begins with the word.
 fn begins(text: &[u8], word: &[u8]) -> bool {
     word.len() <= text.len() && &text[..word.len()] == word
 }
 
-/// What stands behind the ring, as its first word and the number of sections tell.
+/// Returns what follows the ring, by its first word and the number of sections.
 pub fn kind_of(text: &[u8]) -> Kind {
     if begins(&text[front(text, 1)..], b"change ") {
         return Kind::Change;

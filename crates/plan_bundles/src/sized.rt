@@ -1,4 +1,4 @@
-//! Whether a ring keeps what is promised where partitions have sizes.
+//! Checks what is promised if partitions have sizes.
 
 ghost use Rattle.std.specs.Prelude.{◌≡◌, ◌*◌, ◌&&◌, nat_le, true, length, slice_index, replicate, IfOk, IfSome, OnOk, IsTrue};
 ghost use Rattle.plan_bundles.specs.Sized.{IsSized, all_stored, all_weights, has_sizes, is_flagged, is_size, is_taker, loads_below, may_go, may_row, may_rows, row_at, sizes_by, sum_below, takes, weight_in, weights_by, with_row, with_size, with_slot, with_weight};
@@ -14,7 +14,6 @@ use ring_names::{Listed, NodeId, Refusal};
 use ring_table::Ring;
 use std::alloc::Global;
 
-// The number at the place, and 0 where there is none.
 fn number_at(numbers: &[u32], place: usize) -> u32
     ensures { result ≡ slice_index numbers.now place }
 {
@@ -24,7 +23,6 @@ fn number_at(numbers: &[u32], place: usize) -> u32
     }
 }
 
-// The size or the load at the place, and 0 if there is none.
 fn load_at(loads: &[u64], place: usize) -> u64
     ensures { result ≡ slice_index loads.now place }
 {
@@ -34,7 +32,7 @@ fn load_at(loads: &[u64], place: usize) -> u64
     }
 }
 
-/// Whether there is a flag at the place, and it is set.
+/// Whether the place has a flag that is set.
 pub fn is_flagged(flags: &[bool], place: usize) -> bool
     ensures { result ≡ is_flagged flags.now place }
 {
@@ -44,7 +42,7 @@ pub fn is_flagged(flags: &[bool], place: usize) -> bool
     }
 }
 
-/// The owners of the partition's slots, or none if there is no such partition.
+/// Returns the owners of the partition's slots, or none if there is no such partition.
 pub fn row_at(rows: &[Listed<NodeId>], partition: usize) -> &[NodeId]
     ensures { result.now ≡ row_at rows.now partition }
 {
@@ -54,7 +52,6 @@ pub fn row_at(rows: &[Listed<NodeId>], partition: usize) -> &[NodeId]
     }
 }
 
-// Adds a slot of that size to what the node stores.
 fn add_slot(loads: &mut Vec<u64>, size: u64, node: NodeId) -> Result<(), Refusal>
     ensures { OnOk result (loads.new.items ≡ with_slot size loads.old.items node) }
 {
@@ -68,7 +65,6 @@ fn add_slot(loads: &mut Vec<u64>, size: u64, node: NodeId) -> Result<(), Refusal
     Ok(())
 }
 
-// Adds a partition's slots to what their owners store.
 fn add_row(loads: &mut Vec<u64>, size: u64, row: &[NodeId]) -> Result<(), Refusal>
     ensures { OnOk result (loads.new.items ≡ with_row size loads.old.items row.now) }
 {
@@ -79,7 +75,6 @@ fn add_row(loads: &mut Vec<u64>, size: u64, row: &[NodeId]) -> Result<(), Refusa
     add_row(loads, size, more)
 }
 
-// What each of so many nodes stores.
 #[tactic(auto, using(crate::proofs::FirstNumbers::loads_none, crate::proofs::FirstNumbers::loads_more))]
 fn loads_of(
     alloc: Global,
@@ -97,7 +92,6 @@ fn loads_of(
     Ok(loads)
 }
 
-// The sum of the first numbers.
 #[tactic(auto, using(crate::proofs::FirstNumbers::sum_none, crate::proofs::FirstNumbers::sum_more))]
 fn sum_of(numbers: &[u64], count: usize) -> Option<u64>
     ensures { IfSome result (λ sum. sum ≡ sum_below (slice_index numbers.now) count) }
@@ -109,7 +103,6 @@ fn sum_of(numbers: &[u64], count: usize) -> Option<u64>
     Some(sum)
 }
 
-// The node's weight among the members, and 0 where it is none of them.
 fn weight_in(weights: &[u32], ring: &Ring, node: u32) -> u32
     ensures { result ≡ weight_in weights.now ring.now node }
 {
@@ -120,7 +113,6 @@ fn weight_in(weights: &[u32], ring: &Ring, node: u32) -> u32
     }
 }
 
-// The weights of all members together.
 #[tactic(auto, using(crate::proofs::FirstNumbers::sum_none, crate::proofs::FirstNumbers::sum_more))]
 fn all_weights(weights: &[u32], ring: &Ring) -> Option<u64>
     ensures { IfSome result (λ sum. sum ≡ all_weights weights.now ring.now) }
@@ -134,7 +126,6 @@ fn all_weights(weights: &[u32], ring: &Ring) -> Option<u64>
     Some(sum)
 }
 
-// What all slots of the ring store together.
 fn all_stored(sizes: &[u64], ring: &Ring) -> Option<u64>
     ensures { IfSome result (λ sum. sum ≡ all_stored sizes.now ring.now) }
 {
@@ -142,7 +133,6 @@ fn all_stored(sizes: &[u64], ring: &Ring) -> Option<u64>
     u64::from(ring.n()).checked_mul(one)
 }
 
-// Whether the first product is no more than the second.
 fn is_at_most(one: u64, by: u64, other: u64, times: u32) -> Option<bool>
     ensures { IfSome result (λ is. is ≡ nat_le (one * by) (other * times)) }
 {
@@ -151,7 +141,7 @@ fn is_at_most(one: u64, by: u64, other: u64, times: u32) -> Option<bool>
     Some(first <= second)
 }
 
-// Who joins, what each node stores and all together, and the weights of each and of all together.
+// The joining nodes, the stored sizes and their sum, and the weights and their sum.
 #[derive(Clone, Copy)]
 struct Shares<'a> {
     joins: &'a [NodeId],
@@ -162,7 +152,6 @@ struct Shares<'a> {
 }
 
 impl<'a> Shares<'a> {
-    // Whether the node joins, and stores no more than its share.
     fn take(self, node: u32) -> Result<bool, Refusal>
         ensures { IfOk result (λ is. is ≡ takes self.entry.joins.now self.entry.loads.now self.entry.stored self.entry.weights.now self.entry.all node) }
     {
@@ -174,7 +163,6 @@ impl<'a> Shares<'a> {
         }
     }
 
-    // Whether each of so many nodes does.
     fn flags(self, alloc: Global, nodes: u32) -> Result<Vec<bool>, Refusal>
         ensures { IfOk result (λ v. v.items
             ≡ flags (takes self.entry.joins.now self.entry.loads.now self.entry.stored self.entry.weights.now self.entry.all) nodes) }
@@ -188,7 +176,6 @@ impl<'a> Shares<'a> {
     }
 }
 
-// Whether each node of the ring joins, and stores no more than its share.
 fn takers_of(
     alloc: Global,
     joins: &[NodeId],
@@ -213,7 +200,6 @@ fn takers_of(
     shares.flags(alloc, ring.nodes().len() as u32)
 }
 
-// Whether each node of the ring leaves.
 fn leavers_of(alloc: Global, leaves: &[NodeId], ring: &Ring) -> Result<Vec<bool>, Refusal>
     ensures { IfOk result (λ v. v.items ≡ flags (λ x. has x (numbers leaves.now)) (length ring.now.nodes)) }
 {
@@ -226,7 +212,6 @@ fn leavers_of(alloc: Global, leaves: &[NodeId], ring: &Ring) -> Result<Vec<bool>
     Ok(leavers)
 }
 
-// Whether a slot of a partition of that size may go from one owner to the other.
 fn may_go(leavers: &[bool], takers: &[bool], size: u64, old: NodeId, new: NodeId) -> bool
     ensures { result ≡ may_go leavers.now takers.now size old new }
 {
@@ -235,7 +220,6 @@ fn may_go(leavers: &[bool], takers: &[bool], size: u64, old: NodeId, new: NodeId
         || (size > 0 && is_flagged(takers, new.0 as usize))
 }
 
-// Whether each slot of a partition may.
 fn may_row(
     leavers: &[bool],
     takers: &[bool],
@@ -254,7 +238,6 @@ fn may_row(
     may_go(leavers, takers, size, *old, *new) && may_row(leavers, takers, size, others, more)
 }
 
-// Whether each slot may.
 #[tactic(auto, using(crate::proofs::FirstNumbers::holds_none, crate::proofs::FirstNumbers::holds_more))]
 fn may_rows(
     leavers: &[bool],
@@ -282,7 +265,7 @@ pub struct Measures {
     pub weights: Vec<u32>,
 }
 
-/// Whether the wanted ring keeps what is promised of a change by sizes.
+/// Whether the wanted ring keeps the promises for a change with sizes.
 pub fn are_kept(
     alloc: Global,
     ring: &Ring,
@@ -300,7 +283,7 @@ pub fn are_kept(
     Ok(may_rows(leavers.as_slice(), takers.as_slice(), sizes, before, after))
 }
 
-// Puts the size of a fact at the place of its partition. A partition that the ring does not have is refused with the fact's line.
+// Sets the size of a fact. Fails with the fact's line if the ring does not have the partition.
 fn put_size(all: &mut Vec<u64>, entry: &Entry) -> Result<(), Refusal>
     ensures { OnOk result (all.new.items ≡ with_size all.old.items entry.now.fact) }
 {
@@ -315,7 +298,6 @@ fn put_size(all: &mut Vec<u64>, entry: &Entry) -> Result<(), Refusal>
     Err(Refusal::TooLarge(entry.line))
 }
 
-// Puts the size of each fact at the place of its partition.
 fn put_sizes(all: &mut Vec<u64>, entries: &[Entry]) -> Result<(), Refusal>
     ensures { OnOk result (all.new.items ≡ sizes_by all.old.items entries.now) }
 {
@@ -326,7 +308,8 @@ fn put_sizes(all: &mut Vec<u64>, entries: &[Entry]) -> Result<(), Refusal>
     put_sizes(all, more)
 }
 
-/// The sizes of so many partitions: 1, but for those of which the layout has one. A partition that there is not is `TooLarge`, with its line in the layout.
+/// Returns the sizes of partitions: 1 unless the layout has one. Fails with `TooLarge` and the layout's line for an
+/// unknown partition.
 pub fn sizes_of(alloc: Global, partitions: u32, layout: &Layout) -> Result<Vec<u64>, Refusal>
     ensures { IfOk result (λ all. all.items ≡ sizes_by (replicate partitions 1) layout.now.entries) }
 {
@@ -352,7 +335,7 @@ pub fn has_sizes(layout: &Layout) -> bool
         .any(|entry| is_size(&entry.fact))
 }
 
-// Puts the weight of a fact at the place of its node. A name that the ring does not declare is `UnknownNode(0)`.
+// Sets the weight of a fact. Fails with `UnknownNode(0)` for a name that the ring does not declare.
 fn put_weight(all: &mut Vec<u32>, ring: &Ring, fact: &Fact) -> Result<(), Refusal>
     ensures { OnOk result (all.new.items ≡ with_weight (names_of ring.now) all.old.items fact.now) }
 {
@@ -369,7 +352,6 @@ fn put_weight(all: &mut Vec<u32>, ring: &Ring, fact: &Fact) -> Result<(), Refusa
     Ok(())
 }
 
-// Puts the weight of each fact at the place of its node.
 fn put_weights(all: &mut Vec<u32>, ring: &Ring, entries: &[Entry]) -> Result<(), Refusal>
     ensures { OnOk result (all.new.items ≡ weights_by (names_of ring.now) all.old.items entries.now) }
 {
@@ -380,7 +362,7 @@ fn put_weights(all: &mut Vec<u32>, ring: &Ring, entries: &[Entry]) -> Result<(),
     put_weights(all, ring, more)
 }
 
-/// The weights of the ring's nodes: 1, but for those of which the layout has one.
+/// Returns the weights of the ring's nodes: 1 unless the layout has one.
 pub fn weights_of(alloc: Global, ring: &Ring, layout: &Layout) -> Result<Vec<u32>, Refusal>
     ensures { IfOk result (λ all. all.items
         ≡ weights_by (names_of ring.now) (replicate (length ring.now.nodes) 1) layout.now.entries) }

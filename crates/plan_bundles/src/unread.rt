@@ -1,4 +1,4 @@
-//! Rings in which the slots of partitions stay that too few live owners can read.
+//! Keeps the slots of partitions that too few live owners can read.
 
 ghost use Rattle.std.specs.Prelude.{◌≡◌, IfOk, length};
 ghost use Rattle.plan_bundles.specs.Rings.{flags};
@@ -12,7 +12,6 @@ use ring_names::{Listed, NodeId, Refusal};
 use ring_table::Ring;
 use std::alloc::Global;
 
-// A partition's owners: those before if it is unread, and those after if not.
 fn kept_row<'a>(reads: u32, dead: &Dead, before: &'a [NodeId], after: &'a [NodeId]) -> &'a [NodeId]
     ensures { result.now ≡ kept_row reads dead.now.nodes.now before.now after.now }
 {
@@ -23,7 +22,6 @@ fn kept_row<'a>(reads: u32, dead: &Dead, before: &'a [NodeId], after: &'a [NodeI
     }
 }
 
-// Those of each partition.
 #[tactic(auto, using(crate::proofs::FirstNumbers::rows_none, crate::proofs::FirstNumbers::rows_more))]
 fn kept_rows(
     alloc: Global,
@@ -48,21 +46,18 @@ fn kept_rows(
     Ok(rows)
 }
 
-// Whether the node owns a slot.
 fn owns(rows: &[Listed<NodeId>], node: NodeId) -> bool
     ensures { result ≡ owns rows.now node.0 }
 {
     rows.iter().any(|row| is_among(row.as_slice(), node))
 }
 
-// Whether the node should be a member, or is one and owns a slot.
 fn is_kept_member(ring: &Ring, wanted: &Ring, rows: &[Listed<NodeId>], node: NodeId) -> bool
     ensures { result ≡ is_kept_member ring.now wanted.now rows.now node.0 }
 {
     wanted.is_member(node) || (ring.is_member(node) && owns(rows, node))
 }
 
-// Whether each node is.
 fn kept_members(
     alloc: Global,
     ring: &Ring,
@@ -81,7 +76,6 @@ fn kept_members(
     Ok(members)
 }
 
-// The wanted ring, but for unread partitions, whose slots stay with their owners.
 fn without_unread(
     alloc: Global,
     ring: &Ring,
@@ -96,8 +90,10 @@ fn without_unread(
     wanted.with(alloc, rows.as_slice(), members.as_slice())
 }
 
-/// The wanted ring, or if unread partitions are left, that ring with their slots as they are. A partition is unread if a slot of a dead node should
-/// go to another one, and fewer owners live than a read asks. A member that owns a slot stays one.
+/// Returns the wanted ring, but if unread partitions are left, with their slots as they are. Owners stay
+/// members.
+///
+/// A partition is unread if a dead node should hand on a slot and fewer owners live than a read asks.
 pub fn wanted_by(
     alloc: Global,
     unreadable: Unreadable,

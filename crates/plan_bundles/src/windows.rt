@@ -1,4 +1,4 @@
-//! A plan in windows, each a bundle of its own over the ring that the one before it leaves.
+//! A plan in windows: each is a bundle over the ring that the window before leaves.
 
 ghost use Rattle.std.specs.Prelude.{◌≡◌, ℕ, List, [], ◌∷◌, ◌++◌, Option, IfOk, IsTrue};
 ghost use Rattle.ring_table.specs.Spelling.{ring_text};
@@ -27,7 +27,6 @@ struct Window {
     next: Ring,
 }
 
-// The window of a plan over a ring.
 fn window_over(alloc: Global, ring: Ring, plan: Plan) -> Result<Window, Refusal>
     ensures window { IfOk result (λ w. IsWindow ring plan w.text.items) }
     ensures next { IfOk result (λ w. w.next ≡ ring_left ring plan) }
@@ -46,7 +45,7 @@ fn window_over(alloc: Global, ring: Ring, plan: Plan) -> Result<Window, Refusal>
     }
 }
 
-/// Whether the two rings have one text.
+/// Whether the two rings have the same text.
 pub fn is_same_ring(alloc: Global, one: &Ring, other: &Ring) -> Result<bool, Refusal>
     ensures { IfOk result (λ is. IsTrue is → ring_text one.now ≡ ring_text other.now) }
 {
@@ -59,14 +58,13 @@ pub fn is_same_ring(alloc: Global, one: &Ring, other: &Ring) -> Result<bool, Ref
 enum Asked {
     // All, one after the other.
     All(Vec<u8>),
-    // None yet: so many windows come before the one that is asked for.
+    // None yet: so many windows precede the wanted one.
     After(u32),
-    // The one that is asked for.
+    // The wanted one.
     Found(Vec<u8>),
 }
 
 impl Asked {
-    // What is kept before the first window.
     fn new(alloc: Global, only: Option<u32>) -> Asked
         ensures { Keeps only [] result }
     {
@@ -76,7 +74,6 @@ impl Asked {
         }
     }
 
-    // With the text of one window more, which so many come before.
     fn pass(left: u32, text: Vec<u8>) -> Asked
         ensures { (only : Option ℕ) (texts : List (List ℕ)) → Keeps only texts (After left) → Keeps only (texts ++ text.items ∷ []) result }
     {
@@ -86,7 +83,6 @@ impl Asked {
         Asked::After(left - 1)
     }
 
-    // With the text of one window more.
     fn add(self, text: Vec<u8>) -> Result<Asked, Refusal>
         ensures { IfOk result (λ asked. (only : Option ℕ) (texts : List (List ℕ)) → Keeps only texts self → Keeps only (texts ++ text.items ∷ []) asked) }
     {
@@ -100,7 +96,6 @@ impl Asked {
         }
     }
 
-    // What is asked for.
     fn end(self) -> Result<Vec<u8>, Refusal>
         ensures { IfOk result (λ v. (only : Option ℕ) (texts : List (List ℕ)) → Keeps only texts self → IsAsked texts only v.items) }
     {
@@ -111,14 +106,13 @@ impl Asked {
     }
 }
 
-// Windows one after the other, and the ring that they leave.
 #[derive(Drop)]
 struct Windows {
     asked: Asked,
     next: Ring,
 }
 
-// The windows of these plans, one after the other. More than the most bytes are `TooLarge(0)`, as soon as that is known.
+// Makes the windows of the plans. Fails with `TooLarge(0)` as soon as too many bytes are certain.
 fn all_windows(
     alloc: Global,
     first: Ring,
@@ -141,10 +135,15 @@ fn all_windows(
     Ok(Windows { asked, next })
 }
 
-/// An approved plan in windows of so many rounds of copies, each the texts of a ring, a plan and its certificate, over the ring that the window before leaves; or the window of
-/// that number alone, counted from 1. What takes a slot from one owner to the next stays in one window. Refused is what the checker refuses of a window; as `NoPlan` a number without
-/// a window; as `TooLarge(0)` windows that have more than `MAX_WINDOWS` bytes together, before any is made where
-/// their number and the ring's length show it.
+/// Cuts an approved plan into windows of `width` rounds of copies. Returns all, or only one, counted from 1.
+///
+/// Each is a ring, a plan and its certificate, over the ring that the window before leaves. The steps that hand
+/// a slot on stay in one window.
+///
+/// Fails as the checker does for a window, or with `NoPlan` if there is no such window.
+///
+/// Fails with `TooLarge(0)` if the windows exceed `MAX_WINDOWS` bytes, before any is made if numbers and
+/// lengths show it.
 pub fn cut_plan(
     alloc: Global,
     approved: &Approved,
