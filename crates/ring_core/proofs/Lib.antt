@@ -13,6 +13,7 @@ pub mod RunPromises
 pub mod ReplyCopies
 pub mod FirstFault
 pub mod Followed
+pub mod RestSame
 pub use Rattle.store_tables.proofs.Counting
 pub use Rattle.store_tells.proofs.KeepersDeclared
 pub use Rattle.store_tells.proofs.StoreInWorld

@@ -6,4 +6,5 @@ pub mod World
 pub mod Promises
 pub mod Faults
 pub mod Replays
+pub mod Resting
 pub use Rattle.store_tells.specs.Parts

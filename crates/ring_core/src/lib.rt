@@ -8,10 +8,12 @@ mod mirrors;
 mod queue;
 mod reads;
 mod replaying;
+mod resting;
 mod transfers;
 mod world;
 
 pub use following::follow;
 pub use queue::Queue;
 pub use replaying::{follow_queue, replay};
+pub use resting::Rest;
 pub use world::World;

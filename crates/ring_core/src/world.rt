@@ -4,6 +4,7 @@ ghost use Rattle.std.specs.Prelude.{◌≤◌, length};
 ghost use Rattle.store_tells.specs.Parts.{IsSound};
 
 use crate::events::{happen, happen_with_copy, refusal};
+use crate::resting::Rest;
 use plan_check::Approved;
 use plan_runs::{Event, Reply};
 use ring_names::Refusal;
@@ -30,6 +31,8 @@ impl<'a> World<'a> {
     ghost use Rattle.std.specs.Prelude.{◌≡◌, ◌≢◌, ◌⊎◌, ℕ, ◌<◌, true, false, length, None, IfOk, IfErr, OnOk, OnErr};
     ghost use Rattle.ring_names.specs.declared.refusal.Refusal.TheVariants.{OutOfMemory};
     ghost use Rattle.plan_runs.specs.World.{World as TheWorld, opening_world};
+    ghost use Rattle.ring_core.specs.declared.world.World.{World as TheStore};
+    ghost use Rattle.ring_core.specs.Resting.{rest_of, IsReady, IsSame};
     ghost use Rattle.ring_core.specs.World.{ring_of, plan_of, Meets, Passes, Answers, Refuses, Stays, HasNumber};
     ghost use Rattle.ring_core.specs.World.{IsOneMore, put_count, get_count};
     ghost use Rattle.ring_core.specs.Numbers.{may_need_memory};
@@ -94,5 +97,27 @@ impl<'a> World<'a> {
         ensures plan { plan_of self.new ≡ plan_of self.old }
     {
         happen_with_copy(&mut self.parts, event)
+    }
+
+    /// Parts the store from its plan. Takes no memory.
+    pub fn rest(self) -> Rest
+        ensures rest { result ≡ rest_of self.entry }
+        ensures ready { IsReady (ring_of self.entry) (plan_of self.entry) result }
+    {
+        let World { parts } = self;
+        Rest::of(parts)
+    }
+
+    /// Makes a store of one at rest. With the same ring and plan it is in each world in which the store was before. Takes no memory.
+    pub fn resume(approved: &'a Approved, rest: Rest) -> World<'a>
+        requires { IsReady approved.now.ring approved.now.plan rest }
+        ensures ring { ring_of result ≡ approved.now.ring }
+        ensures plan { plan_of result ≡ approved.now.plan }
+        ensures rest { rest_of result ≡ rest }
+        ensures same { (a : TheStore) → ring_of a ≡ approved.now.ring → plan_of a ≡ approved.now.plan → rest_of a ≡ rest → IsSame a result }
+    {
+        World {
+            parts: rest.parts(approved),
+        }
     }
 }
