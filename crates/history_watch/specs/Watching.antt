@@ -131,3 +131,7 @@ pub record FollowsKept (old new : Watch) : Type 0 where
   pub ring : new.ring.now ≡ old.ring.now
   pub emptied : IsEmptied old.reader new.reader
   pub left : new.left ≡ old.left
+
+-- the store still follows the same plan
+abbrev pub KeepsPlan : Watch → Watch → Type 0
+KeepsPlan old new = (ring_of new.world ≡ ring_of old.world) × (plan_of new.world ≡ plan_of old.world)

@@ -1,7 +1,8 @@
 //! A watch by the texts of a ring, a plan and its certificate.
 
-ghost use Rattle.history_watch.specs.Bundles.{WatchesBundle};
+ghost use Rattle.history_watch.specs.Bundles.{StartsJudge, WatchesBundle};
 
+use crate::judge::Judge;
 use crate::loops::watch_history;
 use plan_check::{Turned, check};
 use ring_names::Refusal;
@@ -24,6 +25,22 @@ pub fn watch_bundle<R: Read + Drop, W: Write>(
             let (ring, plan, cert) = (bundle.ring, bundle.plan, &bundle.cert);
             match check(alloc, ring, plan, cert) {
                 Ok(approved) => watch_history(alloc, &approved, every, input, output),
+                Err(Turned { refusal, .. }) => Err(refusal),
+            }
+        }
+        Err(refusal) => Err(refusal),
+    }
+}
+
+/// Begins a judge by the plan of a bundle. A text or a plan that is refused is refused as by `check`.
+pub fn start_judge(alloc: Global, bytes: &[u8]) -> Result<Judge, Refusal>
+    ensures { StartsJudge bytes.now result }
+{
+    match read_bundle(alloc, Kind::Check, bytes) {
+        Ok(bundle) => {
+            let (ring, plan, cert) = (bundle.ring, bundle.plan, &bundle.cert);
+            match check(alloc, ring, plan, cert) {
+                Ok(approved) => Judge::start(alloc, approved),
                 Err(Turned { refusal, .. }) => Err(refusal),
             }
         }

@@ -2,9 +2,13 @@
 #![tactic(auto)]
 
 mod bundle;
+mod judge;
 mod loops;
+mod resting;
 mod watch;
 
-pub use bundle::watch_bundle;
+pub use bundle::{start_judge, watch_bundle};
+pub use judge::Judge;
 pub use loops::watch_history;
+pub use resting::{Paused, State};
 pub use watch::Watch;

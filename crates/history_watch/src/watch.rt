@@ -8,7 +8,7 @@ ghost use Rattle.history_stream.specs.declared.reader.Stage.TheVariants.{First, 
 ghost use Rattle.ring_core.specs.World.{ring_of, plan_of, put_count, get_count};
 ghost use Rattle.history_watch.specs.Watching.{HasRoom, IsWatching, IsRefused, IsJudged, IsAnswer, IsCutOff};
 ghost use Rattle.history_watch.specs.Following.{FollowsAll, FailsIn, Reaches};
-ghost use Rattle.history_watch.specs.Watching.{FollowsKept, is_whole};
+ghost use Rattle.history_watch.specs.Watching.{FollowsKept, KeepsPlan, is_whole};
 
 use history_stream::{Reader, Stage};
 use plan_check::Approved;
@@ -130,6 +130,7 @@ impl<'a> Watch<'a> {
         ensures err { IfErr result (λ e. e ≢ OutOfMemory → (ring : RingValue) (plan : List Planned) (before : List ℕ) → IsWatching ring plan before self.old → IsRefused ring plan (before ++ bytes.now) e) }
         ensures judged { (ring : RingValue) (plan : List Planned) (before : List ℕ) → IsWatching ring plan before self.old → IsJudged ring plan (before ++ bytes.now) self.new.count }
         ensures counts { self.old.count ≤ self.new.count }
+        ensures plan { OnOk result (KeepsPlan self.old self.new) }
     {
         if self.is_over() {
             return Ok(());

@@ -22,6 +22,9 @@ pub returns-in-Ok-clause-judged : goal.returns-in-Ok-clause-judged
 returns-in-Ok-clause-judged c = λ ring plan before iw.
     some_judged ring plan before c.args.bytes.now c.args.self.now (record c.args.self.now { reader = c.take_some.new.self; left = c.take_some.new.left }) refl refl (λ o. (let bad : true ≡ false = sym (c.is_over.ensures.1 o) ∙ c.if-is_over.false in absurd cc)) c.in-Ok.ensures.ok iw c.follow_kept.new.self _ c.follow_kept.ensures.reaches
 
+pub returns-in-Ok-clause-plan : goal.returns-in-Ok-clause-plan
+returns-in-Ok-clause-plan c = on_ok c.follow_kept.result _ _ c.follow_kept.ensures.ok (λ kept. (kept.all.follows.ring, kept.all.follows.plan))
+
 pub returns-then-is_memory-clause-judged : goal.returns-then-is_memory-clause-judged
 returns-then-is_memory-clause-judged c = λ ring plan before iw.
     going_judged ring plan before c.args.bytes.now c.args.self.now iw (λ o. (let bad : true ≡ false = sym (c.is_over.ensures.1 o) ∙ c.if-is_over.false in absurd cc))
@@ -37,6 +40,7 @@ returns-then-is_over-2 c =
       err = tt;
       judged = λ ring plan before iw. stop_judged ring plan before c.args.bytes.now c.args.self.now (record c.args.self.now { reader = c.take_some.new.self; left = c.take_some.new.left }) refl refl (λ o. (let bad : true ≡ false = sym (c.is_over.ensures.1 o) ∙ c.if-is_over.false in absurd cc)) c.in-Err.refusal (c.in-Err.ensures.err (λ o. (let bad : true ≡ false = sym (c.is_memory.ensures.1 o) ∙ c.if-is_memory.false in absurd cc))) iw new new.count c.follow_kept-in-Err.ensures.reaches;
       counts = c.follow_kept-in-Err.ensures.counts;
+      plan = (kept.all.follows.ring, kept.all.follows.plan);
     }
 
 pub returns-else-is_over-2 : goal.returns-else-is_over-2
@@ -49,6 +53,7 @@ returns-else-is_over-2 c =
       err = λ ne ring plan before iw. stop_refused ring plan before c.args.bytes.now c.args.self.now (record c.args.self.now { reader = c.take_some.new.self; left = c.take_some.new.left }) refl refl (λ o. (let bad : true ≡ false = sym (c.is_over.ensures.1 o) ∙ c.if-is_over.false in absurd cc)) c.in-Err.refusal (c.in-Err.ensures.err (λ o. (let bad : true ≡ false = sym (c.is_memory.ensures.1 o) ∙ c.if-is_memory.false in absurd cc))) iw new kept;
       judged = λ ring plan before iw. stop_judged ring plan before c.args.bytes.now c.args.self.now (record c.args.self.now { reader = c.take_some.new.self; left = c.take_some.new.left }) refl refl (λ o. (let bad : true ≡ false = sym (c.is_over.ensures.1 o) ∙ c.if-is_over.false in absurd cc)) c.in-Err.refusal (c.in-Err.ensures.err (λ o. (let bad : true ≡ false = sym (c.is_memory.ensures.1 o) ∙ c.if-is_memory.false in absurd cc))) iw new new.count c.follow_kept-in-Err.ensures.reaches;
       counts = c.follow_kept-in-Err.ensures.counts;
+      plan = tt;
     }
 
 pub returns-in-Err-follow_kept : goal.returns-in-Err-follow_kept
@@ -60,4 +65,5 @@ returns-in-Err-follow_kept c =
       err = λ ne ring plan before iw. stop_fails ring plan before c.args.bytes.now c.args.self.now (record c.args.self.now { reader = c.take_some.new.self; left = c.take_some.new.left }) refl refl (λ o. (let bad : true ≡ false = sym (c.is_over.ensures.1 o) ∙ c.if-is_over.false in absurd cc)) c.in-Err.refusal (c.in-Err.ensures.err (λ o. (let bad : true ≡ false = sym (c.is_memory.ensures.1 o) ∙ c.if-is_memory.false in absurd cc))) iw new _ c.in-Err-follow_kept.fault (c.in-Err-follow_kept.ensures.err ne);
       judged = λ ring plan before iw. stop_judged ring plan before c.args.bytes.now c.args.self.now (record c.args.self.now { reader = c.take_some.new.self; left = c.take_some.new.left }) refl refl (λ o. (let bad : true ≡ false = sym (c.is_over.ensures.1 o) ∙ c.if-is_over.false in absurd cc)) c.in-Err.refusal (c.in-Err.ensures.err (λ o. (let bad : true ≡ false = sym (c.is_memory.ensures.1 o) ∙ c.if-is_memory.false in absurd cc))) iw new new.count c.follow_kept-in-Err.ensures.reaches;
       counts = c.follow_kept-in-Err.ensures.counts;
+      plan = tt;
     }
