@@ -2,8 +2,9 @@
  *
  * A call takes the bytes that the program `ringplan` would read from standard input, and gives the bytes that it would print. It
  * keeps nothing: no state, thread, lock, file, signal handler or environment. It takes memory from malloc and frees all of it
- * before it returns. No call ends the process, and none stands for the program's `drive` or its `--workers`. The first five calls
- * take no options. ringplan_call, for people, takes a command and options, and gives what the program prints on standard error too.
+ * before it returns. Only a watch, at the end of this file, keeps something: a judge, from ringplan_watch_new to ringplan_watch_free.
+ * No call ends the process, and none stands for the program's `drive` or its `--workers`. The first five calls take no options.
+ * ringplan_call, for people, takes a command and options, and gives what the program prints on standard error too.
  *
  * What becomes of a call, which is proved:
  *   `*length` is the length of the text.
@@ -29,6 +30,7 @@
 #ifndef RINGPLAN_H
 #define RINGPLAN_H
 
+#include <stdbool.h>
 #include <stddef.h>
 #include <stdint.h>
 
@@ -39,7 +41,7 @@ extern "C" {
 /* What a call returns. */
 enum ringplan_status {
     RINGPLAN_DONE = 0,         /* yes, a plan, what a play printed, migrated texts, or a history that is a run */
-    RINGPLAN_PLAN_REFUSED = 1, /* the plan is refused, there is none, or the history is no run of it */
+    RINGPLAN_PLAN_REFUSED = 1, /* the plan is refused, there is none, or the history is not a run of it */
     RINGPLAN_TEXT_REFUSED = 2, /* a text is refused, or the input has more than 67,108,864 bytes (`no 2 0`) */
     RINGPLAN_OUT_OF_MEMORY = 3,
     RINGPLAN_MORE_ROOM = 4     /* `room` is too small: `output` is as it was */
@@ -116,6 +118,40 @@ RINGPLAN_COMMAND(after)
 RINGPLAN_COMMAND(cert)
 
 #undef RINGPLAN_COMMAND
+
+/* A watch: a judge of a history while it grows, as `ringplan watch` is. It begins as RINGPLAN_WATCH_EMPTY.
+ *
+ * What the caller owes beside the above:
+ *   - Only these calls write the two fields. The watch overlaps no buffer, and is not copied while it holds a judge.
+ *   - ringplan_watch_new is called with an empty watch. The three calls after it are called with a watch that holds a judge.
+ *   - One call at a time uses a watch, and all of them run on one thread.
+ *   - ringplan_watch_free is called once the watch is done with. Otherwise the judge's memory is lost.
+ */
+struct ringplan_watch {
+    void *judge;
+    bool is_held;
+};
+
+#define RINGPLAN_WATCH_EMPTY {NULL, false}
+
+/* Begins a judge by a ring, a plan and its certificate. At 0 the text is empty, and the watch holds the judge. Otherwise the watch is
+ * empty, and the text is a refusal's line as of ringplan_check. The bundle is not needed after the call. */
+uint8_t ringplan_watch_new(struct ringplan_watch *watch, const uint8_t *bundle, size_t bundle_length, uint8_t *output, size_t room, size_t *length);
+
+/* Hands the judge the next bytes of the history, which may end anywhere: `history 1`, entries, `end`. Bytes after `end` are left out.
+ * At 0 the text is empty: all entries so far are a run of the plan. Otherwise the text is the line of a refusal (`no 70 K N`: entry K).
+ * A judge that has refused, also for want of memory, answers the same refusal to each later call, so a call may be made again with more room. */
+uint8_t ringplan_watch_take(struct ringplan_watch *watch, const uint8_t *bytes, size_t bytes_length, uint8_t *output, size_t room, size_t *length);
+
+/* How many entries the judge has followed: those before the entry that it refused. */
+uint32_t ringplan_watch_count(struct ringplan_watch *watch);
+
+/* What a replay of the history prints if no more bytes come: "yes\n" and the owners, or a refusal's line (`no 1 LINE` in the middle of a
+ * line). The judge is as it was, and may take more. */
+uint8_t ringplan_watch_end(struct ringplan_watch *watch, uint8_t *output, size_t room, size_t *length);
+
+/* Frees the judge, if the watch holds one. The watch is empty then. */
+void ringplan_watch_free(struct ringplan_watch *watch);
 
 #ifdef __cplusplus
 }

@@ -30,7 +30,7 @@ quietly() {
     }
 }
 
-for name in ringplan_command ringplan_people; do
+for name in ringplan_command ringplan_people history_watch; do
     [ -d "$top/crates/$name/out/rlib/$name.rlib" ] || (cd "$top/crates/$name" && quietly rt lib)
 done
 [ -x "$program" ] || (cd "$top/crates/ringplan" && quietly rt run -- help)
@@ -38,8 +38,11 @@ done
 # The proof, and what each compiler makes of it.
 kit=$(dirname "$(dirname "$(readlink -f "$(command -v rt)")")")
 words=(--crate-name ringplan_c --crate-type staticlib --links ringplan_c= --antt-project "$kit/rattle/logic/antt-project.json")
-words+=(--extern "std=$kit/rlibs/std.rlib" --extern "clap=$kit/rlibs/clap.rlib" -L "dependency=$kit/rlibs")
-for name in change_text ringplan_command ringplan_people ringplan_job ringplan_jobs ring_names; do
+for name in std clap std_alloc core; do
+    words+=(--extern "$name=$kit/rlibs/$name.rlib")
+done
+words+=(-L "dependency=$kit/rlibs")
+for name in history_watch plan_text ring_table texts change_text ringplan_command ringplan_people ringplan_job ringplan_jobs ring_names; do
     words+=(--extern "$name=$top/crates/$name/out/rlib/$name.rlib")
 done
 for folder in "$top"/crates/*/out/rlib; do
@@ -54,7 +57,9 @@ build_by() {
     mkdir "$made"
     quietly "$kit/bin/rattle" build "${words[@]}" --crate-checked "$scratch/checked" --toolchain "$kit/toolchain" --backend "$1" -o "$made/libringplan_c.a" src/lib.rt
     quietly cc -shared -o "$made/libringplan.so" -Wl,--whole-archive "$made/libringplan_c.a" -Wl,--no-whole-archive "$kit/c/liblibc_c.a" -Wl,--exclude-libs,liblibc_c.a
-    quietly cc -O2 -o "$made/run" "$here/run.c" "$made/libringplan.so" "-Wl,-rpath,$made"
+    for name in run watch; do
+        quietly cc -O2 -o "$made/$name" "$here/$name.c" "$made/libringplan.so" "-Wl,-rpath,$made"
+    done
 }
 build_by llvm & by_llvm=$!
 build_by rattle & by_rattle=$!
@@ -130,6 +135,23 @@ for bundle in "$top"/crates/tests_cases/data/*.bundle "$top"/examples/*.bundle; 
     compare after
     compare cert
     compare cert --help
+done
+
+# A watch of each example with a history: its front is the bundle, and what comes after it is the history. Whole, in pieces and cut short.
+for example in "$top"/examples/*.bundle; do
+    grep -q '^history 1$' "$example" || continue
+    sed '/^history 1$/,$d' "$example" > "$scratch/front"
+    bundle=$scratch/history
+    for cut in 0 1 9; do
+        sed -n '/^history 1$/,$p' "$example" | head -c -$cut > "$bundle"
+        status=0
+        "$program" watch "$scratch/front" < "$bundle" > "$scratch/wanted" 2> "$scratch/wanted.errors" || status=$?
+        for piece in 1 7 65536; do
+            for by in llvm rattle; do
+                answers "Watches, built by $by" $status "$scratch/$by/watch" "$scratch/front" $piece
+            done
+        done
+    done
 done
 echo "compared in $SECONDS seconds"
 differing=0

@@ -1,1 +1,3 @@
 pub mod Options
+mod Values
+mod Told

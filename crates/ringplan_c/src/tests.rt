@@ -1,8 +1,10 @@
 //! Each call once with room, and what a room that is too small, no room, an empty input, a refused bundle and refused options are answered.
 
+use crate::handle::Handle;
 use crate::{
     ringplan_call, ringplan_check, ringplan_migrate, ringplan_plan, ringplan_play, ringplan_replay,
-    ringplan_version,
+    ringplan_version, ringplan_watch_count, ringplan_watch_end, ringplan_watch_free,
+    ringplan_watch_new, ringplan_watch_take,
 };
 use ringplan_jobs::Job;
 use std::alloc::Global;
@@ -172,7 +174,7 @@ fn speaks_of_words(rt: HostRuntime) {
     says(&rt, "why", "", "", &mut [0; 118], (2, 0, none));
     says(&rt, "after", "", "", &mut [0; 118], (2, 118, none));
     let (mut length, mut errors) = (0, 9);
-    let mut room = [0; 2381];
+    let mut room = [0; 2383];
     let status = ringplan_call(
         rt.alloc(),
         b"draw",
@@ -182,7 +184,7 @@ fn speaks_of_words(rt: HostRuntime) {
         &mut length,
         &mut errors,
     );
-    assert_eq!(rt; (status, length, errors), (0, 2381, 0));
+    assert_eq!(rt; (status, length, errors), (0, 2383, 0));
     assert!(rt; room.starts_with(b"<svg ") && room.ends_with(b"</svg>\n"));
 }
 
@@ -240,4 +242,85 @@ fn leaves_a_room_that_is_too_small_for_both(rt: HostRuntime) {
     );
     assert_eq!(rt; (status, length, errors), (4, 251, 175));
     assert!(rt; room.iter().all(|byte| *byte == b' '));
+}
+
+// How a watch takes bytes, and how many entries it has followed then.
+fn takes<RT: AllocGlobal + Abort>(
+    rt: &RT,
+    handle: &mut Handle,
+    bytes: &str,
+    wanted: (u8, &str, u32),
+) {
+    let (mut room, mut length) = ([0; 32], 0);
+    assert!(rt; handle.is_held());
+    if handle.is_held() {
+        let status = ringplan_watch_take(
+            rt.alloc(),
+            handle,
+            bytes.as_bytes(),
+            &mut room,
+            &mut length,
+        );
+        assert_eq!(rt; (status, length), (wanted.0, wanted.1.len()));
+        assert!(rt; room.starts_with(wanted.1.as_bytes()));
+    }
+    if handle.is_held() {
+        assert_eq!(rt; ringplan_watch_count(rt.alloc(), handle), wanted.2);
+    }
+}
+
+// How a watch ends.
+fn ends_watch<RT: AllocGlobal + Abort>(rt: &RT, handle: &mut Handle, wanted: (u8, &str)) {
+    let (mut room, mut length) = ([0; 32], 0);
+    assert!(rt; handle.is_held());
+    if handle.is_held() {
+        let status = ringplan_watch_end(rt.alloc(), handle, &mut room, &mut length);
+        assert_eq!(rt; (status, length), (wanted.0, wanted.1.len()));
+        assert!(rt; room.starts_with(wanted.1.as_bytes()));
+    }
+}
+
+#[test]
+fn watches_a_history(rt: HostRuntime) {
+    let mut handle = Handle::empty();
+    let mut length = 9;
+    let status = ringplan_watch_new(
+        rt.alloc(),
+        &mut handle,
+        BUNDLE.as_bytes(),
+        &mut [],
+        &mut length,
+    );
+    assert_eq!(rt; (status, length), (0, 0));
+    takes(&rt, &mut handle, "history 1\nput w1 k x31 = pu", (0, "", 0));
+    ends_watch(&rt, &mut handle, (2, "no 1 2\n"));
+    takes(&rt, &mut handle, "t 0\n", (0, "", 1));
+    ends_watch(&rt, &mut handle, (0, "yes\nslots 0 a\nend\n"));
+    takes(
+        &rt,
+        &mut handle,
+        "put w1 k x31 = put 7\n",
+        (1, "no 70 1 0\n", 1),
+    );
+    takes(&rt, &mut handle, "", (1, "no 70 1 0\n", 1));
+    ends_watch(&rt, &mut handle, (1, "no 70 1 0\n"));
+    ringplan_watch_free(rt.alloc(), &mut handle);
+    ringplan_watch_free(rt.alloc(), &mut handle);
+    assert!(rt; !handle.is_held());
+}
+
+#[test]
+fn begins_no_watch_by_a_refused_bundle(rt: HostRuntime) {
+    let mut handle = Handle::empty();
+    let (mut room, mut length) = ([0; 8], 0);
+    let status = ringplan_watch_new(
+        rt.alloc(),
+        &mut handle,
+        REFUSED.as_bytes(),
+        &mut room,
+        &mut length,
+    );
+    assert_eq!(rt; (status, length, handle.is_held()), (2, 8, false));
+    assert_eq!(rt; &room, b"no 10 3\n");
+    ringplan_watch_free(rt.alloc(), &mut handle);
 }
