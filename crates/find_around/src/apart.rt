@@ -1,11 +1,10 @@
-//! Partitions that do not end as planned: moves that have not begun are kept out of the racks of other slots.
+//! Keeps retargeted slots out of the racks of their partition's other slots.
 
 use crate::around::Search;
 use crate::told::Outcome;
 use ring_names::{Refusal, Slot};
 
 impl Search<'_> {
-    /// Keeps the slots of each partition that does not end as planned out of the racks of its other slots.
     pub(crate) fn keep_apart(&mut self) -> Result<(), Refusal> {
         for partition in 0..self.task.ring.q() {
             for turn in 0..self.task.ring.n() {
@@ -18,7 +17,6 @@ impl Search<'_> {
         Ok(())
     }
 
-    // Whether the partition does not end as planned.
     fn ends_otherwise(&self, partition: u32) -> bool {
         for index in 0..self.task.ring.n() {
             if self.saying_of(Slot { partition, index }).outcome.is_some() {
@@ -28,7 +26,7 @@ impl Search<'_> {
         false
     }
 
-    // Looks once at each slot of the partition. Answers whether one ends elsewhere by that.
+    // Returns whether a slot of the partition got another end.
     fn part(&mut self, partition: u32) -> Result<bool, Refusal> {
         let mut has_parted = false;
         for index in 0..self.task.ring.n() {
@@ -37,7 +35,8 @@ impl Search<'_> {
         Ok(has_parted)
     }
 
-    // Gives the slot's last move another target or leaves it out, if it has not begun and fewer slots share a rack by that. Answers whether it does.
+    // Retargets or leaves out the slot's last move, if it has not begun and fewer slots share a rack then. Returns
+    // whether it did.
     fn part_slot(&mut self, slot: Slot) -> Result<bool, Refusal> {
         let place = self.last_left(slot);
         let (Some(found), Some(it)) = (place, self.moves.at(place)) else {

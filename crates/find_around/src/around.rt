@@ -1,4 +1,4 @@
-//! The search as a whole, and what it works on.
+//! The search as a whole and its input.
 
 use crate::crowding::Crowd;
 use crate::entries::Begun;
@@ -27,7 +27,7 @@ pub struct Task<'a> {
     pub alloc: Global,
     pub ring: &'a Ring,
     pub plan: &'a Plan,
-    /// The plan's certificate, whose chains say which copies share an allowance.
+    /// The plan's certificate. Its chains say which copies share an allowance.
     pub cert: &'a Cert,
     /// A run of the plan.
     pub history: &'a [Entry],
@@ -35,44 +35,42 @@ pub struct Task<'a> {
     pub extent: Extent,
     /// Slots that stay with their owners.
     pub left: &'a [Slot],
-    /// The nodes that are dead from here on.
+    /// The nodes that are dead from now on.
     pub dead: &'a [NodeId],
-    /// Slots whose mirrors have puts from listed slots that the slots' owners do not have. A copy of such a slot does not begin again over what its mirror has.
+    /// Slots whose mirrors hold puts that their owners lack: their copies must not start over.
     pub ahead: &'a [Slot],
-    /// The racks of nodes, if they are known.
+    /// The racks of nodes, if known.
     pub racks: Option<&'a Labels>,
-    /// Whether mirrors may be taken back. A mirror of a slot that is left with its owner is taken back in any case.
+    /// Whether mirrors may be undone. Mirrors of slots that stay are undone in any case.
     pub back: Back,
-    /// Whether the words have a line for each slot, or only sums by node.
+    /// Whether the report has a line for each slot, or only sums by node.
     pub shape: Shape,
 }
 
-/// How far a search goes. If the checker refuses what is found, the next one goes less far.
+/// How far a search goes. After a refused plan, the next one goes less far.
 #[derive(Clone, Copy, Debug, PartialEq, Eq)]
 pub enum Reach {
-    /// All moves that can still be done.
+    /// Keeps all moves that can still be done.
     Far,
-    /// Moves that have begun, in partitions with which a dead node has to do, or a slot that is left; in all others all moves.
+    /// Like `Far`, but in partitions with a dead node or a slot that stays, only moves that have begun.
     Near,
-    /// Moves whose copies are done, or have all chunks; in all partitions.
+    /// Keeps only moves whose copies are done or have all chunks.
     Full,
 }
 
-/// Another plan, and what became of the steps of the old one.
+/// The new plan, and what became of the old plan's steps.
 #[derive(Drop)]
 pub struct Around {
     pub plan: Plan,
     /// By step of the new plan, its number in the old one.
     pub olds: Vec<u32>,
-    /// By step of the old plan, the number that its entries get. None for a step whose entries go, and for one that has not begun.
+    /// By step of the old plan, its number in the new one. None if its entries go, or if it has not begun.
     pub numbers: Vec<Option<u32>>,
-    /// Whether the new plan is the old one.
     pub is_same: bool,
-    /// What becomes of slots and nodes, line by line.
+    /// What becomes of slots and nodes, one line each.
     pub words: Vec<u8>,
 }
 
-/// What the search has found so far.
 #[derive(Drop)]
 pub(crate) struct Search<'a> {
     pub(crate) task: Task<'a>,
@@ -80,42 +78,40 @@ pub(crate) struct Search<'a> {
     pub(crate) progress: Progress,
     pub(crate) moves: Moves,
     pub(crate) hints: Hints,
-    /// By node, whether it is dead.
+    /// By node.
     pub(crate) dead: Vec<bool>,
-    /// Slots whose mirrors have puts that the slots' owners do not have.
     pub(crate) ahead: BTreeSet<Slot>,
     /// By partition, whether no more moves begin there.
     pub(crate) resting: Vec<bool>,
     pub(crate) crowd: Crowd,
-    /// By step, whether it has begun.
+    /// By step.
     pub(crate) begun: Vec<bool>,
     /// By step, whether it is left out.
     pub(crate) gone: Vec<bool>,
-    /// By step, whether it is a copy that begins anew.
+    /// By step, whether it is a copy that starts over.
     pub(crate) fresh: Vec<bool>,
-    /// By step, whether it is a mirror that is taken back.
+    /// By step, whether it is a mirror that is undone.
     pub(crate) taken: Vec<bool>,
-    /// By step, whether it is a mirror for which a step of another move waits that has begun.
+    /// By step, whether it is a mirror that a begun step of another move depends on.
     pub(crate) awaited: Vec<bool>,
-    /// What steps wait for besides what the plan says.
+    /// Dependencies beyond those of the old plan.
     pub(crate) more: Needs,
-    /// What copies list in place of what the plan says, by copy.
+    /// By copy, what it lists instead of the old plan's list.
     pub(crate) listings: BTreeMap<u32, Listing>,
-    /// By node, how many copies were given to it to be read from, and how many slots it owns in the end.
+    /// By node: copies newly given to it to serve, and slots owned in the end.
     pub(crate) load: Vec<u32>,
     pub(crate) owned: Vec<u32>,
-    /// By node, 1 and the last partition in which it was seen to be busy; and 1 and the last partition that was looked at for that.
+    /// By node, 1 plus the last partition in which it was busy; then 1 plus the last partition searched for that.
     pub(crate) busy: Vec<u32>,
     pub(crate) looked_at: u32,
-    /// By node, 1 and the place of the last slot for which it was seen to keep a hint for another slot of the partition.
+    /// By node, 1 plus the place of the last slot for which it was found to keep another slot's hint.
     pub(crate) keeping: Vec<u32>,
     pub(crate) is_changed: bool,
-    /// By slot, what is to be said of it.
+    /// By slot, what to report.
     pub(crate) sayings: BTreeMap<Slot, Saying>,
     pub(crate) words: Words,
 }
 
-// By node, whether it is dead.
 fn flags(task: &Task) -> Result<Vec<bool>, Refusal> {
     let mut dead = vec![in task.alloc; false; task.ring.nodes().len()]?;
     for node in task.dead {
@@ -124,7 +120,6 @@ fn flags(task: &Task) -> Result<Vec<bool>, Refusal> {
     Ok(dead)
 }
 
-// The slots that are ahead, each once.
 fn slots(task: &Task) -> Result<BTreeSet<Slot>, Refusal> {
     let mut ahead = BTreeSet::new(task.alloc);
     for slot in task.ahead {
@@ -134,7 +129,6 @@ fn slots(task: &Task) -> Result<BTreeSet<Slot>, Refusal> {
 }
 
 impl<'a> Search<'a> {
-    // Before anything is decided.
     fn of(task: Task<'a>, reach: Reach) -> Result<Search<'a>, Refusal> {
         let (alloc, steps, nodes) = (
             task.alloc,
@@ -173,17 +167,14 @@ impl<'a> Search<'a> {
         })
     }
 
-    /// Whether the node is dead.
     pub(crate) fn is_dead(&self, node: u32) -> bool {
         is_set(self.dead.as_slice(), node)
     }
 
-    /// Whether the step is done, and not taken back.
     pub(crate) fn is_done(&self, step: u32) -> bool {
         self.progress.is_done(step) && !is_set(self.taken.as_slice(), step)
     }
 
-    /// Whether there is such a step, and it is done.
     pub(crate) fn has_done(&self, step: Option<u32>) -> bool {
         match step {
             Some(step) => self.is_done(step),
@@ -191,7 +182,7 @@ impl<'a> Search<'a> {
         }
     }
 
-    /// Whether the step stays in the history: it is done, or a copy that has begun and goes on.
+    /// Whether the step stays in the history: it is done, or is a begun copy that continues.
     pub(crate) fn is_fixed(&self, step: u32) -> bool {
         self.is_done(step)
             || (is_set(self.begun.as_slice(), step)
@@ -199,18 +190,15 @@ impl<'a> Search<'a> {
                 && !is_set(self.taken.as_slice(), step))
     }
 
-    /// Whether the step is left out.
     pub(crate) fn is_gone(&self, step: u32) -> bool {
         is_set(self.gone.as_slice(), step)
     }
 
-    /// The step, if there is one that is not left out.
     pub(crate) fn kept(&self, step: Option<u32>) -> Option<u32> {
         let step = step?;
         if self.is_gone(step) { None } else { Some(step) }
     }
 
-    /// Leaves the step out, if there is one.
     pub(crate) fn remove(&mut self, step: Option<u32>) {
         if let Some(step) = step {
             put(self.gone.as_mut_slice(), step, true);
@@ -219,9 +207,12 @@ impl<'a> Search<'a> {
     }
 }
 
-/// Another plan, of which the history is a run without what is taken back or begins again, if one is found. Slots that are to stay stay, then what has not begun is left
-/// out if only moves that have begun are to end, and then no step to come asks anything of the dead. If nothing changes, it is the old plan. Refused as `NoPlan`, or as
-/// `OutOfMemory`. Costs about a pass over the plan and one over the history, and sorting.
+/// Finds another plan that the history is a run of, without undone and restarted steps. If nothing changes,
+/// returns the old plan.
+///
+/// Named slots stay; no remaining step involves a dead node.
+///
+/// Fails with `NoPlan` or `OutOfMemory`. Costs a pass over plan and history, and sorting.
 pub fn find_around(task: Task, reach: Reach) -> Result<Around, Refusal> {
     let mut search = Search::of(task, reach)?;
     settle(&mut search)?;

@@ -1,4 +1,4 @@
-//! What became of a plan's steps in another plan that was chosen to go on by.
+//! Maps the steps of a plan to those of the plan chosen to replace it.
 
 use crate::around::Task;
 use crate::entries::Begun;
@@ -9,19 +9,18 @@ use ring_names::{Refusal, Slot};
 use std::alloc::Global;
 use std::collections::{BTreeMap, BTreeSet};
 
-/// What the steps of the task's plan are called in a chosen one.
+/// The numbers of steps in both plans.
 #[derive(Drop)]
 pub struct Kept {
     /// By step of the chosen plan, its number in the task's.
     pub olds: Vec<u32>,
-    /// By step of the task's plan, the number that its entries get. None for a step whose entries go, and for one that has not begun.
+    /// By step of the task's plan, its number in the chosen one. None if its entries go, or if it has not begun.
     pub numbers: Vec<Option<u32>>,
 }
 
-// A step as a key: its kind, its slot, its node and its sources.
+// A step's kind, slot, node and sources.
 type Key = (u32, u32, u32, u32, u32);
 
-// The sources of a copy, as bits.
 fn source_bits(source: &Source) -> u32 {
     match source {
         Source::Owner => 0,
@@ -37,12 +36,10 @@ fn source_bits(source: &Source) -> u32 {
     }
 }
 
-// The key of a step that is about a slot.
 fn slot_key(kind: u32, slot: Slot, node: u32, bits: u32) -> Key {
     (kind, slot.partition, slot.index, node, bits)
 }
 
-// The key of a step.
 fn key_of(step: &Step) -> Key {
     match step {
         Step::Join(node) => (0, 0, 0, node.0, 0),
@@ -54,7 +51,7 @@ fn key_of(step: &Step) -> Key {
     }
 }
 
-// Steps of a plan by their keys, the last one first.
+// The steps of a plan by key, the last one first.
 #[derive(Drop)]
 struct ByKey {
     alloc: Global,
@@ -62,7 +59,6 @@ struct ByKey {
 }
 
 impl ByKey {
-    // The steps of the plan.
     fn of(alloc: Global, plan: &Plan) -> Result<ByKey, Refusal> {
         let mut found = ByKey {
             alloc,
@@ -78,7 +74,6 @@ impl ByKey {
         Ok(found)
     }
 
-    // Adds a step.
     fn add(&mut self, key: Key, step: u32) -> Result<(), Refusal> {
         if let Some(steps) = self.steps.get_mut(&key) {
             steps.push(step)?;
@@ -90,7 +85,6 @@ impl ByKey {
         Ok(())
     }
 
-    // Takes the first step that is left of that key.
     fn take(&mut self, key: Key) -> Option<u32> {
         match self.steps.get_mut(&key) {
             Some(steps) => steps.pop(),
@@ -99,7 +93,6 @@ impl ByKey {
     }
 }
 
-// The slots whose mirrors cannot keep what they have.
 fn slots_ahead(task: &Task) -> Result<BTreeSet<Slot>, Refusal> {
     let mut ahead = BTreeSet::new(task.alloc);
     for slot in task.ahead {
@@ -108,7 +101,7 @@ fn slots_ahead(task: &Task) -> Result<BTreeSet<Slot>, Refusal> {
     Ok(ahead)
 }
 
-// Takes the numbers of mirrors away that have puts that their slots' owners do not have, if their copies have begun and the chosen plan has others in their place.
+// Drops the numbers of mirrors ahead of their owners whose copies have begun and are new in the chosen plan.
 fn take_back(task: &Task, chosen: &Plan, kept: &mut Kept, begun: &[bool]) -> Result<(), Refusal> {
     let ahead = slots_ahead(task)?;
     let fresh = kept.fresh_copies(task.alloc, chosen)?;
@@ -131,7 +124,7 @@ fn take_back(task: &Task, chosen: &Plan, kept: &mut Kept, begun: &[bool]) -> Res
 }
 
 impl Kept {
-    // The slots of copies of the chosen plan that have no number in the task's.
+    // The slots that the chosen plan copies by steps new to the task's plan.
     fn fresh_copies(&self, alloc: Global, chosen: &Plan) -> Result<BTreeSet<Slot>, Refusal> {
         let mut fresh = BTreeSet::new(alloc);
         for step in 0..chosen.len() {
@@ -144,12 +137,11 @@ impl Kept {
         Ok(fresh)
     }
 
-    // Whether the step of the task's plan has a number.
     fn has_number(&self, step: u32) -> bool {
         matches!(self.numbers.get(step as usize), Some(Some(_)))
     }
 
-    // Whether the step of the chosen plan with the number of this one waits for a step that is not done.
+    // Whether the step's counterpart in the chosen plan depends on a step that is not done.
     fn waits(&self, chosen: &Plan, step: u32, done: &[bool]) -> bool {
         let Some(Some(number)) = self.numbers.get(step as usize) else {
             return false;
@@ -165,7 +157,7 @@ impl Kept {
         false
     }
 
-    // Takes the numbers of copies away that are not done, if the chosen plan lets them wait for a step that is not done: their entries go.
+    // Drops the numbers, and so the entries, of unfinished copies that must now wait for an unfinished step.
     fn forget_waiting(&mut self, task: &Task, chosen: &Plan, done: &[bool]) {
         for step in 0..task.plan.len() {
             let is_copy = matches!(task.plan.step(step), Step::Copy(_, _));
@@ -175,7 +167,6 @@ impl Kept {
         }
     }
 
-    // Takes the number of a copy away, and its place in the chosen plan.
     fn forget_copy(&mut self, step: u32) {
         if let Some(Some(number)) = self.numbers.get(step as usize) {
             set(self.olds.as_mut_slice(), *number as usize, u32::MAX);
@@ -183,7 +174,6 @@ impl Kept {
         self.forget(Some(step));
     }
 
-    // Takes the number of a step away, if there is one.
     fn forget(&mut self, step: Option<u32>) {
         if let Some(step) = step {
             let place = step as usize;
@@ -194,17 +184,16 @@ impl Kept {
     }
 }
 
-// What becomes of steps, one after the other.
 #[derive(Drop)]
 struct Keeping {
     left: ByKey,
-    // By slot, whether the mirror that was set last has a number.
+    // By slot, whether its latest mirror has a number.
     mirrors: BTreeMap<Slot, bool>,
     kept: Kept,
 }
 
 impl Keeping {
-    // The number of a step that has begun, if it has one. A copy has none if its mirror has none.
+    // Returns the number of a begun step. A copy has none if its mirror has none.
     fn number_of(&mut self, step: &Step) -> Result<Option<u32>, Refusal> {
         if let Step::Copy(slot, _) = step {
             if self.mirrors.get(slot).copied() == Some(false) {
@@ -218,7 +207,6 @@ impl Keeping {
         Ok(number)
     }
 
-    // Notes the step with its number.
     fn note(&mut self, step: u32, number: Option<u32>) -> Result<(), Refusal> {
         if let Some(number) = number {
             set(self.kept.olds.as_mut_slice(), number as usize, step);
@@ -228,8 +216,11 @@ impl Keeping {
     }
 }
 
-/// What the steps of the task's plan are called in the chosen plan: a step that has begun has the number of the first equal step that no earlier one has. A copy that is not done has
-/// none if the chosen plan lets it wait for a step that is not done. If mirrors may be taken back, those are that are ahead of their slots' owners, and whose copies the chosen plan changes. Costs a pass over both plans and over the history, and sorting.
+/// Maps each begun step to the first equal step of the chosen plan that is still free. Costs a pass over both
+/// plans and the history, and sorting.
+///
+/// Unfinished copies that must wait get no number. If mirrors may be undone, neither do mirrors ahead of their
+/// owners whose copies change.
 pub fn find_kept(task: &Task, chosen: &Plan) -> Result<Kept, Refusal> {
     let Begun { begun, done, .. } = Begun::of(task)?;
     let mut it = Keeping {

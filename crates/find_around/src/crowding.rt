@@ -1,4 +1,4 @@
-//! Moves that are left out since another slot of their partition stays at their target.
+//! Leaves out moves to nodes that keep another slot of the partition.
 
 use crate::around::{Search, Task};
 use crate::moving::{Move, Moves};
@@ -8,10 +8,9 @@ use ring_names::{Refusal, Slot};
 use std::alloc::Global;
 use std::collections::BinaryHeap;
 
-/// Which moves lead to which node of a partition, and which moves were left out while their slots stay.
 #[derive(Drop)]
 pub(crate) struct Crowd {
-    // partitions, targets and mirrors; ascending
+    // partition, target and mirror; ascending
     arrivals: Vec<(u32, u32, u32)>,
     // mirrors of moves that were left out, the first on top
     staying: BinaryHeap<u32>,
@@ -20,7 +19,6 @@ pub(crate) struct Crowd {
 }
 
 impl Crowd {
-    /// The task's moves, of which none is left out.
     pub(crate) fn of(task: &Task, moves: &Moves) -> Result<Crowd, Refusal> {
         let alloc: Global = task.alloc;
         let mut arrivals = Vec::new(alloc);
@@ -40,19 +38,17 @@ impl Crowd {
         })
     }
 
-    // The mirror from which on the slot's moves are left out.
     fn cut(&self, slot: Slot) -> u32 {
         at(self.cuts.as_slice(), place_of(slot))
     }
 
-    // The place of the first move to the node of the partition with that mirror or a later one.
+    // The place of the first arrival at the node with this mirror or a later one.
     fn first(&self, partition: u32, node: u32, mirror: u32) -> usize {
         match self.arrivals.binary_search(&(partition, node, mirror)) {
             Ok(place) | Err(place) => place,
         }
     }
 
-    // The mirror of that place, if it leads to the node of the partition.
     fn arrival(&self, place: usize, partition: u32, node: u32) -> Option<u32> {
         match self.arrivals.get(place) {
             Some((there, target, mirror)) if *there == partition && *target == node => Some(
@@ -62,7 +58,7 @@ impl Crowd {
         }
     }
 
-    /// The owner of the move's slot keeps it, since the move with that mirror is left out.
+    /// Notes that the slot's owner keeps it, since the move with this mirror is left out.
     pub(crate) fn stay(&mut self, mirror: Option<u32>) -> Result<(), Refusal> {
         if let Some(mirror) = mirror {
             self.staying.push(u32::MAX.saturating_sub(mirror))?;
@@ -70,7 +66,6 @@ impl Crowd {
         Ok(())
     }
 
-    // The first of the mirrors at which an owner stays, which is taken away.
     fn pop(&mut self) -> Option<u32> {
         let top = self.staying.pop()?;
         Some(u32::MAX.saturating_sub(top))
@@ -78,7 +73,6 @@ impl Crowd {
 }
 
 impl Search<'_> {
-    /// Leaves out all steps of a move.
     pub(crate) fn leave_out(&mut self, it: &Move) {
         self.remove(it.mirror);
         self.remove(it.copy);
@@ -86,7 +80,7 @@ impl Search<'_> {
         self.remove(it.drop);
     }
 
-    /// Leaves out all steps of the slot's moves from that one on: the slot stays where it is then.
+    /// Leaves out this move of the slot and all later ones.
     pub(crate) fn leave_out_from(&mut self, from: Option<usize>) -> Result<(), Refusal> {
         let Some(first) = self.moves.at(from) else {
             return Ok(());
@@ -114,7 +108,7 @@ impl Search<'_> {
         Ok(())
     }
 
-    /// Leaves out each move to a node that stays the owner of another slot of the partition, with the later moves of its slot.
+    /// Leaves out each move to a node that keeps another slot of the partition, and the later moves of its slot.
     pub(crate) fn make_way(&mut self) -> Result<(), Refusal> {
         for turn in 0..u32::MAX {
             let Some(mirror) = self.crowd.pop() else {
@@ -129,7 +123,7 @@ impl Search<'_> {
         Ok(())
     }
 
-    // The switch by which the slot leaves the owner that keeps it for now, if there is one.
+    // The next switch that is kept, by which the slot leaves its owner.
     fn next_switch(&self, it: &Move) -> Option<u32> {
         let mut next = it.next;
         for turn in 0..self.moves.len() {
@@ -142,7 +136,7 @@ impl Search<'_> {
         None
     }
 
-    // The move is left out: its owner keeps the slot up to the next switch that is left.
+    // Leaves out the moves that would reach the owner before its next kept switch.
     fn make_way_for(&mut self, it: &Move, mirror: u32) -> Result<(), Refusal> {
         let until = self.next_switch(it);
         let (partition, node) = (it.slot.partition, it.source);
@@ -161,7 +155,7 @@ impl Search<'_> {
         Ok(())
     }
 
-    // The other move is left out if it leads to the owner, who keeps the move's slot.
+    // Leaves the other move out if it leads to this move's source.
     fn step_aside(&mut self, it: &Move, other: u32) -> Result<(), Refusal> {
         let place = self.moves.of_step(other);
         let Some(late) = self.moves.at(place) else {

@@ -1,4 +1,4 @@
-//! What a history has begun, and the hints that nodes keep after it.
+//! What a history has begun, and the hints that remain after it.
 
 use crate::around::Task;
 use helpers::put;
@@ -6,7 +6,6 @@ use plan_runs::{Entry, Event, Reply};
 use ring_names::{Refusal, Slot};
 use std::collections::BTreeSet;
 
-/// By step whether it has begun and whether it is done, and the hints that are kept, by slot.
 #[derive(Drop)]
 pub(crate) struct Begun {
     pub(crate) begun: Vec<bool>,
@@ -15,7 +14,6 @@ pub(crate) struct Begun {
 }
 
 impl Begun {
-    /// What the task's history has begun.
     pub(crate) fn of(task: &Task) -> Result<Begun, Refusal> {
         let mut found = Begun {
             begun: vec![in task.alloc; false; task.plan.len() as usize]?,
@@ -28,7 +26,6 @@ impl Begun {
         Ok(found)
     }
 
-    // An entry more.
     fn note(&mut self, entry: &Entry) -> Result<(), Refusal> {
         match &entry.event {
             Event::Do(step) => {
@@ -49,7 +46,7 @@ impl Begun {
                 let lost = node.0;
                 self.hints.retain(|hint| hint.1 != lost);
             }
-            // No other begins a step, or changes who keeps a hint.
+            // Other events begin no step and move no hint.
             _ => {}
         }
         Ok(())

@@ -1,4 +1,4 @@
-//! The hints that nodes keep, by partition.
+//! The stored hints, by partition.
 
 use helpers::{at, set, small};
 use ring_names::{Refusal, Slot};
@@ -6,17 +6,15 @@ use ring_table::Ring;
 use std::alloc::Global;
 use std::collections::BTreeSet;
 
-/// Which nodes keep hints for which slots.
 #[derive(Drop)]
 pub(crate) struct Hints {
     // ascending
     all: Vec<(Slot, u32)>,
-    // by partition, where its hints begin, and then how many there are
+    // by partition, where its hints begin; then their count
     firsts: Vec<u32>,
 }
 
 impl Hints {
-    /// These hints.
     pub(crate) fn of(
         alloc: Global,
         ring: &Ring,
@@ -40,12 +38,10 @@ impl Hints {
         Ok(hints)
     }
 
-    /// All of them.
     pub(crate) fn all(&self) -> &[(Slot, u32)] {
         self.all.as_slice()
     }
 
-    /// Those of a partition's slots.
     pub(crate) fn of_partition(&self, partition: u32) -> &[(Slot, u32)] {
         let from = at(self.firsts.as_slice(), partition as usize) as usize;
         let to = at(

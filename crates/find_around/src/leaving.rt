@@ -1,4 +1,4 @@
-//! Slots that stay with their owners, as it is asked for.
+//! Slots that stay with their owners on request.
 
 use crate::around::{Search, Task};
 use crate::moving::{Move, Moves};
@@ -7,12 +7,10 @@ use helpers::put;
 use plan_moves::Progress;
 use ring_names::{Refusal, Slot};
 
-// Whether the ring has the slot.
 fn has_slot(task: &Task, slot: Slot) -> bool {
     slot.partition < task.ring.q() && slot.index < task.ring.n()
 }
 
-// Whether the step is done, if there is one.
 fn has_done(progress: &Progress, step: Option<u32>) -> bool {
     match step {
         Some(step) => progress.is_done(step),
@@ -20,7 +18,7 @@ fn has_done(progress: &Progress, step: Option<u32>) -> bool {
     }
 }
 
-// The place of the slot's first move that is not over: a switch of it is to come, or its mirror stays without one and can be taken back.
+// The slot's first move whose switch is to come, or that ends as a mirror that can be undone.
 fn first_open(moves: &Moves, progress: &Progress, slot: Slot) -> Option<usize> {
     let mut next = moves.first(slot);
     for turn in 0..moves.len() {
@@ -36,7 +34,7 @@ fn first_open(moves: &Moves, progress: &Progress, slot: Slot) -> Option<usize> {
     None
 }
 
-/// The slots that are to stay, and that neither a step to come moves nor a node mirrors. Costs one pass over the plan and one over the history.
+/// Returns the slots asked to stay that no remaining step moves and no node mirrors. Costs a pass over plan and history.
 pub fn find_unmoved(task: &Task) -> Result<Vec<Slot>, Refusal> {
     let mut unmoved = Vec::new(task.alloc);
     if task.left.is_empty() {
@@ -53,7 +51,6 @@ pub fn find_unmoved(task: &Task) -> Result<Vec<Slot>, Refusal> {
 }
 
 impl Search<'_> {
-    /// Leaves the slots that are named with their owners.
     pub(crate) fn leave_named(&mut self) -> Result<(), Refusal> {
         let left = self.task.left;
         for slot in left {
@@ -64,7 +61,7 @@ impl Search<'_> {
         self.make_way()
     }
 
-    // Leaves the slot with its owner; a move whose copy has all chunks is ended.
+    // Keeps the slot with its owner, unless its copy has all chunks: then the move is finished.
     fn leave_slot(&mut self, slot: Slot) -> Result<(), Refusal> {
         let place = first_open(&self.moves, &self.progress, slot);
         let Some(it) = self.moves.at(place) else {
@@ -79,7 +76,6 @@ impl Search<'_> {
         self.note_outcome(slot, Outcome::Left)
     }
 
-    // Takes the move's mirror back if it is set.
     fn cancel(&mut self, it: &Move) -> Result<(), Refusal> {
         if self.has_done(it.mirror) {
             self.take_back(it)?;
@@ -87,7 +83,7 @@ impl Search<'_> {
         Ok(())
     }
 
-    /// The slot's mirror is taken back, and the move is as if it had not begun.
+    /// Undoes the slot's mirror, so that the move has not begun.
     pub(crate) fn take_back(&mut self, it: &Move) -> Result<(), Refusal> {
         self.note_taken(it.slot, it.target)?;
         if let Some(mirror) = it.mirror {

@@ -1,6 +1,6 @@
-//! A search for another plan in the middle of a change: around nodes that died, with slots that stay, or with nothing more than what has begun. What is done stays,
-//! and so does a copy that has begun and asks nothing of the dead. The rest is planned again, in the plan's order as far as that is possible. Nothing is promised of it
-//! but that the checker and the replay can be asked.
+//! Searches for another plan in the middle of a change: around dead nodes, with slots that stay, or only to finish what
+//! has begun. Steps that are done stay, and so do open copies that need no dead node. The rest is planned again, in the
+//! old order if possible. Nothing is proved of the new plan: the checker and the replay judge it.
 #![tactic(auto)]
 
 mod apart;

@@ -1,4 +1,4 @@
-//! What each step of the new plan waits for: what it waited for, its slot's step before it, and by the allowances a copy in which its nodes take part.
+//! Dependencies of the new plan: old ones, the order of each slot's steps, and chains for the allowances.
 
 use crate::around::Search;
 use crate::moving::Move;
@@ -11,15 +11,15 @@ use ring_names::{NodeId, Refusal, Slot};
 use ring_table::{Allowance, Side};
 use std::alloc::Global;
 
-// The most looks at steps that are left out.
+// The most steps to pass through that are left out.
 const LOOKS: u32 = 100_000_000;
 
-// The copies of each group of transfers, of which a node has one or two, that no other waits for yet.
+// The last copy of each chain, by transfer group. A node has one or two groups.
 #[derive(Drop)]
 struct Tails {
-    // by group; at most as many as may be open
+    // by group; no more than may be open
     copies: Vec<Vec<u32>>,
-    // by step, 1 and its place in the order in which steps are linked, and how many copies come before its end
+    // by step: 1 plus its place in the order of linking, and the length of the chain that it ends
     places: Vec<u32>,
     depths: Vec<u32>,
 }
@@ -30,7 +30,7 @@ struct Parties {
     groups: Vec<usize>,
 }
 
-/// What each step that is left waits for.
+/// Returns the dependencies of each remaining step.
 pub(crate) fn link(search: &mut Search) -> Result<Needs, Refusal> {
     let mut needs = Needs::of(search.task.alloc, search.task.plan.len() as usize)?;
     search.keep_needs(&mut needs)?;
@@ -43,7 +43,7 @@ pub(crate) fn link(search: &mut Search) -> Result<Needs, Refusal> {
 }
 
 impl Search<'_> {
-    // Each step waits for what it waited for; in place of steps that are left out, for what these waited for.
+    // Keeps each step's dependencies. Those left out are replaced by their own dependencies.
     fn keep_needs(&self, needs: &mut Needs) -> Result<(), Refusal> {
         let count = self.task.plan.len();
         let mut seen = vec![in self.task.alloc; 0u32; count as usize]?;
@@ -56,7 +56,7 @@ impl Search<'_> {
         Ok(())
     }
 
-    // Likewise for one step. Answers how many looks are left.
+    // The same for one step. Returns how many looks are left.
     fn keep_of(
         &self,
         needs: &mut Needs,
@@ -86,12 +86,12 @@ impl Search<'_> {
         Err(Refusal::NoPlan)
     }
 
-    // Whether the step may wait for the other one, which it waited for: that is left, and not taken back where the step is done or has begun.
+    // Whether the dependency can stay. An undone mirror must not come before a step that is done or begun.
     fn stays_before(&self, step: u32, other: u32) -> bool {
         !self.is_gone(other) && !(self.is_fixed(step) && is_set(self.taken.as_slice(), other))
     }
 
-    // Adds what the other step waits for directly: the step is that one, or waited for it. A step that is done, or has begun, waits for nothing besides what the plan says.
+    // Pushes the direct dependencies of `other`, with the new ones unless the step is done or has begun.
     fn push_waits(&self, stack: &mut Vec<u32>, step: u32, other: u32) -> Result<(), Refusal> {
         if other < self.task.plan.len() {
             stack.extend_from_slice(self.task.plan.deps(other))?;
@@ -102,7 +102,6 @@ impl Search<'_> {
         Ok(())
     }
 
-    // Each step of a slot that is to come waits for the slot's step before it.
     fn follow_slots(&self, needs: &mut Needs) -> Result<(), Refusal> {
         for partition in 0..self.task.ring.q() {
             for index in 0..self.task.ring.n() {
@@ -134,7 +133,6 @@ impl Search<'_> {
         Ok(())
     }
 
-    // A retirement waits for all drops of its node.
     fn retire_last(&self, needs: &mut Needs) -> Result<(), Refusal> {
         for place in 0..self.moves.len() {
             if let Some(it) = self.moves.at(Some(place)) {
@@ -149,7 +147,7 @@ impl Search<'_> {
         Ok(())
     }
 
-    // The steps in the order in which they are linked: those that are done, copies that have begun, and the rest, each after those that it waits for.
+    // Orders the steps for linking: done ones, begun copies, then the rest, each after its dependencies.
     fn line_up(&self, needs: &Needs) -> Result<Vec<u32>, Refusal> {
         let sorted = self.sorted(needs)?;
         let mut order = Vec::new(self.task.alloc);
@@ -170,7 +168,8 @@ impl Search<'_> {
         Ok(order)
     }
 
-    // Puts each copy that has not begun after one that ends a chain, for each node that takes part in it and has as many chains as it may have copies open.
+    // Gives each copy that has not begun a place in a chain of each of its nodes. A node has at most as many chains as
+    // copies may be open.
     fn link_copies(&self, needs: &mut Needs) -> Result<(), Refusal> {
         let order = self.line_up(needs)?;
         let mut tails = Tails::of(self.task.alloc, self, order.as_slice())?;
@@ -185,7 +184,6 @@ impl Search<'_> {
         Ok(())
     }
 
-    // The move whose copy the step is, if it is left.
     fn copied_by(&self, step: u32) -> Option<Move> {
         let it = self.moves.at(self.moves.of_step(step))?;
         if self.kept(it.copy) == Some(step) {
@@ -195,7 +193,6 @@ impl Search<'_> {
         }
     }
 
-    // Puts the copy after others.
     fn link_copy(
         &self,
         needs: &mut Needs,
@@ -218,7 +215,6 @@ impl Search<'_> {
         Ok(())
     }
 
-    // The group of a side of the node.
     fn group(&self, node: u32, side: Side) -> usize {
         let place = (node as usize).saturating_mul(2);
         if self.is_split(node) && side == Side::Give {
@@ -245,7 +241,6 @@ impl Search<'_> {
         }
     }
 
-    // The groups of the nodes that take part in the copy, each once.
     fn parties(&self, it: &Move, copy: u32) -> Result<Parties, Refusal> {
         let mut groups = Vec::new(self.task.alloc);
         groups.push(self.group(it.target, Side::Take))?;
@@ -256,7 +251,7 @@ impl Search<'_> {
         Ok(Parties { groups })
     }
 
-    // Adds the groups from which a copy with other sources reads.
+    // Adds the groups that a copy with new sources reads from.
     fn push_listed(
         &self,
         groups: &mut Vec<usize>,
@@ -278,7 +273,6 @@ impl Search<'_> {
         Ok(())
     }
 
-    // Adds the groups from which a copy reads by the plan that was.
     fn push_sources(&self, groups: &mut Vec<usize>, it: &Move, copy: u32) -> Result<(), Refusal> {
         if copy >= self.task.plan.len() {
             return Ok(());
@@ -295,7 +289,6 @@ impl Search<'_> {
         Ok(())
     }
 
-    // Adds the group by which the node gives, unless it is there.
     fn push_giver(&self, groups: &mut Vec<usize>, node: u32) -> Result<(), Refusal> {
         let group = self.group(node, Side::Give);
         if !groups.contains(&group) {
@@ -304,7 +297,7 @@ impl Search<'_> {
         Ok(())
     }
 
-    // The last of a chain's copies that has begun and is left.
+    // The last copy of a chain that has begun and is kept.
     fn last_begun(&self, steps: &[u32]) -> Option<u32> {
         let mut last = None;
         for step in steps {
@@ -317,7 +310,7 @@ impl Search<'_> {
 }
 
 impl Tails {
-    // The ends of the certificate's chains, as far as these have begun.
+    // The ends of the certificate's chains, as far as they have begun.
     fn of(alloc: Global, search: &Search, order: &[u32]) -> Result<Tails, Refusal> {
         let steps = search.task.plan.len() as usize;
         let mut tails = Tails {
@@ -350,7 +343,7 @@ impl Tails {
         Ok(tails)
     }
 
-    // Lets the copy end a chain of the group: a new one where it may have one more, else the one with fewest copies. That one's end is the answer.
+    // Appends the copy to a chain of the group: a new one if allowed, otherwise the shortest. Returns that chain's old end.
     fn follow(&mut self, group: usize, copy: u32, most: u32) -> Result<Option<u32>, Refusal> {
         let depths = self.depths.as_slice();
         let Some(list) = self.copies.get_mut(group) else {
@@ -366,12 +359,11 @@ impl Tails {
         Ok(Some(tail))
     }
 
-    // Whether the step is linked before the other.
     fn is_before(&self, step: u32, other: u32) -> bool {
         at(self.places.as_slice(), step as usize) < at(self.places.as_slice(), other as usize)
     }
 
-    // Counts the copies that come before the step's end, one after the other.
+    // Sets the length of the chain of copies that the step ends.
     fn sink(&mut self, needs: &Needs, step: u32, is_copy: bool) {
         let mut depth = 0u32;
         for other in needs.row(step) {
@@ -384,7 +376,6 @@ impl Tails {
     }
 }
 
-// The place of the copy with the least depth.
 fn shallowest(depths: &[u32], copies: &[u32]) -> usize {
     let mut best = 0usize;
     let mut least = u32::MAX;

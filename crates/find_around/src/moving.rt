@@ -17,25 +17,24 @@ pub(crate) struct Move {
     pub(crate) copy: Option<u32>,
     pub(crate) switch: Option<u32>,
     pub(crate) drop: Option<u32>,
-    /// The places of the slot's moves after this one and before it.
+    /// The places of the slot's next move and of its previous one.
     pub(crate) next: Option<usize>,
     pub(crate) before: Option<usize>,
 }
 
-/// The moves of a plan in the order of their mirrors.
+/// The moves of a plan, in the order of their mirrors.
 #[derive(Drop)]
 pub(crate) struct Moves {
     all: Vec<Move>,
-    // by the place of a slot, 1 and the places of its first move and of its last one; 0 for none
+    // by the place of a slot, 1 plus the places of its first and its last move; 0 for none
     firsts: Vec<u32>,
     lasts: Vec<u32>,
-    // by step, 1 and the place of its move
+    // by step, 1 plus the place of its move
     of_steps: Vec<u32>,
-    // the latest move by which the node left the slot; ordered, since plans choose how often a slot moves
+    // the node's last move from the slot; ordered, since plans choose how often a slot moves
     leaving: BTreeMap<(Slot, u32), usize>,
 }
 
-// The place that a number of 1 and it says.
 fn place(number: u32) -> Option<usize> {
     if number == 0 {
         return None;
@@ -43,7 +42,6 @@ fn place(number: u32) -> Option<usize> {
     Some(number.saturating_sub(1) as usize)
 }
 
-/// The owner of the slot before the first step.
 pub(crate) fn first_owner(ring: &Ring, slot: Slot) -> u32 {
     if let Some(row) = ring.rows().get(slot.partition as usize) {
         if let Some(node) = row.as_slice().get(slot.index as usize) {
@@ -53,8 +51,22 @@ pub(crate) fn first_owner(ring: &Ring, slot: Slot) -> u32 {
     0
 }
 
+// Returns a move that its mirror begins.
+fn begun_move(slot: Slot, source: u32, target: u32, mirror: u32, before: Option<usize>) -> Move {
+    Move {
+        slot,
+        source,
+        target,
+        mirror: Some(mirror),
+        copy: None,
+        switch: None,
+        drop: None,
+        next: None,
+        before,
+    }
+}
+
 impl Moves {
-    /// The moves of the plan. Costs one pass over it.
     pub(crate) fn of(alloc: Global, ring: &Ring, plan: &Plan) -> Result<Moves, Refusal> {
         let slots = (ring.q() as usize).saturating_mul(7);
         let mut moves = Moves {
@@ -70,7 +82,6 @@ impl Moves {
         Ok(moves)
     }
 
-    // A step more.
     fn act(&mut self, ring: &Ring, step: &Step, number: u32) -> Result<(), Refusal> {
         match step {
             Step::Mirror(slot, node) => self.begin(ring, *slot, node.0, number)?,
@@ -90,17 +101,8 @@ impl Moves {
             None => first_owner(ring, slot),
         };
         let here = self.all.len();
-        self.all.push(Move {
-            slot,
-            source,
-            target: node,
-            mirror: Some(number),
-            copy: None,
-            switch: None,
-            drop: None,
-            next: None,
-            before,
-        })?;
+        self.all
+            .push(begun_move(slot, source, node, number, before))?;
         match before {
             Some(before) => {
                 if let Some(last) = self.all.get_mut(before) {
@@ -122,7 +124,6 @@ impl Moves {
         Ok(())
     }
 
-    // The step is one of the move.
     fn note(&mut self, step: u32, place: usize) {
         set(
             self.of_steps.as_mut_slice(),
@@ -131,7 +132,6 @@ impl Moves {
         );
     }
 
-    // The slot's last move copies.
     fn copy(&mut self, slot: Slot, number: u32) {
         let Some(place) = self.last(slot) else {
             return;
@@ -142,7 +142,6 @@ impl Moves {
         self.note(number, place);
     }
 
-    // The slot's last move switches.
     fn switch(&mut self, slot: Slot, number: u32) -> Result<(), Refusal> {
         let Some(place) = self.last(slot) else {
             return Ok(());
@@ -156,7 +155,7 @@ impl Moves {
         Ok(())
     }
 
-    // The node drops what it has of the slot that it left.
+    // Notes the step as the drop of the move by which the node left the slot.
     fn drop_held(&mut self, slot: Slot, node: u32, number: u32) {
         let Some(place) = self.leaving.get(&(slot, node)) else {
             return;
@@ -168,32 +167,26 @@ impl Moves {
         self.note(number, place);
     }
 
-    /// How many there are.
     pub(crate) fn len(&self) -> usize {
         self.all.len()
     }
 
-    /// The move of that place, if there is one.
     pub(crate) fn at(&self, place: Option<usize>) -> Option<Move> {
         self.all.get(place?).copied()
     }
 
-    /// The place of the slot's first move.
     pub(crate) fn first(&self, slot: Slot) -> Option<usize> {
         place(at(self.firsts.as_slice(), place_of(slot)))
     }
 
-    /// The place of the slot's last move.
     pub(crate) fn last(&self, slot: Slot) -> Option<usize> {
         place(at(self.lasts.as_slice(), place_of(slot)))
     }
 
-    /// The place of the step's move.
     pub(crate) fn of_step(&self, step: u32) -> Option<usize> {
         place(at(self.of_steps.as_slice(), step as usize))
     }
 
-    /// Gives the move another source and another target.
     pub(crate) fn lead(&mut self, place: usize, source: u32, target: u32) {
         if let Some(it) = self.all.get_mut(place) {
             it.source = source;

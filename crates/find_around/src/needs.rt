@@ -1,13 +1,11 @@
-//! What steps wait for, by step.
+//! Dependencies, by step.
 
 use ring_names::Refusal;
 use std::alloc::Global;
 
-/// For each step a list of the steps that it waits for.
 #[derive(Drop)]
 pub(crate) struct Needs {
     lists: Vec<Vec<u32>>,
-    // how many there are together
     count: usize,
 }
 
@@ -15,7 +13,6 @@ pub(crate) struct Needs {
 const MOST: usize = 1_048_576;
 
 impl Needs {
-    /// No step waits for any.
     pub(crate) fn of(alloc: Global, steps: usize) -> Result<Needs, Refusal> {
         let mut lists = Vec::new(alloc);
         for step in 0..steps {
@@ -24,7 +21,7 @@ impl Needs {
         Ok(Needs { lists, count: 0 })
     }
 
-    /// The step waits for the other too. `NoPlan` where that is more than any plan says.
+    /// Adds a dependency. Fails with `NoPlan` if there are more than any plan may have.
     pub(crate) fn add(&mut self, step: u32, other: u32) -> Result<(), Refusal> {
         if self.count >= MOST {
             return Err(Refusal::NoPlan);
@@ -36,7 +33,7 @@ impl Needs {
         Ok(())
     }
 
-    /// What the step waits for, in the order in which it was said.
+    /// The step's dependencies, in the order in which they were added.
     pub(crate) fn row(&self, step: u32) -> &[u32] {
         match self.lists.get(step as usize) {
             Some(list) => list.as_slice(),

@@ -1,4 +1,4 @@
-//! Who owns a slot, by the steps that are left in the plan.
+//! Who owns a slot after the kept steps.
 
 use crate::around::Search;
 use crate::moving::{Move, first_owner};
@@ -7,17 +7,17 @@ use ring_names::Slot;
 /// The line after all steps.
 pub(crate) const END: u32 = u32::MAX;
 
-/// How a copy that lists a slot stands to the slot's switches.
+/// How a copy is ordered with the switches of a slot that it lists.
 #[derive(Clone, Copy, Debug, PartialEq, Eq)]
 pub(crate) enum Way {
-    /// As in the plan that was: after those before it, and before those after it.
+    /// As in the old plan.
     InLine,
-    /// Before all that are to come.
+    /// Before all switches that are to come.
     First,
 }
 
 impl Search<'_> {
-    /// The owner of the slot after the steps that are done, and after those before the line. Line 0 asks for the owner now.
+    /// The owner after the done steps and those before the line. Line 0 means now.
     pub(crate) fn owner_at(&self, slot: Slot, line: u32) -> u32 {
         let mut owner = first_owner(self.task.ring, slot);
         let mut next = self.moves.first(slot);
@@ -35,7 +35,7 @@ impl Search<'_> {
         owner
     }
 
-    /// The place of the slot's last move whose switch is left.
+    /// The place of the slot's last move whose switch is kept.
     pub(crate) fn last_left(&self, slot: Slot) -> Option<usize> {
         let mut next = self.moves.last(slot);
         for turn in 0..self.moves.len() {
@@ -48,7 +48,6 @@ impl Search<'_> {
         None
     }
 
-    /// The owner of the slot after all steps.
     pub(crate) fn last_owner(&self, slot: Slot) -> u32 {
         match self.moves.at(self.last_left(slot)) {
             Some(it) => it.target,
@@ -56,7 +55,6 @@ impl Search<'_> {
         }
     }
 
-    // Whether a dead node keeps a hint for the slot.
     fn has_dead_hint(&self, slot: Slot) -> bool {
         for hint in self.hints.of_partition(slot.partition) {
             if hint.0.index == slot.index && self.is_dead(hint.1) {
@@ -66,7 +64,7 @@ impl Search<'_> {
         false
     }
 
-    /// How a copy on that line can read the slot, and the owner from whom; none where it cannot.
+    /// How a copy on the line can read the slot, and from which owner.
     pub(crate) fn readable(&self, slot: Slot, line: u32) -> Option<(Way, u32)> {
         if self.has_dead_hint(slot) {
             return None;
@@ -82,7 +80,7 @@ impl Search<'_> {
         None
     }
 
-    /// How many switches of the slot are to come.
+    /// How many kept switches of the slot are to come.
     pub(crate) fn switches_left(&self, slot: Slot) -> u32 {
         let mut count = 0u32;
         let mut next = self.moves.last(slot);
@@ -101,7 +99,7 @@ impl Search<'_> {
         count
     }
 
-    /// Whether the slot cannot be mirrored to the node, which keeps a hint for another slot of its partition whose owner is dead.
+    /// Whether the node cannot mirror the slot: it keeps a hint for another slot of the partition whose owner is dead.
     pub(crate) fn is_barred(&self, slot: Slot, node: u32) -> bool {
         for hint in self.hints.of_partition(slot.partition) {
             if hint.1 == node && hint.0 != slot && self.is_dead(self.owner_at(hint.0, 0)) {
@@ -111,7 +109,6 @@ impl Search<'_> {
         false
     }
 
-    /// Whether the move has a switch, and its copy is done, or open with all its chunks.
     pub(crate) fn is_filled(&self, it: &Move) -> bool {
         let (Some(copy), Some(_)) = (it.copy, it.switch) else {
             return false;

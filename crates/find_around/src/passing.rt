@@ -1,4 +1,4 @@
-//! Copies that go before a switch that they were after, since the switch leads to a node that is dead.
+//! Copies that now precede a switch that they used to follow, since that leads to a dead node.
 
 use crate::around::Search;
 use crate::moving::Move;
@@ -7,7 +7,7 @@ use helpers::is_set;
 use ring_names::{Refusal, Slot};
 
 impl Search<'_> {
-    /// By step, whether it comes after a switch before which the step goes now: the step is a copy that reads a slot before that switch, or the mirror of such a copy.
+    /// By step, whether it follows a switch that this copy, or the mirror of this copy, now precedes.
     pub(crate) fn passed_by(&self, step: u32) -> Result<Vec<bool>, Refusal> {
         let mut passed = Vec::new(self.task.alloc);
         let Some(it) = self.moves.at(self.moves.of_step(step)) else {
@@ -28,7 +28,6 @@ impl Search<'_> {
         Ok(passed)
     }
 
-    // Whether the step waits for one that is marked.
     fn is_after_passed(&self, passed: &[bool], step: u32) -> bool {
         step < self.task.plan.len()
             && self
@@ -39,7 +38,7 @@ impl Search<'_> {
                 .any(|other| is_set(passed, *other))
     }
 
-    // The switches that the move's copy was after, and before which it reads their slots now, ascending.
+    // The switches that the copy used to follow and now precedes, ascending.
     fn switches_after(&self, it: &Move) -> Result<Vec<u32>, Refusal> {
         let mut switches = Vec::new(self.task.alloc);
         let Some(copy) = it.copy else {
@@ -58,7 +57,7 @@ impl Search<'_> {
         Ok(switches)
     }
 
-    // Adds the slot's switches to come that are before the copy in the old plan.
+    // Adds the slot's remaining switches that precede the copy in the old plan.
     fn push_switches(&self, switches: &mut Vec<u32>, slot: Slot, copy: u32) -> Result<(), Refusal> {
         let mut next = self.moves.first(slot);
         for turn in 0..self.moves.len() {

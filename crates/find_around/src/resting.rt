@@ -9,7 +9,7 @@ use ring_names::{NodeId, Refusal, Slot};
 use ringplan_job::Extent;
 
 impl Search<'_> {
-    /// Leaves out all moves that have not begun, in partitions in which no more begin.
+    /// Leaves out the moves that have not begun in resting partitions.
     pub(crate) fn rest(&mut self) -> Result<(), Refusal> {
         self.mark_resting();
         if self.task.extent == Extent::Begun {
@@ -25,12 +25,10 @@ impl Search<'_> {
         self.make_way()
     }
 
-    /// Whether no more moves begin in the partition.
     pub(crate) fn is_resting(&self, partition: u32) -> bool {
         is_set(self.resting.as_slice(), partition)
     }
 
-    // Marks the partitions in which no more moves begin.
     fn mark_resting(&mut self) {
         if self.task.extent == Extent::Begun {
             for partition in 0..self.task.ring.q() {
@@ -41,12 +39,11 @@ impl Search<'_> {
         }
     }
 
-    // Marks the partition as one in which no more moves begin.
     fn touch(&mut self, partition: u32) {
         put(self.resting.as_mut_slice(), partition, true);
     }
 
-    // Marks the partitions in which a slot is left, or a dead node owns a slot, mirrors one, is to own one or keeps a hint.
+    // Marks the partitions with a slot that stays, or in which a dead node owns, mirrors, is to own or keeps a hint.
     fn mark_touched(&mut self) {
         for slot in self.task.left {
             self.touch(slot.partition);
@@ -56,7 +53,6 @@ impl Search<'_> {
         self.touch_owned();
     }
 
-    // Marks the partitions in which a slot is to go from a dead node, or to one.
     fn touch_moved(&mut self) {
         for place in 0..self.moves.len() {
             if let Some(it) = self.moves.at(Some(place)) {
@@ -68,7 +64,6 @@ impl Search<'_> {
         }
     }
 
-    // Marks the partitions for whose slots a dead node keeps hints.
     fn touch_hinted(&mut self) {
         for place in 0..self.hints.all().len() {
             if let Some((slot, node)) = self.hints.all().get(place).copied() {
@@ -79,7 +74,6 @@ impl Search<'_> {
         }
     }
 
-    // Marks the partitions of which a dead node owns a slot.
     fn touch_owned(&mut self) {
         for partition in 0..self.task.ring.q() {
             for index in 0..self.task.ring.n() {
@@ -90,7 +84,7 @@ impl Search<'_> {
         }
     }
 
-    // No node joins any more, and none retires that was to join.
+    // Leaves out the remaining joins, and the retirements of these nodes.
     fn leave_joins(&mut self) {
         let plan = self.task.plan;
         for node in 0..small(self.task.ring.nodes().len()) {
@@ -103,7 +97,7 @@ impl Search<'_> {
         }
     }
 
-    // Whether the move's mirror is set, and the move is to be ended. With `--back` a mirror to which nothing was copied is taken back.
+    // Whether the move has begun and is to be finished. With `--back`, a mirror without any copied chunk is undone instead.
     fn is_to_end(&self, it: &Move) -> bool {
         let has_chunks = match it.copy {
             Some(copy) => self.is_done(copy) || self.progress.chunks(copy) > 0,
@@ -113,7 +107,6 @@ impl Search<'_> {
         self.has_done(it.mirror) && (has_chunks || is_kept)
     }
 
-    // Leaves out the slot's moves that have not begun.
     fn rest_slot(&mut self, slot: Slot) -> Result<(), Refusal> {
         let mut next = self.moves.first(slot);
         for turn in 0..self.moves.len() {
@@ -131,7 +124,7 @@ impl Search<'_> {
         Ok(())
     }
 
-    // Leaves out the slot's moves from that one on.
+    // Leaves out this move of the slot and all later ones.
     fn rest_from(&mut self, from: Option<usize>, it: &Move) -> Result<(), Refusal> {
         if self.has_done(it.mirror) {
             self.take_back(it)?;
@@ -140,7 +133,7 @@ impl Search<'_> {
         self.note_outcome(it.slot, Outcome::NotBegun)
     }
 
-    /// Leaves out all moves but those whose copies are done, or have all chunks.
+    /// Leaves out all moves except those whose copies are done or have all chunks.
     pub(crate) fn keep_full(&mut self) -> Result<(), Refusal> {
         self.leave_joins();
         for place in 0..self.moves.len() {
@@ -153,7 +146,6 @@ impl Search<'_> {
         Ok(())
     }
 
-    // Leaves out what is to come of the move, unless its copy is done or has all chunks.
     fn keep_if_full(&mut self, place: usize, it: &Move) -> Result<(), Refusal> {
         let is_full = self.is_filled(it);
         if is_full || self.has_done(it.switch) {

@@ -6,7 +6,7 @@ use helpers::small;
 use ring_names::{NodeId, Refusal, Slot};
 
 impl Search<'_> {
-    /// The dead neither join nor retire.
+    /// Leaves out joins and retirements of dead nodes.
     pub(crate) fn part_from_dead(&mut self) {
         let plan = self.task.plan;
         for node in self.task.dead {
@@ -26,7 +26,7 @@ impl Search<'_> {
         }
     }
 
-    /// Nodes that still hold a slot, or a hint for a slot whose owner is dead, do not retire.
+    /// Leaves out retirements of nodes that still hold a slot, or a hint whose slot's owner is dead.
     pub(crate) fn keep_holders(&mut self) -> Result<(), Refusal> {
         let mut held = vec![in self.task.alloc; None; self.task.ring.nodes().len()]?;
         self.find_held(held.as_mut_slice());
@@ -51,7 +51,7 @@ impl Search<'_> {
         Ok(())
     }
 
-    // By node a slot for which it keeps a hint, and whose last owner is dead.
+    // By node, a slot with a dead owner for which it keeps a hint.
     fn find_kept(&self, kept: &mut [Option<Slot>]) {
         for hint in self.hints.all() {
             if self.is_dead(self.last_owner(hint.0)) {
@@ -62,7 +62,7 @@ impl Search<'_> {
         }
     }
 
-    // By node a slot that it serves in the end, or of which it does not drop what it has.
+    // By node, a slot that it serves in the end or does not drop.
     fn find_held(&self, held: &mut [Option<Slot>]) {
         for partition in 0..self.task.ring.q() {
             for index in 0..self.task.ring.n() {
@@ -71,7 +71,7 @@ impl Search<'_> {
         }
     }
 
-    // Likewise of one slot. A node that dropped it by its last move holds it no more.
+    // The same for one slot. The drop of a node's last move ends its hold.
     fn find_held_of(&self, held: &mut [Option<Slot>], slot: Slot) {
         hold(held, first_owner(self.task.ring, slot), slot);
         let mut next = self.moves.first(slot);
@@ -90,7 +90,6 @@ impl Search<'_> {
     }
 }
 
-// The node holds the slot; only the first is noted.
 fn hold(held: &mut [Option<Slot>], node: u32, slot: Slot) {
     if let Some(old) = held.get_mut(node as usize) {
         if old.is_none() {
@@ -99,7 +98,6 @@ fn hold(held: &mut [Option<Slot>], node: u32, slot: Slot) {
     }
 }
 
-// The node holds the slot no more.
 fn release(held: &mut [Option<Slot>], node: u32, slot: Slot) {
     if let Some(old) = held.get_mut(node as usize) {
         if *old == Some(slot) {

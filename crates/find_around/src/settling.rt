@@ -7,18 +7,15 @@ use helpers::{is_set, put};
 use plan_runs::Back;
 use ring_names::{NodeId, Refusal, Slot};
 
-// What becomes of a move, as far as the next move of its slot needs to know.
+// What becomes of a move, as far as the slot's next move needs to know.
 #[derive(Clone, Copy, Debug)]
 enum Fate {
-    // The slot goes to the target.
     Goes,
-    // The slot stays at its owner.
     Stays,
-    // The slot stays mirrored, and no later move of it is done.
+    // The slot stays mirrored, and none of its later moves is done.
     Stuck,
 }
 
-/// Decides what becomes of all moves, and of joins and retirements.
 pub(crate) fn settle(search: &mut Search) -> Result<(), Refusal> {
     search.leave_named()?;
     search.rest()?;
@@ -36,7 +33,6 @@ pub(crate) fn settle(search: &mut Search) -> Result<(), Refusal> {
 }
 
 impl Search<'_> {
-    // Counts the slots that each node owns in the end.
     fn count_owned(&mut self) {
         for partition in 0..self.task.ring.q() {
             for index in 0..self.task.ring.n() {
@@ -46,7 +42,6 @@ impl Search<'_> {
         }
     }
 
-    // Decides what becomes of the moves of all slots.
     fn settle_slots(&mut self) -> Result<(), Refusal> {
         self.count_owned();
         for partition in 0..self.task.ring.q() {
@@ -58,7 +53,6 @@ impl Search<'_> {
         self.keep_apart()
     }
 
-    // Decides what becomes of the slot's moves.
     fn settle_slot(&mut self, slot: Slot) -> Result<(), Refusal> {
         let Some(first) = self.moves.first(slot) else {
             return Ok(());
@@ -91,7 +85,6 @@ impl Search<'_> {
         Ok(())
     }
 
-    // The target of the move of that place, or that node if there is no such move.
     fn target_of(&self, place: usize, node: u32) -> u32 {
         match self.moves.at(Some(place)) {
             Some(it) => it.target,
@@ -99,7 +92,7 @@ impl Search<'_> {
         }
     }
 
-    // Decides what becomes of a move of a slot that this node owns then.
+    // Decides what becomes of one move, given the slot's owner by then.
     fn settle_move(&mut self, place: usize, it: Move, owner: u32) -> Result<Fate, Refusal> {
         self.moves.lead(place, owner, it.target);
         if owner != it.source && !self.has_done(it.drop) {
@@ -126,7 +119,7 @@ impl Search<'_> {
         Ok(Fate::Goes)
     }
 
-    // Decides what becomes of a move whose mirror is dead: it is taken back if that is allowed, and begins again with another target unless no more moves begin.
+    // Undoes a dead mirror if allowed, and retargets the move unless the partition rests.
     fn settle_dead(&mut self, place: usize, it: &Move, owner: u32) -> Result<Fate, Refusal> {
         if self.task.back == Back::Never || self.has_done(it.copy) {
             self.stick(it)?;
@@ -148,7 +141,7 @@ impl Search<'_> {
         Ok(Fate::Stays)
     }
 
-    // Gives a move that has not begun another target where it needs one. Answers whether it is left.
+    // Retargets a move that has not begun, if needed. Returns whether it is kept.
     fn retarget(&mut self, place: usize, it: &Move, owner: u32) -> Result<bool, Refusal> {
         if it.target == owner {
             self.leave_out(it);
@@ -172,7 +165,7 @@ impl Search<'_> {
         Ok(true)
     }
 
-    /// The move of a slot that this node owns then goes to the other node in place of its target.
+    /// Sends the move to `other`, from the slot's owner by then.
     pub(crate) fn redirect(
         &mut self,
         place: usize,
@@ -194,7 +187,7 @@ impl Search<'_> {
         Ok(())
     }
 
-    /// The slot stays mirrored for good, and both nodes stay with it.
+    /// Keeps the slot mirrored for good: both nodes stay.
     pub(crate) fn stick(&mut self, it: &Move) -> Result<(), Refusal> {
         if !self.has_done(it.copy) {
             self.remove(it.copy);
@@ -205,7 +198,6 @@ impl Search<'_> {
         self.leave_out_from(it.next)
     }
 
-    // Gives copies other sources, in the plan's order.
     fn settle_copies(&mut self) -> Result<(), Refusal> {
         self.awaited = self.find_awaited()?;
         for copy in 0..self.task.plan.len() {
@@ -219,7 +211,6 @@ impl Search<'_> {
         Ok(())
     }
 
-    // Gives the move's copy other sources if it needs some.
     fn settle_copy(&mut self, place: usize, it: &Move, copy: u32) -> Result<(), Refusal> {
         if self.is_done(copy) || self.is_filled(it) || !self.reads_dead(it) {
             return Ok(());
@@ -232,12 +223,10 @@ impl Search<'_> {
         self.make_way()
     }
 
-    // Whether the move's mirror has puts that the slot's owner does not have.
     fn is_ahead(&self, it: &Move) -> bool {
         self.has_done(it.mirror) && self.ahead.contains(&it.slot)
     }
 
-    // By step, whether it is a mirror for which a step of another move waits that has begun.
     fn find_awaited(&self) -> Result<Vec<bool>, Refusal> {
         let plan = self.task.plan;
         let mut awaited = vec![in self.task.alloc; false; plan.len() as usize]?;
@@ -253,7 +242,6 @@ impl Search<'_> {
         Ok(awaited)
     }
 
-    // Whether a step of another move waits for the move's mirror, and has begun.
     fn is_awaited(&self, it: &Move) -> bool {
         match it.mirror {
             Some(mirror) => is_set(self.awaited.as_slice(), mirror),
@@ -261,7 +249,7 @@ impl Search<'_> {
         }
     }
 
-    // The move's copy reads other slots than before, and its mirror has puts that the slot's owner does not have.
+    // Restarts a move whose copy gets new sources while its mirror is ahead of the owner.
     fn begin_again(&mut self, it: &Move, place: usize) -> Result<(), Refusal> {
         if self.task.back == Back::Never || self.is_awaited(it) {
             self.stick(it)?;
@@ -275,7 +263,7 @@ impl Search<'_> {
         self.note_outcome(it.slot, Outcome::Again(it.target))
     }
 
-    // Too few slots can be read for the move's copy.
+    // Handles a move whose copy has too few readable sources.
     fn leave_unread(&mut self, it: &Move, place: usize) -> Result<(), Refusal> {
         if self.has_done(it.mirror) && self.task.back == Back::Allowed {
             self.take_back(it)?;

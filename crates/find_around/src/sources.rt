@@ -1,4 +1,4 @@
-//! Other sources for a copy: slots that can be read, in place of a dead owner.
+//! Other sources for a copy: readable slots instead of a dead owner.
 
 use crate::around::Search;
 use crate::moving::Move;
@@ -8,18 +8,18 @@ use plan_text::{Source, Step};
 use ring_names::{Refusal, Slot};
 use ring_table::Allowance;
 
-/// What a copy lists: by index up to 7 slots, and how it stands to the switches of each.
+/// The slots that a copy lists, by index.
 #[derive(Clone, Copy, Debug)]
 pub(crate) struct Listing {
     pub(crate) ways: [Option<Way>; 7],
 }
 
-// A slot that can be listed; those to be taken first come first.
+// A slot that can be listed. The order is that of preference.
 #[derive(Clone, Copy, Debug, PartialEq, Eq, PartialOrd, Ord)]
 struct Candidate {
     // how many of its switches are to come
     switches: u32,
-    // how many copies read from its owner already, in parts of what the owner can give at once
+    // how many copies read from its owner already, scaled by what the owner may give at once
     load: u64,
     index: u32,
     owner: u32,
@@ -27,7 +27,6 @@ struct Candidate {
 }
 
 impl Search<'_> {
-    // How many copies read from the node, in parts of what it can give at once.
     fn load_of(&self, node: u32) -> u64 {
         let gives = match self.task.ring.nodes().get(node as usize) {
             Some(declared) => match declared.allowance {
@@ -43,7 +42,7 @@ impl Search<'_> {
         }
     }
 
-    // The slot as a source of the move's copy, if it can be read. Before a switch that the copy was after, its target must not be the slot's owner.
+    // The slot as a source, if readable. A copy cannot read its own target.
     fn candidate(&self, it: &Move, slot: Slot, copy: u32) -> Option<Candidate> {
         let (way, owner) = self.readable(slot, copy)?;
         if owner == it.target {
@@ -58,7 +57,7 @@ impl Search<'_> {
         })
     }
 
-    // The slots of the move's partition that its copy may list, the best first.
+    // The slots of the partition that the copy may list, the best first.
     fn candidates(&self, it: &Move, copy: u32) -> Result<Vec<Candidate>, Refusal> {
         let mut found = Vec::new(self.task.alloc);
         let partition = it.slot.partition;
@@ -73,7 +72,7 @@ impl Search<'_> {
         Ok(found)
     }
 
-    // Puts the copy and the switches of a slot that it lists in order.
+    // Orders the copy and the switches of a slot that it lists.
     fn order(&mut self, slot: Slot, copy: u32, way: Way) -> Result<(), Refusal> {
         let mut next = self.moves.first(slot);
         for turn in 0..self.moves.len() {
@@ -93,7 +92,6 @@ impl Search<'_> {
         Ok(())
     }
 
-    // The copy lists the slot.
     fn list(
         &mut self,
         listing: &mut Listing,
@@ -115,7 +113,7 @@ impl Search<'_> {
         Ok(())
     }
 
-    /// Gives the copy R other slots to read. Answers whether there are as many.
+    /// Gives the copy R other slots to read. Returns whether R were found.
     pub(crate) fn relist(&mut self, it: &Move, copy: u32) -> Result<bool, Refusal> {
         let found = self.candidates(it, copy)?;
         let reads = self.task.ring.r() as usize;
@@ -132,7 +130,7 @@ impl Search<'_> {
         Ok(true)
     }
 
-    /// Whether the move's copy reads a slot that cannot be read: its own, if it reads the owner, or one that it lists.
+    /// Whether the copy reads a slot that cannot be read.
     pub(crate) fn reads_dead(&self, it: &Move) -> bool {
         let Some(copy) = it.copy else {
             return false;
@@ -153,7 +151,7 @@ impl Search<'_> {
         false
     }
 
-    // Whether the owner of the slot on the copy's line is dead, or a dead node keeps a hint for it.
+    // Whether the slot's owner at the copy's line is dead, or a dead node keeps a hint for it.
     fn is_unreadable(&self, slot: Slot, copy: u32) -> bool {
         match self.readable(slot, copy) {
             Some((Way::InLine, _)) => false,

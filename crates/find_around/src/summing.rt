@@ -1,4 +1,4 @@
-//! What is said of slots, summed by node.
+//! The report on slots, summed by node.
 
 use crate::around::Search;
 use crate::told::Outcome;
@@ -8,10 +8,10 @@ use ring_names::{Refusal, Slot};
 // The most nodes that a sum names.
 const MOST: usize = 16;
 
-// What slots have in common, in the order in which it is said.
+// The kinds of fates, in the order of the report.
 const KINDS: u32 = 16;
 
-// A sum in words: of one slot, of several, what stands before other nodes, and what stands at the end.
+// The words of a sum: for one slot, for several, before other nodes, and at the end.
 #[derive(Clone, Copy)]
 struct Phrase {
     one: &'static [u8],
@@ -20,7 +20,7 @@ struct Phrase {
     end: &'static [u8],
 }
 
-// How many slots there are of a kind, and how many of them at each node.
+// How many slots are of a kind, and how many of these at each node.
 #[derive(Drop)]
 struct Sum {
     count: u32,
@@ -28,7 +28,7 @@ struct Sum {
     others: Vec<u32>,
 }
 
-// A kind of slots, the node at which a slot of it is, and another node that has to do with it.
+// A slot's kind, its node, and another node that is concerned.
 #[derive(Clone, Copy)]
 struct Part {
     kind: u32,
@@ -36,7 +36,6 @@ struct Part {
     other: Option<u32>,
 }
 
-// A part without another node.
 fn lone_part(kind: u32, node: u32) -> Part {
     Part {
         kind,
@@ -45,7 +44,6 @@ fn lone_part(kind: u32, node: u32) -> Part {
     }
 }
 
-// What is said of slots that go somewhere.
 fn phrase_to(link: &'static [u8], end: &'static [u8]) -> Phrase {
     Phrase {
         one: b"1 slot goes to ",
@@ -55,7 +53,6 @@ fn phrase_to(link: &'static [u8], end: &'static [u8]) -> Phrase {
     }
 }
 
-// What is said of slots that stay somewhere.
 fn phrase_at(link: &'static [u8], end: &'static [u8]) -> Phrase {
     Phrase {
         one: b"1 slot stays at ",
@@ -65,7 +62,6 @@ fn phrase_at(link: &'static [u8], end: &'static [u8]) -> Phrase {
     }
 }
 
-// What is said of slots that stay mirrored.
 fn phrase_mirrored(end: &'static [u8]) -> Phrase {
     Phrase {
         one: b"1 slot stays mirrored to ",
@@ -75,7 +71,6 @@ fn phrase_mirrored(end: &'static [u8]) -> Phrase {
     }
 }
 
-// What is said of the slots of a kind.
 fn words_of(kind: u32) -> Phrase {
     match kind {
         0 => Phrase {
@@ -110,7 +105,6 @@ fn words_of(kind: u32) -> Phrase {
     }
 }
 
-// What is said of slots of a kind that stay mirrored, or are mirrored again.
 fn phrase_of_mirrored(kind: u32) -> Phrase {
     match kind {
         9 => phrase_mirrored(b", which is dead; --back takes such mirrors back"),
@@ -131,7 +125,6 @@ fn phrase_of_mirrored(kind: u32) -> Phrase {
 }
 
 impl Search<'_> {
-    // The kind to which the slot belongs by what becomes of it.
     fn part_of(&self, slot: Slot, outcome: Outcome) -> Part {
         let owner = self.last_owner(slot);
         match outcome {
@@ -169,7 +162,7 @@ impl Search<'_> {
         }
     }
 
-    // What is said of the slot, at most two parts: of its mirror that is taken back, and of what becomes of it.
+    // The parts of a slot's report: its undone mirror, and its outcome.
     fn parts_of(&self, slot: Slot) -> [Option<Part>; 2] {
         let saying = self.last_saying(slot);
         let taken = match saying.taken {
@@ -183,7 +176,6 @@ impl Search<'_> {
         [taken, fate]
     }
 
-    // The parts of all slots.
     fn all_parts(&self) -> Result<Vec<Part>, Refusal> {
         let mut parts = Vec::new(self.task.alloc);
         for partition in 0..self.task.ring.q() {
@@ -198,7 +190,6 @@ impl Search<'_> {
         Ok(parts)
     }
 
-    // The sum of the parts of that kind.
     fn sum(&self, parts: &[Part], kind: u32) -> Result<Sum, Refusal> {
         let nodes = self.task.ring.nodes().len();
         let mut sum = Sum {
@@ -218,7 +209,7 @@ impl Search<'_> {
         Ok(sum)
     }
 
-    /// Says how many slots have something in common, and at which nodes they are.
+    /// Reports how many slots have each fate, and at which nodes.
     pub(crate) fn say_sums(&mut self) -> Result<(), Refusal> {
         let parts = self.all_parts()?;
         for kind in 0..KINDS {
@@ -230,7 +221,6 @@ impl Search<'_> {
         Ok(())
     }
 
-    // Says one sum in a line.
     fn say_sum(&mut self, phrase: Phrase, sum: &Sum) -> Result<(), Refusal> {
         if sum.count == 1 {
             self.words.text(phrase.one);
@@ -247,7 +237,7 @@ impl Search<'_> {
         Ok(())
     }
 
-    // Says the nodes with their counts, the greatest first.
+    // Writes the nodes with their counts, the greatest first.
     fn say_counts(&mut self, counts: &[u32]) -> Result<(), Refusal> {
         let mut order = Vec::new(self.task.alloc);
         for node in 0..counts.len() {

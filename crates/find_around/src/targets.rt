@@ -6,7 +6,7 @@ use helpers::{at, place_of, raise, set, small};
 use ring_names::{NodeId, Slot};
 
 impl Search<'_> {
-    // Marks the nodes that serve a slot of the partition at any time. Costs a look at each of its moves, once.
+    // Marks the nodes that serve a slot of the partition at any time. Looks at each of its moves once.
     fn mark_busy(&mut self, partition: u32) {
         let stamp = partition.saturating_add(1);
         if self.looked_at == stamp {
@@ -28,7 +28,6 @@ impl Search<'_> {
         }
     }
 
-    // Marks the nodes that keep hints for other slots of the partition.
     fn mark_keeping(&mut self, slot: Slot) {
         let stamp = small(place_of(slot)).saturating_add(1);
         for hint in self.hints.of_partition(slot.partition) {
@@ -38,7 +37,7 @@ impl Search<'_> {
         }
     }
 
-    // Whether the node may take the slot: it lives, is a member or joins, does not retire, is not busy in the partition, and keeps no hint for another slot there.
+    // Whether the node may take the slot: a live member that stays, not busy in the partition, without other hints.
     fn may_take(&self, slot: Slot, node: u32) -> bool {
         let plan = self.task.plan;
         let id = NodeId(node);
@@ -50,7 +49,7 @@ impl Search<'_> {
             && at(self.keeping.as_slice(), node as usize) != small(place_of(slot)).saturating_add(1)
     }
 
-    /// How many of the partition's other slots are in the node's rack in the end.
+    /// How many of these owners share the node's rack.
     pub(crate) fn count_kin(&self, node: u32, owners: &[u32]) -> u32 {
         let Some(racks) = self.task.racks else {
             return 0;
@@ -64,7 +63,7 @@ impl Search<'_> {
         count
     }
 
-    /// The owners of the partition's other slots in the end.
+    /// The final owners of the partition's other slots.
     pub(crate) fn others(&self, it: &Move) -> [u32; 7] {
         let mut owners = [u32::MAX; 7];
         let partition = it.slot.partition;
@@ -77,7 +76,8 @@ impl Search<'_> {
         owners
     }
 
-    /// Another target for the move, with fewest of the partition's slots in its rack, then with fewest slots. None also if the owner may stay, with as few there.
+    /// The best other target: fewest of the partition's slots in the rack, then fewest slots. None if the owner may
+    /// stay and is as good.
     pub(crate) fn other_target(&mut self, it: &Move, owner: u32) -> Option<u32> {
         let owners = self.others(it);
         let mut best = None;
@@ -107,12 +107,10 @@ impl Search<'_> {
         best
     }
 
-    /// The node owns one slot more in the end.
     pub(crate) fn own(&mut self, node: u32) {
         raise(self.owned.as_mut_slice(), node as usize);
     }
 
-    /// Whether the node is to leave: it retires in the plan that was, or it is dead.
     pub(crate) fn leaves(&self, node: u32) -> bool {
         self.is_dead(node) || self.task.plan.retirement_of(NodeId(node)).is_some()
     }

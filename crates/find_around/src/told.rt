@@ -1,45 +1,45 @@
-//! What is said of slots and nodes.
+//! The report on slots and nodes.
 
 use crate::around::{Reach, Search};
 use ring_names::{Refusal, Slot};
 use ringplan_job::Shape;
 
-/// What becomes of a slot, if that is not what the plan said.
+/// What becomes of a slot, if not what was planned.
 #[derive(Clone, Copy, Debug, PartialEq, Eq)]
 pub(crate) enum Outcome {
-    /// It goes to the first node in place of the second.
+    /// Goes to the first node instead of the second.
     Elsewhere(u32, u32),
-    /// It goes to a dead node, which has all of it.
+    /// Goes to a dead node, which has all of it.
     Filled(u32),
-    /// It goes to the node though it is named to stay: the node has all of it.
+    /// Goes to the node though it was to stay: the node has all of it.
     Ended(u32),
-    /// It stays at its owner, as it is named to.
+    /// Stays with its owner, as asked.
     Left,
-    /// It stays at its owner, since no more moves begin.
+    /// Stays with its owner, since no more moves begin.
     NotBegun,
-    /// It stays at its owner, since the node cannot take it.
+    /// Stays with its owner, since the node cannot take it.
     Untaken(u32),
-    /// It stays at its owner, since the node keeps another slot of the partition.
+    /// Stays with its owner, since the node keeps another slot of the partition.
     Crowded(u32),
-    /// It stays at its owner, since another slot of the partition ends in the node's rack.
+    /// Stays with its owner, since another slot of the partition ends in the node's rack.
     Close(u32),
-    /// It stays at its owner, since too few slots can be read.
+    /// Stays with its owner, since too few slots can be read.
     Unread,
-    /// It stays mirrored to the dead node.
+    /// Stays mirrored to the dead node.
     MirroredToDead(u32),
-    /// It stays mirrored to the node, since too few slots can be read.
+    /// Stays mirrored to the node, since too few slots can be read.
     MirroredUnread(u32),
-    /// It stays mirrored to the node, which has puts that the slot's owner does not have.
+    /// Stays mirrored to the node, which holds puts that the owner lacks.
     MirroredAhead(u32),
-    /// It stays mirrored to the node, since the plan only ends moves whose copies have all chunks.
+    /// Stays mirrored to the node, since only moves with all chunks are finished.
     MirroredStill(u32),
-    /// Its mirror at the node is set again.
+    /// Is mirrored to the node again.
     Again(u32),
-    /// It stays at its owner, which is dead.
+    /// Stays with its owner, which is dead.
     AtDead(u32),
 }
 
-/// What is to be said of a slot: the mirror that is taken back, and the last word on where the slot goes.
+/// The report on a slot: the mirror that is undone, and its latest outcome.
 #[derive(Clone, Copy, Debug)]
 pub(crate) struct Saying {
     pub(crate) taken: Option<u32>,
@@ -52,25 +52,21 @@ const NOTHING: Saying = Saying {
 };
 
 impl Search<'_> {
-    /// Says this of the node.
     pub(crate) fn say_of_node(&mut self, words: &[u8], node: u32) {
         let ring = self.task.ring;
         self.words.fill(words, &[ring.name(node)], &[]);
     }
 
-    /// Says this of the node and the slot.
     pub(crate) fn say_of_slot(&mut self, words: &[u8], node: u32, slot: Slot) {
         let ring = self.task.ring;
         self.words
             .fill(words, &[ring.name(node)], &[slot.partition, slot.index]);
     }
 
-    /// What is to be said of the slot so far.
     pub(crate) fn saying_of(&self, slot: Slot) -> Saying {
         self.sayings.get(&slot).copied().unwrap_or(NOTHING)
     }
 
-    /// Notes what becomes of the slot, in place of what was noted before.
     pub(crate) fn note_outcome(&mut self, slot: Slot, outcome: Outcome) -> Result<(), Refusal> {
         let taken = self.saying_of(slot).taken;
         let outcome = Some(outcome);
@@ -78,7 +74,7 @@ impl Search<'_> {
         Ok(())
     }
 
-    /// Notes that a move of the slot is done as the plan says: an earlier move of it may still go elsewhere, but the slot stays nowhere.
+    /// Notes that a move of the slot is done as planned, maybe after one that went elsewhere.
     pub(crate) fn note_planned(&mut self, slot: Slot) -> Result<(), Refusal> {
         let Saying { taken, outcome } = self.saying_of(slot);
         if let Some(Outcome::Filled(_) | Outcome::Untaken(_)) = outcome {
@@ -88,7 +84,6 @@ impl Search<'_> {
         Ok(())
     }
 
-    /// Notes that the slot's mirror at the node is taken back.
     pub(crate) fn note_taken(&mut self, slot: Slot, node: u32) -> Result<(), Refusal> {
         let outcome = self.saying_of(slot).outcome;
         let taken = Some(node);
@@ -96,14 +91,12 @@ impl Search<'_> {
         Ok(())
     }
 
-    // Says one of two nodes, or both, by the words.
     fn say_of_nodes(&mut self, words: &[u8], node: u32, other: u32) {
         let ring = self.task.ring;
         self.words
             .fill(words, &[ring.name(node), ring.name(other)], &[]);
     }
 
-    // Says what becomes of a slot, after its name.
     fn say_outcome(&mut self, slot: Slot, outcome: Outcome) {
         let owner = self.last_owner(slot);
         match outcome {
@@ -142,7 +135,6 @@ impl Search<'_> {
         }
     }
 
-    // Says of a slot that it stays mirrored, or is mirrored again.
     fn say_mirrored(&mut self, outcome: Outcome) {
         match outcome {
             Outcome::MirroredToDead(node) => {
@@ -168,13 +160,12 @@ impl Search<'_> {
         }
     }
 
-    // Says in one line what was noted of the slot.
     fn say_line(&mut self, slot: Slot, saying: Saying) {
         self.words
             .fill(b"slot #.# ", &[], &[slot.partition, slot.index]);
         if let Some(node) = saying.taken {
             self.say_of_node(
-                b"is mirrored to @ no longer: from now on its writes go only to its owner, and its tickets of puts that are not acknowledged are void",
+                b"is mirrored to @ no longer: writes go only to the owner, and tickets of puts that are not acknowledged are void",
                 node,
             );
             if saying.outcome.is_some() {
@@ -187,7 +178,7 @@ impl Search<'_> {
         self.words.byte(b'\n');
     }
 
-    /// Says what was noted of slots: sums by node, and if that is asked for a line each, in their order.
+    /// Reports on all slots: sums by node, and one line each if asked for.
     pub(crate) fn say_of_slots(&mut self) -> Result<(), Refusal> {
         self.say_sums()?;
         match self.task.shape {
@@ -199,7 +190,7 @@ impl Search<'_> {
         }
     }
 
-    /// What is to be said of the slot in the end: also that it stays with a dead node.
+    /// The final report on the slot, also if it stays with a dead node.
     pub(crate) fn last_saying(&self, slot: Slot) -> Saying {
         let Saying { taken, outcome } = self.saying_of(slot);
         let owner = self.last_owner(slot);
@@ -210,7 +201,6 @@ impl Search<'_> {
         Saying { taken, outcome }
     }
 
-    // A line for each slot of which there is something to say.
     fn say_lines(&mut self) {
         for partition in 0..self.task.ring.q() {
             for index in 0..self.task.ring.n() {
@@ -223,7 +213,6 @@ impl Search<'_> {
         }
     }
 
-    // How many partitions rest.
     fn count_resting(&self) -> u32 {
         let mut count = 0u32;
         for is_resting in self.resting.as_slice() {
@@ -234,13 +223,13 @@ impl Search<'_> {
         count
     }
 
-    /// Says what the plan has not, since no better one was found.
+    /// Reports which moves are missing because no better plan was found.
     pub(crate) fn say_of_reach(&mut self) {
         let count = self.count_resting();
         match self.reach {
             Reach::Far => {}
             Reach::Near => self.words.fill(
-                b"no better plan was found: partitions with dead nodes, or with slots that stay (#), only end what has begun, as by --rest; plan the rest by goal\n",
+                b"no better plan was found: partitions with dead nodes or with slots that stay (#) only end what has begun, as by --rest; plan the rest by goal\n",
                 &[],
                 &[count],
             ),

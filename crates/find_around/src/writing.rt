@@ -1,4 +1,4 @@
-//! The new plan: what is left of the old one's steps, in its order as far as what they wait for allows.
+//! Writes the new plan: the kept steps, in the old order as far as dependencies allow.
 
 use crate::around::Search;
 use crate::needs::Needs;
@@ -10,7 +10,6 @@ use ring_names::{Listed, NodeId, Refusal, Slot};
 use std::alloc::Global;
 use std::collections::BinaryHeap;
 
-/// The new plan, and the numbers of its steps.
 #[derive(Drop)]
 pub(crate) struct Written {
     pub(crate) plan: Plan,
@@ -18,7 +17,7 @@ pub(crate) struct Written {
     pub(crate) numbers: Vec<Option<u32>>,
 }
 
-// Steps that wait for no other, the first of the old plan on top.
+// Steps without open dependencies, the first of the old plan on top.
 #[derive(Drop)]
 struct Ready {
     heap: BinaryHeap<u32>,
@@ -36,7 +35,6 @@ impl Ready {
     }
 }
 
-/// The new plan, whose steps wait for these.
 pub(crate) fn write(search: &Search, needs: Needs) -> Result<Written, Refusal> {
     let olds = search.sorted(&needs)?;
     let places = search.places(olds.as_slice())?;
@@ -63,7 +61,6 @@ pub(crate) fn write(search: &Search, needs: Needs) -> Result<Written, Refusal> {
     })
 }
 
-// A copy that lists these slots.
 fn listed(alloc: Global, slot: Slot, listing: &Listing) -> Result<Step, Refusal> {
     let mut slots = Vec::new(alloc);
     for index in 0..7u32 {
@@ -74,7 +71,6 @@ fn listed(alloc: Global, slot: Slot, listing: &Listing) -> Result<Step, Refusal>
     Ok(Step::Copy(slot, Source::Slots(Listed::from_vec(slots))))
 }
 
-// Another copy of where a copy reads.
 fn same_source(alloc: Global, source: &Source) -> Result<Source, Refusal> {
     Ok(match source {
         Source::Owner => Source::Owner,
@@ -86,20 +82,20 @@ fn same_source(alloc: Global, source: &Source) -> Result<Source, Refusal> {
 }
 
 impl Search<'_> {
-    /// The steps that are left, each after those that it waits for, and the first of the old plan as soon as it can be. `NoPlan` if they wait in a circle.
-    pub(crate) fn sorted(&self, needs: &Needs) -> Result<Vec<u32>, Refusal> {
-        let count = self.task.plan.len();
-        let mut waits = vec![in self.task.alloc; 0u32; count as usize]?;
-        let mut later = Needs::of(self.task.alloc, count as usize)?;
-        let mut ready = Ready {
-            heap: BinaryHeap::new(self.task.alloc),
-        };
+    // Notes how many steps each kept step waits for, which steps wait for each, and which wait for none. Returns how many are kept.
+    fn begin_sorting(
+        &self,
+        needs: &Needs,
+        waits: &mut [u32],
+        later: &mut Needs,
+        ready: &mut Ready,
+    ) -> Result<usize, Refusal> {
         let mut kept = 0usize;
-        for step in 0..count {
+        for step in 0..self.task.plan.len() {
             if !self.is_gone(step) {
                 kept = kept.saturating_add(1);
                 for other in needs.row(step) {
-                    raise(waits.as_mut_slice(), step as usize);
+                    raise(waits, step as usize);
                     later.add(*other, step)?;
                 }
                 if needs.row(step).is_empty() {
@@ -107,6 +103,18 @@ impl Search<'_> {
                 }
             }
         }
+        Ok(kept)
+    }
+
+    /// Sorts the kept steps by dependencies, then by the old order. Fails with `NoPlan` if there is a cycle.
+    pub(crate) fn sorted(&self, needs: &Needs) -> Result<Vec<u32>, Refusal> {
+        let count = self.task.plan.len();
+        let mut waits = vec![in self.task.alloc; 0u32; count as usize]?;
+        let mut later = Needs::of(self.task.alloc, count as usize)?;
+        let mut ready = Ready {
+            heap: BinaryHeap::new(self.task.alloc),
+        };
+        let kept = self.begin_sorting(needs, waits.as_mut_slice(), &mut later, &mut ready)?;
         let mut order = Vec::new(self.task.alloc);
         for turn in 0..count {
             let Some(step) = ready.pop() else {
@@ -126,7 +134,7 @@ impl Search<'_> {
         Ok(order)
     }
 
-    // By step of the old plan 1 and its number in the new one, or 0.
+    // By step of the old plan, 1 plus its number in the new one, or 0.
     fn places(&self, olds: &[u32]) -> Result<Vec<u32>, Refusal> {
         let mut places = vec![in self.task.alloc; 0u32; self.task.plan.len() as usize]?;
         for place in 0..olds.len() {
@@ -139,7 +147,7 @@ impl Search<'_> {
         Ok(places)
     }
 
-    // What the step waits for, by new numbers, each once and ascending.
+    // The step's dependencies by their new numbers, ascending, each once.
     fn after(&self, needs: &Needs, places: &[u32], step: u32) -> Result<Vec<u32>, Refusal> {
         let mut numbers = Vec::new(self.task.alloc);
         for other in needs.row(step) {
@@ -158,7 +166,6 @@ impl Search<'_> {
         Ok(after)
     }
 
-    // The step as the new plan has it.
     fn step(&self, number: u32) -> Result<Step, Refusal> {
         let alloc = self.task.alloc;
         if number >= self.task.plan.len() {

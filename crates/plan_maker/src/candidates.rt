@@ -1,24 +1,24 @@
-//! Slots that may exchange their owners with a slot that moves.
+//! Slots that may exchange owners with a moving slot.
 
 use find_flow::{Grouped, Role, Seats};
 use helpers::{at, quotient, set, small, swap};
 use ring_names::Refusal;
 use std::alloc::Global;
 
-/// The slots of each node, each list with a finger that goes round.
+/// The slots of each node, with the place of the last look.
 #[derive(Drop)]
 pub struct Candidates {
-    // by node, the places of its slots; the last group has those that members that stay got by moves, before the first exchange
+    // by node, the places of its slots; the last group has those that staying members got by moves, before the first exchange
     places: Grouped,
-    // by place, where it stands in its owner's group
+    // by place, its position in its owner's group
     turns: Vec<u32>,
-    // by group, at which of its places the last look was
+    // by group, the position of the last look
     fingers: Vec<u32>,
-    // those that owned a slot of the partition before, own none now, and may have the one that is to be exchanged
+    // former owners of the partition that own none of it now and may have the slot
     gone: Vec<u32>,
 }
 
-// Whether a member that stays got the slot by a move.
+// Whether a staying member got the slot by a move.
 fn is_entered(seats: &Seats, place: usize) -> bool {
     let node = seats.now(place);
     let before = seats.place_before(seats.partition(place), node);
@@ -26,7 +26,7 @@ fn is_entered(seats: &Seats, place: usize) -> bool {
 }
 
 impl Candidates {
-    /// No slot is known yet.
+    /// Starts without slots.
     pub fn new(alloc: Global) -> Candidates {
         Candidates {
             places: Grouped::new(alloc),
@@ -36,7 +36,7 @@ impl Candidates {
         }
     }
 
-    /// All slots are in their groups.
+    /// Sorts all slots into groups.
     pub fn fill(&mut self, alloc: Global, seats: &Seats) -> Result<(), Refusal> {
         let groups = (seats.members.count() as usize).saturating_add(1);
         self.turns = vec![in alloc; 0u32; seats.total()]?;
@@ -69,7 +69,7 @@ impl Candidates {
         }
     }
 
-    /// The next candidates are for the slot at that place.
+    /// Prepares candidates for the slot at the place.
     pub fn begin(&mut self, seats: &Seats, place: usize) -> Result<(), Refusal> {
         let partition = seats.partition(place);
         self.gone.clear();
@@ -82,7 +82,7 @@ impl Candidates {
         Ok(())
     }
 
-    // The next place of the group, unless all of them came in rounds before this one.
+    // The next place of the group, unless all came in earlier rounds.
     fn next_of(&mut self, group: usize, round: u32) -> Option<usize> {
         let start = self.places.start(group);
         let count = self.places.end(group).saturating_sub(start);
@@ -97,8 +97,8 @@ impl Candidates {
         Some(self.places.item(start.saturating_add(finger)) as usize)
     }
 
-    /// The candidate of that turn for the slot at the place, if there is one. By turns it is a slot of each owner that is gone, who has its own slot again
-    /// by the exchange, and a slot that a member got by a move, as it would get this one.
+    /// Returns the next candidate for the slot. Turns alternate: a slot of a former owner, which so regains its own;
+    /// and a slot that a member got by a move.
     pub fn next(&mut self, seats: &Seats, place: usize, turn: u32) -> Option<usize> {
         let ways = small(self.gone.len()).saturating_add(1);
         let round = quotient(turn, ways);
@@ -116,7 +116,7 @@ impl Candidates {
         None
     }
 
-    /// Two slots exchange their owners.
+    /// Exchanges the owners of two slots.
     pub fn exchange(&mut self, one: usize, other: usize) {
         let (first, second) = (at(&self.turns, one), at(&self.turns, other));
         self.places.swap(first as usize, second as usize);

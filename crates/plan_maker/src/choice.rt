@@ -1,4 +1,4 @@
-//! The choice of the owners that are wished for.
+//! Chooses the wished owners.
 
 use crate::filling::fill;
 use crate::giving::give;
@@ -10,7 +10,6 @@ use ring_names::{Listed, NodeId, Refusal};
 use ring_table::Ring;
 use std::alloc::Global;
 
-// The owners by partition and index.
 fn rows(alloc: Global, seats: &Seats) -> Result<Vec<Listed<NodeId>>, Refusal> {
     let mut rows = Vec::new(alloc);
     for partition in 0..seats.partitions {
@@ -23,7 +22,7 @@ fn rows(alloc: Global, seats: &Seats) -> Result<Vec<Listed<NodeId>>, Refusal> {
     Ok(rows)
 }
 
-// Gives those that join their parts, and mends the balance, as far as looks allow.
+// Gives joining nodes their parts and improves the balance, as far as looks allow.
 fn settle(alloc: Global, seats: &mut Seats) -> Result<(), Refusal> {
     let mut search = Search::new(alloc);
     search.fill(alloc)?;
@@ -33,7 +32,7 @@ fn settle(alloc: Global, seats: &mut Seats) -> Result<(), Refusal> {
     balance_all(alloc, seats, &mut search)
 }
 
-// Lets members take slots, by the sizes of the partitions where these are asked for, and else by how many they are.
+// Lets members take slots: by the sizes of partitions if there are any, otherwise by number.
 fn take(alloc: Global, seats: &mut Seats) -> Result<(), Refusal> {
     if seats.volumes.are_asked() {
         return take_by_size(alloc, seats);
@@ -59,22 +58,26 @@ fn wished_of(
     rows(alloc, &seats)
 }
 
-/// The owners that are wished for, by partition and index: each partition has as many different ones as it has slots, all of them members in the end. A slot that
-/// does not move keeps its owner and its index.
+/// Returns the wished owners, by partition and index. A partition's owners are different members in the end. A slot
+/// that does not move keeps its owner and index.
 ///
-/// In this order: each partition has the fewest pairs of slots in one rack; the nodes that join lack as few slots of their parts as can be, where the part
-/// of a node is that of its weight among all members in the end, rounded down, and at most one slot of each partition; as few slots move as can be; and
-/// the slots are spread as evenly by weight as these moves allow: the sum over the members of the square of a member's slots by its weight is the least. The
-/// balance, and rare slots of parts, stay behind the best where the search for them would take too long.
+/// Aims, the most important first:
+/// - The fewest pairs of slots in one rack in each partition.
+/// - The fewest slots missing from the parts of joining nodes. A part is the share by weight of all slots,
+///   rounded down, with at most one slot of each partition.
+/// - The fewest moves.
+/// - The best balance: the least sum over members of squared slots by weight.
 ///
-/// Then few partitions have two slots or more on nodes that join, few have two slots that move, and nodes share partitions evenly. That is good, and not always
-/// the best.
+/// If the search takes too long, the balance and rarely a part fall short.
 ///
-/// Where partitions have sizes, those that join take slots until they have their shares of what is stored, and no slot moves for racks alone. That is good, and
-/// not always the best: see `take_by_size`.
+/// Then few partitions have two slots on joining nodes, few have two moving slots, and nodes share partitions
+/// evenly. This is good, not always optimal.
 ///
-/// Refused is a wish that no ring fulfils, as `NoPlan`: a join of a member, a leave of another than a member, and leaves that leave fewer members than a
-/// partition has slots; and want of memory as `OutOfMemory`. The same input gives the same owners.
+/// With sizes, joining nodes take slots up to their share of the stored size, and no slot moves for racks only. This is
+/// good, not always optimal: see `take_by_size`.
+///
+/// Fails with `NoPlan` if a joining node is a member, a leaving node is not, or too few members remain; and
+/// with `OutOfMemory`. The same input gives the same owners.
 pub fn wished(alloc: Global, ring: &Ring, wish: &Wish) -> Result<Vec<Listed<NodeId>>, Refusal> {
     let mut members = Members::new(alloc);
     members.begin(alloc, ring, wish)?;

@@ -1,4 +1,4 @@
-//! What partitions bear of a change, and what an exchange of two owners does to that.
+//! The load of a change on partitions, and how an exchange of two owners changes it.
 
 use crate::pairs::{Half, Pairs};
 use find_flow::{Role, Seats};
@@ -6,25 +6,26 @@ use helpers::{at, lower, raise, set, small};
 use ring_names::Refusal;
 use std::alloc::Global;
 
-/// What an exchange costs, the most important first; less than 0 where it gains.
+/// The cost of an exchange, the most important first. Negative is a gain.
 #[derive(Clone, Copy, PartialEq, Eq, PartialOrd, Ord, Drop)]
 pub struct Cost {
-    // 64 for each node that joins beyond the first of a partition, and 1 for each pair of such nodes: two partitions have at most 42 pairs
+    // 64 for each joining node of a partition after the first, and 1 for each pair of them. Two partitions have
+    // at most 42 pairs.
     joiners: i64,
-    // slots that move beyond the first of a partition
+    // moving slots of a partition after the first
     moves: i64,
     // squares of how many partitions two nodes share
     shares: i64,
 }
 
-/// Above the cost of each exchange that leaves fewer joiners beyond the first of a partition, or else fewer pairs of joiners.
+/// Above any exchange that leaves fewer joining nodes after the first of a partition, or as many and fewer pairs of them.
 pub const FEWER_JOINERS: Cost = Cost {
     joiners: -1,
     moves: 100,
     shares: 0,
 };
 
-/// Above the cost of each exchange that gains.
+/// Above any exchange that gains.
 pub const ANY_GAIN: Cost = Cost {
     joiners: 0,
     moves: 0,
@@ -35,7 +36,6 @@ fn beyond_first(count: i64) -> i64 {
     count.saturating_sub(1).max(0)
 }
 
-// What so many joiners of one partition cost.
 fn crowding(joiners: i64) -> i64 {
     let pairs = joiners.saturating_mul(joiners.saturating_sub(1)) / 2;
     beyond_first(joiners)
@@ -51,7 +51,6 @@ fn joins(seats: &Seats, node: u32) -> i64 {
     }
 }
 
-// 1 where the node owned no slot of the partition before, else 0.
 fn enters(seats: &Seats, partition: usize, node: u32) -> i64 {
     match seats.place_before(partition, node) {
         Some(_) => 0,
@@ -59,18 +58,15 @@ fn enters(seats: &Seats, partition: usize, node: u32) -> i64 {
     }
 }
 
-// How many joiners more the half's partition has.
 fn joiners_more(seats: &Seats, half: Half) -> i64 {
     joins(seats, half.new).saturating_sub(joins(seats, half.old))
 }
 
-// How many slots more of the half's partition move.
 fn moves_more(seats: &Seats, half: Half) -> i64 {
     let before = enters(seats, half.partition, half.old);
     enters(seats, half.partition, half.new).saturating_sub(before)
 }
 
-// The slot at the one place gets the owner of that at the other.
 fn half_of(seats: &Seats, one: usize, other: usize) -> Half {
     Half {
         partition: seats.partition(one),
@@ -80,26 +76,25 @@ fn half_of(seats: &Seats, one: usize, other: usize) -> Half {
     }
 }
 
-// The count at the place is another.
 fn change(counts: &mut [u32], place: usize, more: i64) {
     let count = i64::from(at(counts, place)).saturating_add(more);
     set(counts, place, u32::try_from(count).unwrap_or(0));
 }
 
-/// By partition, how many joiners own slots of it, and how many of its slots move; and how many partitions two nodes share.
+/// By partition, its joining owners and its moving slots; and how many partitions two nodes share.
 #[derive(Drop)]
 pub struct Crowds {
     joiners: Vec<u32>,
     moves: Vec<u32>,
     pairs: Pairs,
-    // by a count of joiners, how many partitions have so many
+    // by number of joining owners, how many partitions have that number
     levels: Vec<u32>,
     // how many slots of a partition answer a read
     reads: u32,
 }
 
 impl Crowds {
-    /// No partition is known yet, of a ring in which so many slots answer a read.
+    /// Starts without partitions. `reads` slots answer a read.
     pub fn new(alloc: Global, reads: u32) -> Crowds {
         Crowds {
             joiners: Vec::new(alloc),
@@ -110,7 +105,7 @@ impl Crowds {
         }
     }
 
-    /// Counts what all partitions bear.
+    /// Counts the loads of all partitions.
     pub fn fill(&mut self, alloc: Global, seats: &Seats) -> Result<(), Refusal> {
         self.joiners = vec![in alloc; 0u32; seats.partitions]?;
         self.moves = vec![in alloc; 0u32; seats.partitions]?;
@@ -130,12 +125,11 @@ impl Crowds {
         change(&mut self.moves, partition, enters(seats, partition, node));
     }
 
-    // How many joiners own slots of the partition.
     fn joiners(&self, partition: usize) -> u32 {
         at(&self.joiners, partition)
     }
 
-    /// Whether another partition has at least two joiners fewer.
+    /// Whether another partition has at least two fewer joining owners.
     pub fn can_relieve(&self, partition: usize) -> bool {
         let end = self.joiners(partition).saturating_sub(1) as usize;
         for level in 0..end {
@@ -146,7 +140,7 @@ impl Crowds {
         false
     }
 
-    /// How many slots move.
+    /// Returns how many slots move.
     pub fn all_moves(&self) -> u32 {
         let mut all = 0u32;
         for moves in self.moves.iter() {
@@ -160,12 +154,19 @@ impl Crowds {
         crowding(now.saturating_add(more)).saturating_sub(crowding(now))
     }
 
+    // What the joiners of both partitions cost, if the first slot gets the other's owner and the other way round.
+    fn joiners_of(&self, seats: &Seats, first: Half, other: usize) -> i64 {
+        let more = joiners_more(seats, first);
+        self.joiners_cost(first.partition, more)
+            .saturating_add(self.joiners_cost(other, 0i64.saturating_sub(more)))
+    }
+
     fn moves_cost(&self, partition: usize, more: i64) -> i64 {
         let now = i64::from(at(&self.moves, partition));
         beyond_first(now.saturating_add(more)).saturating_sub(beyond_first(now))
     }
 
-    // How many copies have too few slots beside them that stay to read these in place of the owner, where so many slots of a partition move.
+    // How many copies can only read their owner, because too few other slots of the partition stay.
     fn tied(&self, seats: &Seats, moves: i64) -> i64 {
         let staying = i64::from(small(seats.slots)).saturating_sub(moves);
         if staying < i64::from(self.reads) {
@@ -175,25 +176,23 @@ impl Crowds {
         }
     }
 
-    // How many more copies are tied to their owners.
     fn more_tied(&self, seats: &Seats, partition: usize, more: i64) -> i64 {
         let now = i64::from(at(&self.moves, partition));
         self.tied(seats, now.saturating_add(more))
             .saturating_sub(self.tied(seats, now))
     }
 
-    /// What it costs that two slots exchange their owners, where that is below the limit, both partitions have one size, no slot more moves, no more copies are tied to their owners, which
-    /// may give little at once, and the owner of the one may have the other. That the owner of the other may have the one is known.
+    /// Returns the cost of exchanging the owners of two slots, if below the limit and allowed. `one`'s owner
+    /// may have `other`; the caller knows the reverse.
+    ///
+    /// The partitions must have one size. No move may be added, nor a copy that can only read its owner, which
+    /// may give little at once.
     pub fn cost(&self, seats: &Seats, one: usize, other: usize, limit: Cost) -> Option<Cost> {
         let (first, second) = (half_of(seats, one, other), half_of(seats, other, one));
         if seats.volumes.size(first.partition) != seats.volumes.size(second.partition) {
             return None;
         }
-        let more = joiners_more(seats, first);
-        let joiners = self.joiners_cost(first.partition, more).saturating_add(self.joiners_cost(
-            second.partition,
-            0i64.saturating_sub(more),
-        ));
+        let joiners = self.joiners_of(seats, first, second.partition);
         if joiners > limit.joiners || !seats.may_have(other, first.old) {
             return None;
         }
@@ -220,7 +219,6 @@ impl Crowds {
         if cost < limit { Some(cost) } else { None }
     }
 
-    // Counts what becomes of the half's partition.
     fn count(&mut self, seats: &Seats, half: Half) {
         let before = self.joiners(half.partition);
         change(&mut self.joiners, half.partition, joiners_more(seats, half));

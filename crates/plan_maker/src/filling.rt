@@ -1,4 +1,4 @@
-//! Who takes the slots that nobody owns.
+//! Gives slots without owners to members.
 
 use crate::ranks::Who;
 use crate::takers::Takers;
@@ -7,7 +7,7 @@ use helpers::NONE;
 use ring_names::Refusal;
 use std::alloc::Global;
 
-/// Lets members take the slots of the partition that nobody owns. Refused as `NoPlan` where there is no member for one.
+/// Gives the partition's free slots to members. Fails with `NoPlan` if there is none for a slot.
 pub(crate) fn fill_partition(
     seats: &mut Seats,
     takers: &mut Takers,
@@ -26,7 +26,7 @@ pub(crate) fn fill_partition(
     Ok(())
 }
 
-/// Lets members take all slots that nobody owns: first those that join, until they have their parts, then those with few slots for their weights.
+/// Gives all free slots to members: first to joining ones up to their parts, then to those with few slots by weight.
 pub fn fill(alloc: Global, seats: &mut Seats) -> Result<(), Refusal> {
     let mut takers = Takers::new(alloc, Who::All);
     takers.fill(alloc, seats)?;

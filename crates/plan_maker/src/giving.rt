@@ -1,4 +1,4 @@
-//! The members that give slots to those that join, besides the slots that move anyway.
+//! Members that give slots to joining ones, besides the slots that move anyway.
 
 use crate::ranks::Who;
 use crate::takers::Takers;
@@ -9,8 +9,7 @@ use std::alloc::Global;
 use std::cmp::Reverse;
 use std::collections::BinaryHeap;
 
-/// How soon a member gives: the greatest first. Those with many slots for their weights come first, then those with much allowance left and of small
-/// number.
+/// The order of givers, the greatest first: most slots by weight, then most allowance left, then the smallest number.
 #[derive(Clone, Copy, PartialEq, Eq, PartialOrd, Ord, Drop)]
 pub(crate) struct Giver {
     pub(crate) price: u64,
@@ -29,13 +28,12 @@ fn ranked(seats: &Seats, node: u32) -> Giver {
 #[derive(Drop)]
 struct Givers {
     heap: BinaryHeap<Giver>,
-    // how many of each member's slots were looked at
+    // by node, how many of its slots were tried
     looked: Vec<u32>,
     takers: Takers,
 }
 
 impl Givers {
-    // The members that stay, and those that join and have not their parts.
     fn gather(&mut self, alloc: Global, seats: &Seats) -> Result<(), Refusal> {
         self.looked = vec![in alloc; 0u32; seats.members.count() as usize]?;
         for node in 0..seats.members.count() {
@@ -46,7 +44,7 @@ impl Givers {
         self.takers.fill(alloc, seats)
     }
 
-    // Gives the slot to one that joins, if one may have it.
+    // Gives the slot to a joining member that may have it. Returns whether there was one.
     fn pass(&mut self, seats: &mut Seats, place: usize) -> Result<bool, Refusal> {
         let owner = seats.now(place);
         seats.vacate(place);
@@ -63,7 +61,7 @@ impl Givers {
         }
     }
 
-    // Gives the next slot of the member that one may have.
+    // Gives away the next possible slot of the member.
     fn give_one(&mut self, seats: &mut Seats, node: u32) -> Result<bool, Refusal> {
         for turn in at(&self.looked, node as usize) as usize..seats.owned_count(node) {
             raise(&mut self.looked, node as usize);
@@ -75,7 +73,6 @@ impl Givers {
         Ok(false)
     }
 
-    // Lets members give as long as some that joins has not its part.
     fn give(&mut self, seats: &mut Seats) -> Result<(), Refusal> {
         let turns = seats.total().saturating_add(self.heap.len());
         for _ in 0..turns {
@@ -94,7 +91,8 @@ impl Givers {
     }
 }
 
-/// Lets the members that stay give slots to those that join and have not their parts, as often as it goes the one that has most for its weight.
+/// Moves slots from staying members to joining ones below their parts, always from the most loaded by weight, until
+/// none can move.
 pub fn give(alloc: Global, seats: &mut Seats) -> Result<(), Refusal> {
     let mut givers = Givers {
         heap: BinaryHeap::new(alloc),

@@ -1,6 +1,6 @@
-//! The planner: the owners that are wished for where some nodes join and some leave, by weight and apart by racks, and the plan of a change with its
-//! certificate. Nothing is promised of what it makes but that the checker can be asked. It keeps the slots of a partition apart by racks, moves as few
-//! slots as that and the change need, takes the most even of such choices, and lets as many transfers run at once as allowances permit.
+//! The planner: owners for a change by weight, apart by racks, and the plan with its certificate. It moves as few slots
+//! as racks and the change need, balances them, and runs as many transfers at once as allowances permit. Nothing is
+//! proved of its results: the checker judges them.
 #![tactic(auto)]
 
 mod candidates;

@@ -9,7 +9,6 @@ use ring_names::{NodeId, Refusal};
 use ring_table::Ring;
 use std::alloc::Global;
 
-// The nodes by number.
 fn numbered(alloc: Global, nodes: &[NodeId]) -> Result<Vec<u32>, Refusal> {
     let mut numbers = Vec::new(alloc);
     for node in nodes {
@@ -19,11 +18,15 @@ fn numbered(alloc: Global, nodes: &[NodeId]) -> Result<Vec<u32>, Refusal> {
     Ok(numbers)
 }
 
-/// A plan after which the nodes of `joins` are members and those of `leaves` are none, with its certificate.
+/// Makes a plan after which the nodes of `joins` are members and those of `leaves` are not, with its certificate.
 ///
-/// It moves no more slots than it must: those of the nodes that leave, and as many more as give each node that joins its part of all slots,
-/// rounded down. Refused is a change that no plan can make, as `NoPlan`: a join of a member, a leave of another than a member, and leaves
-/// that leave fewer members than a partition has slots; and want of memory as `OutOfMemory`. The same input gives the same plan.
+/// It moves only the slots of leaving nodes, and as many more as give each joining node its share of all slots,
+/// rounded down.
+///
+/// The same input gives the same plan.
+///
+/// Fails with `NoPlan` if a joining node is a member, a leaving node is not, or fewer members than slots
+/// remain; and with `OutOfMemory`.
 pub fn make<'a>(
     alloc: Global,
     ring: &Ring,

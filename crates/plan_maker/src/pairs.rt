@@ -1,11 +1,11 @@
-//! Counts of the partitions that two nodes share.
+//! Counts the partitions that two nodes share.
 
 use find_flow::Seats;
 use helpers::{at, lower, raise};
 use ring_names::Refusal;
 use std::alloc::Global;
 
-/// One half of an exchange of owners: a slot, its owner, and the node that gets it.
+/// One half of an exchange: a slot with its old and new owner.
 #[derive(Clone, Copy)]
 pub struct Half {
     pub partition: usize,
@@ -14,19 +14,17 @@ pub struct Half {
     pub new: u32,
 }
 
-/// For each two nodes, how many partitions have slots of both: at most 2 MB, for 1,024 nodes.
+/// By pair of nodes, how many partitions have slots of both. At most 2 MB, for 1,024 nodes.
 #[derive(Drop)]
 pub struct Pairs {
-    // by the node of greater number, its counts with all nodes of smaller number
+    // by the greater node, its counts with all smaller ones
     counts: Vec<u32>,
 }
 
-// How many pairs so many nodes have.
 fn pairs_of(nodes: usize) -> usize {
     nodes.saturating_mul(nodes.saturating_sub(1)) / 2
 }
 
-// Where the count of the two nodes is.
 fn place_of(one: u32, other: u32) -> usize {
     let (low, high) = if one < other {
         (one, other)
@@ -37,7 +35,7 @@ fn place_of(one: u32, other: u32) -> usize {
 }
 
 impl Pairs {
-    /// No node is known yet.
+    /// Starts without nodes.
     pub fn new(alloc: Global) -> Pairs {
         Pairs {
             counts: Vec::new(alloc),
@@ -66,7 +64,7 @@ impl Pairs {
         i64::from(at(&self.counts, place_of(one, other)))
     }
 
-    /// How much the sum of the squares grows by that half of an exchange alone.
+    /// Returns how much the sum of squares grows by one half of an exchange.
     pub fn growth(&self, seats: &Seats, half: Half) -> i64 {
         let start = seats.place(half.partition, 0);
         let mut growth = 0i64;
@@ -81,7 +79,7 @@ impl Pairs {
         growth
     }
 
-    /// Counts the new owner of the slot in place of the old one.
+    /// Counts the slot's new owner instead of the old one.
     pub fn replace(&mut self, seats: &Seats, half: Half) {
         let start = seats.place(half.partition, 0);
         for place in start..start.saturating_add(seats.slots) {

@@ -5,19 +5,19 @@ use helpers::{NONE, small};
 use ring_names::Refusal;
 use std::alloc::Global;
 
-/// How soon a member's turn comes: the least first.
+/// A member's rank, the least first.
 #[derive(Clone, Copy, PartialEq, Eq, PartialOrd, Ord, Drop)]
 pub struct Rank {
-    /// Those that join and have not their part come first.
+    /// Joining members below their part come first.
     is_sated: bool,
-    /// Then those with few slots for their weight.
+    /// Then those with few slots by weight.
     price: u64,
-    /// Then those with much allowance left, and those of small number.
+    /// Then those with much allowance left, then small numbers.
     crowd: u32,
     node: u32,
 }
 
-/// Comes behind all members.
+/// Comes after all members.
 pub const NOBODY: Rank = Rank {
     is_sated: true,
     price: 18_446_744_073_709_551_615,
@@ -25,13 +25,13 @@ pub const NOBODY: Rank = Rank {
     node: NONE,
 };
 
-/// Which of two comes first.
+/// Returns the one that comes first.
 pub fn sooner(one: Rank, other: Rank) -> Rank {
     if other < one { other } else { one }
 }
 
 impl Rank {
-    /// The member, if it is one.
+    /// Returns the member, if it is one.
     pub fn node(&self) -> Option<u32> {
         if self.node == NONE {
             return None;
@@ -43,24 +43,23 @@ impl Rank {
 /// Which members take part.
 #[derive(Clone, Copy, PartialEq, Eq)]
 pub enum Who {
-    /// All members.
     All,
-    /// Those that join and have not their part.
+    /// Joining ones below their part.
     Wanting,
-    /// All members, by what they lack for their weights of what they shall store.
+    /// All members, by what they lack of their stored share, by weight.
     Emptiest,
-    /// All members, by how few slots they have for their weights.
+    /// All members, the fewest slots by weight first.
     Fewest,
-    /// Those that join and lack some of what they shall store: first the one that lacks most.
+    /// Joining ones below their stored share, the neediest first.
     Lacking,
-    /// Those that stay, by how much more than they shall they store for their weights.
+    /// Staying ones, the greatest excess over their stored share by weight first.
     Fullest,
 }
 
 // The greatest price of a member.
 const DEAREST: u64 = 18_446_744_073_709_551_614;
 
-/// A tree over all nodes in the order of their racks: at each knot the one below it that comes first.
+/// A tournament tree over all nodes in the order of their racks: each knot has the first of its two children.
 #[derive(Drop)]
 pub struct Ranks {
     who: Who,
@@ -70,7 +69,7 @@ pub struct Ranks {
 }
 
 impl Ranks {
-    /// No node is known yet.
+    /// Starts without nodes.
     pub fn new(alloc: Global, who: Who) -> Ranks {
         Ranks {
             who,
@@ -79,7 +78,7 @@ impl Ranks {
         }
     }
 
-    /// All nodes have their ranks.
+    /// Sets the ranks of all nodes.
     pub fn fill(&mut self, alloc: Global, seats: &Seats) -> Result<(), Refusal> {
         let count = seats.members.count();
         for _ in 0..16 {
@@ -115,14 +114,13 @@ impl Ranks {
         }
     }
 
-    // Writes the knot anew, out of the two below it.
+    // Updates the knot from its children.
     fn join(&mut self, place: u32) {
         let left = place.saturating_mul(2);
         let first = sooner(self.at(left), self.at(left.saturating_add(1)));
         self.write(place, first);
     }
 
-    // Whether the member takes part.
     fn takes_part(&self, seats: &Seats, node: u32) -> bool {
         match self.who {
             Who::All | Who::Emptiest | Who::Fewest => seats.members.is_after(node),
@@ -155,13 +153,12 @@ impl Ranks {
         }
     }
 
-    /// The node's rank is another.
+    /// Updates the node's rank.
     pub fn renew(&mut self, seats: &Seats, node: u32) {
         let rank = self.rank(seats, node);
         self.put(seats, node, rank);
     }
 
-    // The node has that rank.
     fn put(&mut self, seats: &Seats, node: u32, rank: Rank) {
         let mut place = self.leaf(seats, node);
         self.write(place, rank);
@@ -171,7 +168,7 @@ impl Ranks {
         }
     }
 
-    /// The first of those from one place to before another, in the order of the racks.
+    /// Returns the first in a range of places, in the order of racks.
     pub fn first(&self, from: u32, end: u32) -> Rank {
         let mut first = NOBODY;
         let mut left = self.size.saturating_add(from);
@@ -194,7 +191,7 @@ impl Ranks {
         first
     }
 
-    /// Finds the first of all, so many at most, in their order.
+    /// Finds the first members, at most `count`, in their order.
     pub fn lead(&mut self, seats: &Seats, count: u32, found: &mut Vec<u32>) -> Result<(), Refusal> {
         found.clear();
         for _ in 0..count {
@@ -210,7 +207,7 @@ impl Ranks {
         Ok(())
     }
 
-    /// The first of all, if there is one.
+    /// Returns the first of all.
     pub fn head(&self) -> Option<u32> {
         self.at(1).node()
     }
@@ -220,7 +217,7 @@ impl Ranks {
         self.at(1) == NOBODY
     }
 
-    /// How many nodes there are, and some more.
+    /// Returns the number of leaves: at least that of the nodes.
     pub fn len(&self) -> u32 {
         small(self.knots.len()).saturating_sub(self.size)
     }

@@ -1,4 +1,4 @@
-//! Owners by the sizes of partitions.
+//! Chooses owners by the sizes of partitions.
 
 use crate::filling::fill_partition;
 use crate::giving::Giver;
@@ -26,7 +26,7 @@ fn by_size(alloc: Global, seats: &Seats) -> Result<Vec<u32>, Refusal> {
     Ok(order)
 }
 
-// Of partitions of which the largest are first, those with keys and those without.
+// Splits partitions, the largest first, into those with keys and those without.
 fn split_full<'a>(seats: &Seats, order: &'a [u32]) -> (&'a [u32], &'a [u32]) {
     for place in 0..order.len() {
         if seats.volumes.size(order[place] as usize) == 0 {
@@ -36,7 +36,7 @@ fn split_full<'a>(seats: &Seats, order: &'a [u32]) -> (&'a [u32], &'a [u32]) {
     (order, &[])
 }
 
-// By member that stays, the places of the slots with keys that it owned before, the largest first.
+// By staying member, the places of its former slots with keys, the largest first.
 fn owned_by(alloc: Global, seats: &Seats, order: &[u32]) -> Result<Grouped, Refusal> {
     let mut owned = Grouped::new(alloc);
     owned.begin(alloc, seats.members.count() as usize)?;
@@ -55,7 +55,6 @@ fn owned_by(alloc: Global, seats: &Seats, order: &[u32]) -> Result<Grouped, Refu
     Ok(owned)
 }
 
-// Lets members take the slots of these partitions that nobody owns.
 fn fill_each(
     alloc: Global,
     seats: &mut Seats,
@@ -70,7 +69,6 @@ fn fill_each(
     Ok(())
 }
 
-/// How many nodes that join own slots of the partition.
 pub(crate) fn joiners(seats: &Seats, partition: usize) -> u32 {
     let mut joiners = 0u32;
     for index in 0..seats.slots {
@@ -82,7 +80,7 @@ pub(crate) fn joiners(seats: &Seats, partition: usize) -> u32 {
     joiners
 }
 
-// The slots with keys of those that stay, and who takes them: those that join, as long as they lack something.
+// The slots with keys of staying members, and the joining ones that lack something.
 #[derive(Drop)]
 struct Sizing {
     owned: Grouped,
@@ -90,7 +88,7 @@ struct Sizing {
 }
 
 impl Sizing {
-    // Gives the slot to one that joins, if one lacks as much and may have it.
+    // Gives the slot to a joining member that lacks as much and may have it.
     fn pass(&mut self, seats: &mut Seats, place: usize) -> Result<bool, Refusal> {
         let (owner, partition) = (seats.now(place), seats.partition(place));
         let rack = seats.members.racks.of(owner);
@@ -108,7 +106,7 @@ impl Sizing {
         }
     }
 
-    // Whether the one that lacks most lacks as much as a slot of the partition, in which at most so many slots are on nodes that join.
+    // Whether the neediest joining member lacks a slot of the partition, which has at most `crowd` joining owners.
     fn is_wanted(&self, seats: &Seats, partition: usize, crowd: u32) -> bool {
         match self.takers.head() {
             Some(first) => {
@@ -119,7 +117,7 @@ impl Sizing {
         }
     }
 
-    // Gives the slot, where a member that stays still owns it and has at least half of it too much.
+    // Gives the slot away, if the owner stays and exceeds the share by at least half the slot.
     fn give(&mut self, seats: &mut Seats, place: usize, crowd: u32) -> Result<(), Refusal> {
         let (owner, partition) = (seats.now(place), seats.partition(place));
         let is_full = seats.members.role(owner) == Role::Stays
@@ -131,7 +129,7 @@ impl Sizing {
         Ok(())
     }
 
-    // Gives slots of these partitions that are above the levels of their owners. Partitions with few slots on nodes that join come first.
+    // Gives away slots above their owners' levels. Partitions with few joining owners come first.
     fn give_all(&mut self, seats: &mut Seats, order: &[u32]) -> Result<(), Refusal> {
         for crowd in 0..small(seats.slots) {
             for partition in order {
@@ -144,7 +142,7 @@ impl Sizing {
         Ok(())
     }
 
-    // Gives the next of the member's slots that one may have.
+    // Gives away the member's next possible slot.
     fn give_one(
         &mut self,
         seats: &mut Seats,
@@ -168,7 +166,7 @@ impl Sizing {
         Ok(false)
     }
 
-    // Lets those that store most for their weights give, below their levels too, as long as one that joins lacks something.
+    // Lets those that store most by weight give, even below their levels, while a joining member lacks something.
     fn force(&mut self, alloc: Global, seats: &mut Seats, crowd: u32) -> Result<(), Refusal> {
         let mut heap = BinaryHeap::new(alloc);
         for node in 0..seats.members.count() {
@@ -193,7 +191,6 @@ impl Sizing {
     }
 }
 
-// How soon the member gives.
 fn ranked(seats: &Seats, node: u32) -> Giver {
     Giver {
         price: seats.volumes.load_by(node, seats.members.weight(node)),
@@ -202,12 +199,17 @@ fn ranked(seats: &Seats, node: u32) -> Giver {
     }
 }
 
-/// Lets members take slots by the sizes of the partitions, where those of leavers have nobody:
+/// Gives the slots of leaving members, and more, to members by the sizes of partitions:
 ///
-/// 1. Slots of leavers, the largest first, go to those that lack most for their weights, racks apart before that; those without keys to those with few slots.
-/// 2. Slots of members above their levels, the largest first, go to the ones that join and lack most, and at least the slot.
-/// 3. Where one that joins still lacks something, those that store most for their weights give, below their levels too.
-/// 4. Slots are exchanged for others of a near size, where what members store comes nearer to what they shall.
+/// 1. Leavers' slots, the largest first, go to members that lack most by weight, after racks. Slots without
+/// keys go to members with few slots.
+///
+/// 2. Slots above their owners' levels, the largest first, go to the joining members that lack most, and at
+/// least the slot.
+///
+/// 3. If a joining member still lacks something, those that store most by weight give, even below their levels.
+///
+/// 4. Slots are exchanged for others of a near size if that brings members closer to their shares.
 pub fn take_by_size(alloc: Global, seats: &mut Seats) -> Result<(), Refusal> {
     let order = by_size(alloc, seats)?;
     let (full, empty) = split_full(seats, order.as_slice());

@@ -1,7 +1,8 @@
-//! Spreads slots that move over the partitions, by exchanges of the owners of two slots.
+//! Spreads moving slots over partitions by exchanging the owners of two slots.
 //!
-//! The owner of a slot that moves leaves the partition. In its place comes an owner that the partition had before, or one that got the other slot by a move
-//! too. No node's load changes, so parts and balance stay. Longer exchanges help few rings and take most of all looks.
+//! The owner of a moving slot leaves the partition. Its place goes to a former owner of the partition, or to one that
+//! got the other slot by a move too. Loads do not change, so parts and balance stay. Longer exchanges help few rings
+//! and need most of all looks.
 
 use crate::candidates::Candidates;
 use crate::crowds::{ANY_GAIN, Cost, Crowds, FEWER_JOINERS};
@@ -16,12 +17,11 @@ const LOOKS: u32 = 128;
 // The most exchanges that are compared for one.
 const COMPARED: u32 = 16;
 
-// What partitions bear, and where to look for exchanges.
 #[derive(Drop)]
 struct Spread {
     crowds: Crowds,
     candidates: Candidates,
-    // how many looks are left to those that join
+    // the looks left to joining nodes
     looks: u32,
 }
 
@@ -32,7 +32,7 @@ impl Spread {
         self.candidates.fill(alloc, seats)
     }
 
-    // What the exchange of that turn costs, with the other slot, where it is possible and below the limit.
+    // The cost of the turn's exchange, and its other slot, if allowed and below the limit.
     fn look(
         &mut self,
         seats: &Seats,
@@ -46,7 +46,7 @@ impl Spread {
         Some((cost, other))
     }
 
-    // The slot with which the one at the place best exchanges its owner, by so many looks at most.
+    // The best slot for an exchange, by a number of looks.
     fn best(
         &mut self,
         seats: &Seats,
@@ -71,7 +71,7 @@ impl Spread {
         Ok(found)
     }
 
-    // Exchanges the owner of the slot as well as it goes below the limit. Answers whether that was possible.
+    // Makes the best exchange below the limit. Returns whether there was one.
     fn exchange(
         &mut self,
         seats: &mut Seats,
@@ -87,7 +87,7 @@ impl Spread {
         Ok(true)
     }
 
-    // Lets one that joins leave the partition. Answers whether that was possible.
+    // Lets a joining node leave the partition. Returns whether that was possible.
     fn relieve(&mut self, seats: &mut Seats, partition: usize) -> Result<bool, Refusal> {
         for index in 0..seats.slots {
             let place = seats.place(partition, index);
@@ -100,7 +100,7 @@ impl Spread {
         Ok(false)
     }
 
-    // Lets those that join leave the partition while another has two of them fewer, as far as looks allow.
+    // Lets joining nodes leave the partition while another has two fewer, as far as looks allow.
     fn thin(&mut self, seats: &mut Seats, partition: usize) -> Result<(), Refusal> {
         for _ in 0..seats.slots {
             let is_done = self.looks == 0 || !self.crowds.can_relieve(partition);
@@ -118,7 +118,7 @@ impl Spread {
         Ok(())
     }
 
-    // Exchanges the owner of each slot that moves once, where that gains.
+    // Exchanges the owner of each moving slot once, if that gains.
     fn even_all(&mut self, seats: &mut Seats) -> Result<(), Refusal> {
         let all = small(seats.total()).saturating_mul(8);
         let looks = quotient(all, self.crowds.all_moves()).max(8).min(LOOKS);
@@ -140,11 +140,13 @@ impl Spread {
     }
 }
 
-/// Spreads slots that move by exchanges of two owners. Partitions get fewer joiners beyond the first, then fewer slots that move beyond the first; then nodes
-/// share partitions more evenly. No slot more moves, each node keeps its load, no partition has more pairs of slots in one rack, and no copy more
-/// has fewer than `reads` slots beside it that stay.
+/// Spreads moving slots by exchanges. Moves, loads and pairs in one rack do not grow, nor do copies with fewer
+/// than `reads` other staying slots.
 ///
-/// The result is good, and not always the best: joiners take some 32 looks for each slot of the ring, and the rest at most 16.
+/// Partitions get fewer joining owners after the first, then fewer moving slots after the first; then nodes
+/// share partitions more evenly.
+///
+/// The result is good, not always optimal: joining nodes take some 32 looks for each slot of the ring, the rest at most 16.
 pub fn spread_moves(alloc: Global, reads: u32, seats: &mut Seats) -> Result<(), Refusal> {
     if seats.moved() == 0 {
         return Ok(());

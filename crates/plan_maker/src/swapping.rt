@@ -1,4 +1,4 @@
-//! Exchanges of slots of near sizes.
+//! Exchanges slots of near sizes.
 
 use crate::ranks::{Ranks, Who};
 use crate::sizing::joiners;
@@ -6,30 +6,30 @@ use find_flow::{Grouped, Role, Seats};
 use ring_names::Refusal;
 use std::alloc::Global;
 
-// From how many members at most another slot is looked for.
+// The most members that are searched for another slot.
 const GIVERS: u32 = 8;
 
-// At how many slots of each of them the search looks at most.
+// The most slots that are tried of each of them.
 const LOOKS: usize = 32;
 
-// How often all slots are gone through at most.
+// The most passes over all slots.
 const TURNS: u32 = 3;
 
-// One that joins gives the slot at one place back to its owner before, and gets the one at the other.
+// A joining member gives the slot at `place` back to its former owner, and gets the one at `other`.
 #[derive(Clone, Copy)]
 struct Swap {
     place: usize,
     other: usize,
 }
 
-// Whether the node may stand in the place of another of the partition: no two slots more are in one rack.
+// Whether the new node may replace the old one: no more slots share a rack.
 fn suits(seats: &Seats, partition: usize, new: u32, old: u32) -> bool {
     let racks = &seats.members.racks;
     let (to, from) = (racks.of(new), racks.of(old));
     to == from || seats.count(partition, to) < seats.count(partition, from)
 }
 
-// How much farther from what it shall store the node is with so much more, by the squares of the distances and its weight.
+// How much farther from its share the node is with `more`, by squared distance and weight.
 fn farther(seats: &Seats, node: u32, more: i64) -> i128 {
     let over = i128::from(seats.volumes.over(node));
     let more = i128::from(more);
@@ -48,7 +48,7 @@ fn parts(seats: &Seats, place: usize) -> i64 {
 }
 
 impl Swap {
-    // Whether it leaves no two slots more in one rack, and no more slots on nodes that join in one partition.
+    // Whether no more slots share a rack, and no more joining owners share a partition.
     fn is_possible(&self, seats: &Seats) -> bool {
         let (here, there) = (seats.partition(self.place), seats.partition(self.other));
         let (taker, giver) = (seats.now(self.place), seats.now(self.other));
@@ -60,8 +60,8 @@ impl Swap {
             && suits(seats, here, seats.first(self.place), taker)
     }
 
-    // How much farther from what they shall store those of the exchange are, where the one that joins does not pass its share, nor lacks more than so much,
-    // unless it lacks less than before.
+    // How much farther from their shares both members are. The joining member must not exceed its share, nor lack more
+    // than `slack` unless that was so before.
     fn cost(&self, seats: &Seats, slack: i64) -> Option<i128> {
         let (here, there) = (parts(seats, self.place), parts(seats, self.other));
         let (taker, giver) = (seats.now(self.place), seats.now(self.other));
@@ -93,10 +93,9 @@ impl Swap {
     }
 }
 
-// Where to look for exchanges.
 #[derive(Drop)]
 struct Swapping<'a> {
-    // by node, the places of the slots with keys that it owned before, the largest first
+    // by node, the places of its former slots with keys, the largest first
     owned: &'a Grouped,
     fullest: Ranks,
     givers: Vec<u32>,
@@ -104,7 +103,7 @@ struct Swapping<'a> {
 }
 
 impl<'a> Swapping<'a> {
-    // The place in the node's group of the first slot that is not larger.
+    // The first of the node's slots that is not larger.
     fn first_to(&self, seats: &Seats, node: u32, most: i64) -> usize {
         let (mut low, mut high) = (
             self.owned.start(node as usize),
@@ -124,7 +123,7 @@ impl<'a> Swapping<'a> {
         low
     }
 
-    // The best exchange of the slot for one of the node's, if one is better than that.
+    // The best exchange for one of the node's slots, if better than `best`.
     fn best_of(
         &self,
         seats: &Seats,
@@ -153,7 +152,7 @@ impl<'a> Swapping<'a> {
         found
     }
 
-    // Exchanges the slot, where a member that stays owned it before and one that joins owns it now. Answers whether it did.
+    // Exchanges the slot, if a joining member took it from a staying one. Returns whether it did.
     fn swap(&mut self, seats: &mut Seats, place: usize) -> Result<bool, Refusal> {
         let (owner, partition) = (seats.first(place), seats.partition(place));
         let is_taken = seats.members.role(owner) == Role::Stays
@@ -179,8 +178,10 @@ impl<'a> Swapping<'a> {
     }
 }
 
-/// Exchanges slots that nodes that join took of others for slots of a near size, where what members store comes nearer to what they shall. Each node's slots with
-/// keys before, the largest first, are in its group.
+/// Exchanges slots taken by joining members for slots of a near size, if that brings members closer to their
+/// shares.
+///
+/// `owned` has each node's former slots with keys, the largest first.
 pub(crate) fn swap_all(alloc: Global, seats: &mut Seats, owned: &Grouped) -> Result<(), Refusal> {
     let mut swapping = Swapping {
         owned,

@@ -1,4 +1,4 @@
-//! The member that takes a slot which nobody owns.
+//! Finds the member that takes a free slot.
 
 use crate::ranks::{NOBODY, Ranks, Who, sooner};
 use find_flow::Seats;
@@ -6,16 +6,16 @@ use helpers::NONE;
 use ring_names::Refusal;
 use std::alloc::Global;
 
-/// Members by how soon they take slots.
+/// Members by their rank as takers.
 #[derive(Drop)]
 pub struct Takers {
     ranks: Ranks,
-    // from where to where members may not take a slot, in the order of the racks
+    // ranges of members that may not take a slot, in the order of racks
     blocked: Vec<(u32, u32)>,
 }
 
 impl Takers {
-    /// No member is known yet.
+    /// Starts without members.
     pub fn new(alloc: Global, who: Who) -> Takers {
         Takers {
             ranks: Ranks::new(alloc, who),
@@ -23,12 +23,12 @@ impl Takers {
         }
     }
 
-    /// All members have their ranks.
+    /// Sets the ranks of all members.
     pub fn fill(&mut self, alloc: Global, seats: &Seats) -> Result<(), Refusal> {
         self.ranks.fill(alloc, seats)
     }
 
-    /// The member that comes first of all, if one is left.
+    /// Returns the first member, if one is left.
     pub fn head(&self) -> Option<u32> {
         self.ranks.head()
     }
@@ -38,12 +38,11 @@ impl Takers {
         self.ranks.is_empty()
     }
 
-    /// The member's rank is another.
+    /// Updates the member's rank.
     pub fn renew(&mut self, seats: &Seats, node: u32) {
         self.ranks.renew(seats, node);
     }
 
-    // Those that own a slot of the partition, or did before.
     fn block_owners(&mut self, seats: &Seats, partition: usize) -> Result<(), Refusal> {
         for index in 0..seats.slots {
             let place = seats.place(partition, index);
@@ -57,7 +56,6 @@ impl Takers {
         Ok(())
     }
 
-    // The rack, where the partition has no room for it.
     fn block_rack(&mut self, seats: &Seats, partition: usize, rack: usize) -> Result<(), Refusal> {
         let racks = &seats.members.racks;
         let count = seats.count(partition, rack);
@@ -68,7 +66,7 @@ impl Takers {
         Ok(())
     }
 
-    // All racks without room. Where no rack must have a slot these are among those that have one.
+    // Blocks all racks without room. If no rack must have a slot, only racks with a slot can be full.
     fn block_racks(&mut self, seats: &Seats, partition: usize) -> Result<(), Refusal> {
         if seats.members.racks.level > 0 {
             for rack in seats.members.racks.with_members.iter() {
@@ -84,7 +82,7 @@ impl Takers {
         Ok(())
     }
 
-    /// The member that comes first of those that may take a slot of the partition which nobody owns, if there is one.
+    /// Returns the first member that may take a free slot of the partition.
     pub fn taker(&mut self, seats: &Seats, partition: usize) -> Result<Option<u32>, Refusal> {
         self.blocked.clear();
         self.block_owners(seats, partition)?;
@@ -92,7 +90,7 @@ impl Takers {
         Ok(self.first())
     }
 
-    /// The member that comes first of those that may take a slot of the partition which somebody of that rack gave: no two slots more are in one rack.
+    /// Returns the first member that may take a slot given by this rack: no more slots may share a rack.
     pub fn heir(
         &mut self,
         seats: &Seats,
@@ -112,7 +110,6 @@ impl Takers {
         Ok(self.first())
     }
 
-    // The member that comes first of those that are not blocked.
     fn first(&mut self) -> Option<u32> {
         self.blocked.sort_unstable();
         let mut first = NOBODY;

@@ -1,11 +1,10 @@
-//! The slots that move because too many of their partition are in one rack.
+//! Slots that move because a rack has too many of their partition.
 
 use find_flow::Seats;
 use helpers::NONE;
 use std::cmp::Reverse;
 
-// How much it is that a slot moves: the greatest first. Those of a rack above its most come first, then those whose owner has many slots for its
-// weight.
+// The order of moving slots, the greatest first: racks above their most, then owners with many slots by weight.
 #[derive(Clone, Copy, PartialEq, Eq, PartialOrd, Ord, Drop)]
 struct Excess {
     is_above: bool,
@@ -31,7 +30,6 @@ fn excess_of(seats: &Seats, partition: usize, place: usize) -> Option<Excess> {
     })
 }
 
-// Whether the slot is the last of its rack in the partition.
 fn is_last(seats: &Seats, partition: usize, place: usize) -> bool {
     let rack = seats.rack_at(place);
     let end = seats.place(partition, seats.slots);
@@ -43,7 +41,7 @@ fn is_last(seats: &Seats, partition: usize, place: usize) -> bool {
     seats.now(place) != NONE
 }
 
-// How many racks have more slots of the partition than they must have.
+// How many racks exceed their minimum in the partition.
 fn above(seats: &Seats, partition: usize) -> u32 {
     let mut above = 0u32;
     for index in 0..seats.slots {
@@ -71,7 +69,7 @@ fn next(seats: &Seats, partition: usize) -> Option<usize> {
     None
 }
 
-/// Takes from their owners as few slots as it needs that each partition can be spread over the racks as it shall be, once these slots go to others.
+/// Takes as few slots as possible from their owners, so that all partitions can be spread over the racks.
 pub fn thin(seats: &mut Seats) {
     for partition in 0..seats.partitions {
         for _ in 0..seats.slots {

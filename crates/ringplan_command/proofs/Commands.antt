@@ -57,7 +57,7 @@ by_word Play = refl
 by_word Plan = refl
 by_word Replay = refl
 
--- a job's word alone asks for it
+-- a line of only a job's word asks for the job
 pub asked_alone : (job : Job) (words : List (List ℕ)) → drop 1 words ≡ word_of job ∷ [] → asked words ≡ only job
 unfolding behind
 asked_alone job words e = ap behind e ∙ by_word job
@@ -131,7 +131,7 @@ bad_form sub task text is some other = inr (inr (inl (text, ap (λ (t : Task). j
 pub drive_given : (sub : Option (List ℕ × List Row)) → task_named sub ≡ to_drive → asked_by [] sub ≡ by_drive (option_named (codes "workers") sub) (format_named sub)
 drive_given sub is = rw is refl
 
--- one whose text is no number is refused
+-- one whose text is not a number is refused
 pub bad_given : (sub : Option (List ℕ × List Row)) → task_named sub ≡ to_do Check → HasNoNumber 64 (option_named (codes "workers") sub) → IsRefused (asked_by [] sub)
 bad_given sub is h = inr (inl (rw is h))
 
@@ -140,7 +140,7 @@ bad_driven sub is h = inr (inl (rw is h))
 
 module _ {E : Type 0} (G : List ℕ → Result ℕ E → Type 0) (parses : (bs : List ℕ) (s : Result ℕ E) → G bs s → ParsesUnsigned 32 10 bs s) (o : Option (List ℕ)) (r : Result (Option ℕ) E)
     (none : o ≡ None → r ≡ Ok None) (value : (t : List ℕ) → o ≡ Some t → TriesOne G t r) where
-  -- nothing is read where there is no text
+  -- nothing is read if there is no text
   pub nothing_read : r ≡ Ok None → o ≡ None
   nothing_read is = by o refl
     where
@@ -170,7 +170,7 @@ none_helped : (kinds : Kinds) → kinds ≡ [] → WantsHelp kinds → ⊥
 none_helped kinds e (inl h) = let P : Kinds → Type 0 = IsAmong DisplayHelp in subst P e h
 none_helped kinds e (inr h) = let P : Kinds → Type 0 = IsAmong DisplayVersion in subst P e h
 
--- a line that asks for a job alone is not refused
+-- a line that asks only for a job is not refused
 none_refused : (job : Job) (asked : Asked) → asked ≡ only job → IsRefused asked → ⊥
 none_refused job asked e (inl h) = none_mistaken _ (ap (λ x. x.faults) e) h
 none_refused job asked e (inr (inl (t, is, h))) = let none : Some t ≡ None = sym is ∙ ap (λ x. x.workers) e in absurd cc
@@ -272,7 +272,7 @@ guide_asked sub guide is = rw is refl
 
 -- ---- parts
 
--- a share is meant where no range is named, or none is
+-- without a named range, what is meant is a share or nothing
 pub share_means : (t : PartTexts) (o : Option Choice) → t.partitions ≡ None
     → MatchOption o ((of part : ℕ) → IsShare t.of t.part of part → ⊥) (λ choice. (of : ℕ) × (part : ℕ) × (choice ≡ Share of part) × IsShare t.of t.part of part)
     → MatchOption o ((choice : Choice) → MeansChoice t choice → ⊥) (λ choice. MeansChoice t choice)
@@ -313,7 +313,7 @@ no_job (Describe _) is job = is
 no_job (Help _) is job = job
 no_job OutOfMemory is job = job
 
--- a line that asks for a job alone is taken for that
+-- a line that asks only for a job is taken for that
 pub job_asked : (job : Job) (asked : Asked) (r : Request) → asked ≡ only job → Answers asked r → (r ≡ Do job) ⊎ (r ≡ OutOfMemory)
 job_asked job asked (Do other) e h =
     let same : only other ≡ only job = sym h ∙ e in
@@ -335,7 +335,7 @@ job_asked job asked (Help text) e h = absurd (none_helped _ (ap (λ x. x.faults)
 job_asked job asked (Mistaken text) e h = absurd (none_refused job asked e h)
 job_asked job asked OutOfMemory e h = inr refl
 
--- a line of a job's word alone names no files
+-- a line of only a job's word names no files
 files_behind : List (List ℕ) → Names
 files_behind rest = files_named (entered (built ringplan) (stop_after (built ringplan).top.rules (names_of (built ringplan)) rest))
 

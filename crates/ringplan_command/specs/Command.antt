@@ -50,7 +50,9 @@ word_of_making (Windows cut) = people.Windows
 word_of_making Cert = people.Cert
 word_of_making After = people.After
 
--- what is to be done: a job, a part, a watch with the text of the number of entries after which it says how far it is, a drive, what a command for people makes by the rows of its options, or a text about the program
+-- what is to be done: a job, a part, a watch, a drive, or a text about the program. Or what a command for
+-- people makes by the rows of its options. A watch has the text of the number of entries after which it says
+-- how far it is
 pub data Task : Type 0 where
   to_do : Job → Task
   to_part : PartTexts → Task
@@ -59,7 +61,8 @@ pub data Task : Type 0 where
   to_make : Word → List Row → Task
   to_describe : Guide → Task
 
--- what the words of a command line ask: how they fail, and where they do not, what is to be done, and the texts of the workers and of the form that are named
+-- what the words of a command line ask: how they fail, or otherwise what is to be done. Also the texts of the
+-- named workers and of the named form
 pub record Asked : Type 0 where
   pub faults : Kinds
   pub task : Task
@@ -200,7 +203,7 @@ IsMistaken kinds = (k : ErrorKind) × (k ≢ DisplayHelp) × (k ≢ DisplayVersi
 abbrev pub HasNoFormat : Asked → Type 0
 HasNoFormat asked = (text : List ℕ) × (asked.json ≡ Some text) × (text ≢ codes "json")
 
--- what was read of the text of the form of answers
+-- what was read of the text that names the form of answers
 abbrev pub MeansFormat : Option (List ℕ) → Format → Type 0
 MeansFormat json format.Text = json ≡ None
 MeansFormat json format.Json = json ≡ Some (codes "json")
@@ -230,7 +233,8 @@ AsksPart asked wish = (texts : PartTexts) × (asked ≡ asks_just (to_part texts
 abbrev pub AsksWatch : Asked → ℕ → Type 0
 AsksWatch asked every = (text : Option (List ℕ)) × (asked ≡ asks_just (to_watch text)) × IsCount 4294967295 0 text every
 
--- the subcommand has an argument with a value that may be refused beside the words of the line; of a part its words mean none
+-- the subcommand has an argument with a value that may be refused beside the words of the line. For a part, the
+-- words mean no part
 abbrev pub TakesValues : Task → Type 0
 TakesValues (to_make people.Why rows) = ⊤
 TakesValues (to_make people.Show rows) = ⊤
@@ -244,7 +248,7 @@ TakesValues (to_part texts) = (wish : PartWish) → MeansPart texts wish → ⊥
 TakesValues (to_watch text) = HasNoNumber 4294967295 text
 TakesValues task = ⊥
 
--- the line is refused: for its words, for its workers, for the form of its answer, or for such a value
+-- the line is refused: for its words, its workers, the form of the answer, or such a value
 abbrev pub IsRefused : Asked → Type 0
 IsRefused asked = IsMistaken asked.faults ⊎ (HasNoNumber 64 asked.workers ⊎ (HasNoFormat asked ⊎ ((task : Task) × (asked ≡ asks_just task) × TakesValues task)))
 
@@ -268,7 +272,8 @@ abbrev pub IsTurnedAway : Request → Type 0
 IsTurnedAway (Mistaken text) = ⊤
 IsTurnedAway _ = ⊥
 
--- of a request for text and one for JSON, the line is the one that the form names; for no form it is refused
+-- of a request for text and another for JSON, the line is the one that the form names. Without a form it is
+-- refused
 abbrev pub IsInFormat : Format → Request → Request → Request → Type 0
 IsInFormat format.Text plain stated line = line ≡ plain
 IsInFormat format.Json plain stated line = line ≡ stated

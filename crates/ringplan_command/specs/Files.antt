@@ -8,7 +8,8 @@ use Rattle.ringplan_command.specs.declared.command.Request.{Request}
 use Rattle.ringplan_command.specs.declared.command.Request.TheVariants.{Do, CheckBy, State, StateBy, Part, Watch, Drive, Make, Describe}
 use Rattle.ringplan_command.specs.declared.files.Files.{Files}
 
--- the names of the files that are read one after the other, and of the one that is written; none if only the standard streams are
+-- the names of the files that are read one after the other, and of the file that is written. None if only the
+-- standard streams are
 pub record Names : Type 0 where
   pub inputs : List (List ℕ)
   pub output : Option (List ℕ)

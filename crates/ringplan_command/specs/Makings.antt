@@ -67,7 +67,8 @@ HasNoRacks rows = (rule : RackRule) → MeansRacks (first_of (codes "racks-behin
 abbrev pub left_texts : List Row → List (List ℕ)
 left_texts rows = unwrap_or (all_of (codes "leave") rows) []
 
--- nothing is to change: neither a dead node is named nor a file that may name one, no slot is to stay, and no rest is asked for
+-- nothing is to change. Neither a dead node is named nor a file that may name one, no slot is to stay, and no
+-- rest is asked for
 abbrev pub NamesNoDetour : List Row → Type 0
 NamesNoDetour rows = (unwrap_or (all_of (codes "dead") rows) [] ≡ []) × (but_dash (first_of (codes "layout") rows) ≡ None)
     × (left_texts rows ≡ []) × IsUnset (codes "rest") rows

@@ -22,7 +22,7 @@ abbrev pub IsNumberNamed : ℕ → ℕ → Option (List ℕ) → Option ℕ → 
 IsNumberNamed least most named None = named ≡ None
 IsNumberNamed least most named (Some k) = (text : List ℕ) × (named ≡ Some text) × IsNumberFrom least most text k
 
--- what is named is no number from the one to the other
+-- what is named is not a number from the one to the other
 abbrev pub HasNoNumberFrom : ℕ → ℕ → Option (List ℕ) → Type 0
 HasNoNumberFrom least most named = (text : List ℕ) × (named ≡ Some text) × ((k : ℕ) → IsNumberFrom least most text k → ⊥)
 

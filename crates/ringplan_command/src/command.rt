@@ -27,7 +27,7 @@ use ringplan_job::{Job, Making, Screen};
 use std::alloc::{AllocError, Global};
 use std::convert::AsStr;
 
-/// What a command line asks for, and the files that it names.
+/// A command line's request, and the files that it names.
 #[derive(Debug, Drop)]
 pub struct CommandLine {
     pub request: Request,
@@ -37,34 +37,34 @@ pub struct CommandLine {
 /// What a command line asks for.
 #[derive(Debug, Drop)]
 pub enum Request {
-    /// To do something with a bundle.
+    /// Does a job with a bundle.
     Do(Job),
-    /// To check a bundle by that many workers, 1 to 64.
+    /// Checks a bundle with 1 to 64 workers.
     CheckBy(u32),
-    /// To do something with a bundle, and to print the answer as JSON.
+    /// Does a job with a bundle, and prints the answer as JSON.
     State(Job),
-    /// To check a bundle by that many workers, 1 to 64, and to print the answer as JSON.
+    /// Checks a bundle with 1 to 64 workers, and prints the answer as JSON.
     StateBy(u32),
-    /// To cut a bundle's history, of any length, to a part.
+    /// Cuts a bundle's history, of any length, to a part.
     Part(PartWish),
-    /// To judge a history while it is read, by the bundle in the file that is named, and to print how far it is after each so many entries, unless that
-    /// number is 0.
+    /// Judges a history while it is read, by the bundle in the named file. Prints its progress after every so many
+    /// entries, unless 0.
     Watch(u32),
-    /// To run a bundle's plan by that many workers, 1 to 64, with a client for each script, and to print its outcome in that form.
+    /// Runs a bundle's plan with 1 to 64 workers and a client for each script, and prints the outcome.
     Drive(u32, Form),
-    /// To make something of a bundle for people, by what is known of nodes and partitions.
+    /// Makes something for people from a bundle, given options on nodes and partitions.
     Make(Making, Options),
-    /// To print this text about the program.
+    /// Prints this text about the program.
     Describe(Vec<u8>),
-    /// To be told how to use the program, or its version, by this text.
+    /// Prints this text of help, or the version.
     Help(Vec<u8>),
-    /// Nothing that there is; this text goes to standard error.
+    /// Prints this fault of the command line on standard error.
     Mistaken(Vec<u8>),
-    /// What it asks is not known, since memory was refused.
+    /// Unknown, since memory ran out.
     OutOfMemory,
 }
 
-// The making with words that have colours always or never, as they have on that screen.
+// Decides when the making's words have colours on the screen.
 fn painted(making: Making, screen: Screen) -> Making
     ensures word { word_of_making result ≡ word_of_making making }
     ensures means { (rows : List Row) (options : OptionsValue) → MeansMaking rows making options → MeansMaking rows result options }
@@ -77,7 +77,7 @@ fn painted(making: Making, screen: Screen) -> Making
 }
 
 impl Request {
-    /// The request, with words that have colours always or never, as they have on that screen.
+    /// Decides when the request's words have colours on the screen.
     pub fn on(self, screen: Screen) -> Request
         ensures { (asked : Asked) → Answers asked self → Answers asked result }
     {
@@ -87,7 +87,6 @@ impl Request {
         }
     }
 
-    // Whether the line names files for it.
     fn is_job(&self) -> bool
         ensures { IsTrue result ↔ IsJob self.now }
     {
@@ -106,7 +105,7 @@ pub fn parse<S: AsStr>(alloc: Global, words: &[S]) -> CommandLine
     ensures kinds { Answers (asked (map S.text words.now)) result.request }
     ensures job { (job : Job) → drop 1 (map S.text words.now) ≡ word_of job ∷ []
         → (result.request ≡ Request.Do job) ⊎ (result.request ≡ Request.OutOfMemory) }
-    // The files are those that the line names; a line that asks for no job names none.
+    // The files are those named. A line without a job names none.
     ensures files { (files_in result.files ≡ files_of (map S.text words.now))
         ⊎ ((files_in result.files ≡ no_files) × (IsJob result.request → ⊥)) }
 {
@@ -116,7 +115,6 @@ pub fn parse<S: AsStr>(alloc: Global, words: &[S]) -> CommandLine
     }
 }
 
-// A line that names no files.
 fn alone(alloc: Global, request: Request) -> CommandLine
     ensures request { result.request ≡ request }
     ensures files { files_in result.files ≡ no_files }
@@ -148,7 +146,7 @@ fn try_parse<S: AsStr>(alloc: Global, words: &[S]) -> Result<CommandLine, AllocE
     }
 }
 
-// The text of a refused line, and what to type in place of a word that there was.
+// The text of a refused line, with the successor of a former word.
 fn with_successor(text: String) -> Result<Vec<u8>, AllocError> {
     let mut text = text;
     for (fault, usage, words) in SUCCESSORS.iter() {
@@ -159,7 +157,6 @@ fn with_successor(text: String) -> Result<Vec<u8>, AllocError> {
     Ok(text.into_bytes())
 }
 
-// A line without a fault.
 fn line_of(alloc: Global, matches: &ArgMatches) -> Result<CommandLine, AllocError>
     ensures kinds { IfOk result (λ line. Answers (asked_by [] (subcommand_rows_of matches.now)) line.request) }
     ensures files { IfOk result (λ line. (files_in line.files ≡ files_named (subcommand_rows_of matches.now))
@@ -173,7 +170,6 @@ fn line_of(alloc: Global, matches: &ArgMatches) -> Result<CommandLine, AllocErro
     Ok(CommandLine { request, files })
 }
 
-// What a line without a fault asks for.
 fn request_of(alloc: Global, matches: &ArgMatches) -> Result<Request, AllocError>
     ensures { IfOk result (Answers (asked_by [] (subcommand_rows_of matches.now))) }
 {
@@ -199,7 +195,6 @@ fn request_of(alloc: Global, matches: &ArgMatches) -> Result<Request, AllocError
     }
 }
 
-// What a line that asks for a check asks for, by the workers that it names.
 fn check_line(alloc: Global, matches: &ArgMatches) -> Result<Request, AllocError>
     requires { task_named (subcommand_rows_of matches.now) ≡ to_do Job.Check }
     ensures { IfOk result (Answers (asked_by [] (subcommand_rows_of matches.now))) }
@@ -225,7 +220,6 @@ fn check_line(alloc: Global, matches: &ArgMatches) -> Result<Request, AllocError
     }
 }
 
-// What a line that asks for a replay asks for, by the form of the answer that it names.
 fn replay_line(alloc: Global, matches: &ArgMatches) -> Result<Request, AllocError>
     requires { task_named (subcommand_rows_of matches.now) ≡ to_do Job.Replay }
     ensures { IfOk result (Answers (asked_by [] (subcommand_rows_of matches.now))) }
@@ -242,7 +236,6 @@ fn replay_line(alloc: Global, matches: &ArgMatches) -> Result<Request, AllocErro
     )
 }
 
-// What a line that asks for a part asks for.
 fn part_line(alloc: Global, matches: &ArgMatches) -> Result<Request, AllocError>
     requires { task_named (subcommand_rows_of matches.now) ≡ to_part (part_texts (subcommand_rows_of matches.now)) }
     ensures { IfOk result (Answers (asked_by [] (subcommand_rows_of matches.now))) }
@@ -256,7 +249,6 @@ fn part_line(alloc: Global, matches: &ArgMatches) -> Result<Request, AllocError>
     }
 }
 
-// What a line that asks for a watch asks for.
 fn watch_line(alloc: Global, matches: &ArgMatches) -> Result<Request, AllocError>
     requires { task_named (subcommand_rows_of matches.now) ≡ to_watch (option_named (codes "every") (subcommand_rows_of matches.now)) }
     ensures { IfOk result (Answers (asked_by [] (subcommand_rows_of matches.now))) }
@@ -271,7 +263,6 @@ fn watch_line(alloc: Global, matches: &ArgMatches) -> Result<Request, AllocError
     }
 }
 
-// What a line that asks for a drive asks for, by the workers and the form that it names.
 fn drive_line(alloc: Global, matches: &ArgMatches) -> Result<Request, AllocError>
     requires { task_named (subcommand_rows_of matches.now) ≡ to_drive }
     ensures { IfOk result (Answers (asked_by [] (subcommand_rows_of matches.now))) }
@@ -287,7 +278,6 @@ fn drive_line(alloc: Global, matches: &ArgMatches) -> Result<Request, AllocError
     }
 }
 
-// A drive by that many workers, printed in that form.
 fn drive_by(alloc: Global, format: Format, workers: u32) -> Result<Request, AllocError>
     ensures { IfOk result (IsInFormat format (Request.Drive workers Form.History) (Request.Drive workers Form.Report)) }
 {
@@ -299,7 +289,6 @@ fn drive_by(alloc: Global, format: Format, workers: u32) -> Result<Request, Allo
     )
 }
 
-// What a line with a command for people asks for.
 fn making_line(alloc: Global, matches: &ArgMatches, word: Word) -> Result<Request, AllocError>
     requires { task_named (subcommand_rows_of matches.now) ≡ to_make word (rows_named (subcommand_rows_of matches.now)) }
     ensures { IfOk result (Answers (asked_by [] (subcommand_rows_of matches.now))) }
@@ -310,7 +299,6 @@ fn making_line(alloc: Global, matches: &ArgMatches, word: Word) -> Result<Reques
     make_line(alloc, options, word)
 }
 
-// What a line that asks for a text about the program asks for.
 fn guide_line(alloc: Global, matches: &ArgMatches, guide: Guide) -> Result<Request, AllocError>
     requires { task_named (subcommand_rows_of matches.now) ≡ to_describe guide }
     ensures { IfOk result (Answers (asked_by [] (subcommand_rows_of matches.now))) }
@@ -321,7 +309,7 @@ fn guide_line(alloc: Global, matches: &ArgMatches, guide: Guide) -> Result<Reque
     write_guide(alloc, options, guide)
 }
 
-/// What is said of the form of an answer: text, which is also what no word names, JSON, or none that there is.
+/// The form of an answer: text, also by default, JSON, or an unknown word.
 #[derive(Clone, Copy)]
 pub(crate) enum Format {
     Text,
@@ -329,7 +317,6 @@ pub(crate) enum Format {
     Unknown,
 }
 
-/// The form of an answer that is named.
 pub(crate) fn format_of(options: &ArgMatches) -> Format
     ensures { MeansFormat (but_text (first_of (codes "format") (rows_of (found_of options.now)))) result }
 {
@@ -347,7 +334,7 @@ pub(crate) fn format_of(options: &ArgMatches) -> Format
     }
 }
 
-// Of a request for text and one for JSON, the one that the form names. A form that there is not is refused.
+// Chooses between a request for text and one for JSON. An unknown form is refused.
 fn in_format(
     alloc: Global,
     format: Format,
@@ -363,7 +350,6 @@ fn in_format(
     }
 }
 
-// The job that is named by the subcommand.
 fn job_of(matches: &ArgMatches) -> Job
     ensures { result ≡ job_named (subcommand_rows_of matches.now) }
 {

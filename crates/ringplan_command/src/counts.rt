@@ -1,17 +1,16 @@
-//! Numbers that a command line names.
+//! Numbers on a command line.
 
 ghost use Rattle.clap.specs.Words.{found_of, one_text};
 ghost use Rattle.ringplan_command.specs.Numbers.{MeansCount};
 
 use clap::ArgMatches;
 
-/// The most parts of a history that there may be.
+/// The most parts of a history.
 pub const MOST_PARTS: u32 = 4_096;
 
-/// The most workers that there may be.
 pub(crate) const MOST_WORKERS: u32 = 64;
 
-/// What is said of a number: nothing, which it is, or what is none from the least to the most that may be.
+/// A number on the line: none, a number, or one outside its range.
 #[derive(Clone, Copy)]
 pub(crate) enum Count {
     Unnamed,
@@ -19,7 +18,6 @@ pub(crate) enum Count {
     NoNumber,
 }
 
-/// The number that is named so.
 pub(crate) fn count_of(options: &ArgMatches, word: &str, least: u32, most: u32) -> Count
     ensures { MeansCount least most (one_text (found_of options.now) word.now) result }
 {

@@ -13,14 +13,13 @@ use std::alloc::{AllocError, Global};
 /// The files that a command line names.
 #[derive(Debug, Drop)]
 pub struct Files {
-    /// What is read, one file after the other, with `-` for standard input. If there are none, standard input is read.
+    /// The inputs, read one after the other. `-` is standard input, which is also read if there are none.
     pub inputs: Vec<String>,
-    /// What is written; standard output if there is none.
+    /// The output; standard output by default.
     pub output: Option<String>,
 }
 
 impl Files {
-    /// No files.
     pub(crate) fn none(alloc: Global) -> Files
         ensures { files_in result ≡ no_files }
     {
@@ -30,7 +29,6 @@ impl Files {
         }
     }
 
-    /// The files that the subcommand names.
     pub(crate) fn of(alloc: Global, matches: &ArgMatches) -> Result<Files, AllocError>
         ensures { IfOk result (λ f. files_in f ≡ files_named (subcommand_rows_of matches.now)) }
     {
@@ -43,7 +41,7 @@ impl Files {
     }
 }
 
-// The files that are read; none if all of them are `-`.
+// The input files; none if all are `-`.
 fn inputs_of(alloc: Global, options: &ArgMatches) -> Result<Vec<String>, AllocError>
     ensures { IfOk result (λ inputs. map string_bytes inputs.items
         ≡ but_dashes (unwrap_or (all_of (codes "file") (rows_of (found_of options.now))) [])) }
@@ -55,28 +53,25 @@ fn inputs_of(alloc: Global, options: &ArgMatches) -> Result<Vec<String>, AllocEr
     Ok(texts)
 }
 
-// Whether the text is `-`.
 fn is_dash(text: &String) -> bool
     ensures { result ≡ bytes_eq (string_bytes text.now) (codes "-") }
 {
     text.as_str() == "-"
 }
 
-// Whether each of the texts is.
 fn each_is_dash(texts: &[String]) -> bool
     ensures { result ≡ list_all (λ text. bytes_eq (string_bytes text) (codes "-")) texts.now }
 {
     texts.iter().all(|text| is_dash(text))
 }
 
-// Whether the names are all `-`.
 fn are_dashes(texts: &[String]) -> bool
     ensures { result ≡ are_dashes (map string_bytes texts.now) }
 {
     each_is_dash(texts)
 }
 
-/// The text of an argument; `-` stands for a standard stream, as no text does.
+/// Returns the text of an argument. `-` means a standard stream, as no text does.
 pub(crate) fn named(
     alloc: Global,
     options: &ArgMatches,

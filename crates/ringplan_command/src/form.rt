@@ -5,6 +5,6 @@
 pub enum Form {
     /// As its history.
     History,
-    /// As a report: one line of JSON, with the history, who finished each step, and how many workers there were.
+    /// As one line of JSON: the history, who finished each step, and the number of workers.
     Report,
 }

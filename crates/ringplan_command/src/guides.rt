@@ -1,4 +1,4 @@
-//! What a line that asks for a text about the program asks for.
+//! Texts about the program.
 
 ghost use Rattle.std.specs.Prelude.{IfOk};
 ghost use Rattle.ringplan_command.specs.Command.{IsOfGuide};
@@ -13,7 +13,6 @@ use crate::word::Guide;
 use clap::ArgMatches;
 use std::alloc::{AllocError, Global};
 
-/// What a line that asks for that text, with these options, asks for.
 pub(crate) fn write_guide(
     alloc: Global,
     options: &ArgMatches,
@@ -27,7 +26,6 @@ pub(crate) fn write_guide(
     }
 }
 
-// What a line with the word `completions` asks for.
 fn completions_line(alloc: Global, options: &ArgMatches) -> Result<Request, AllocError>
     ensures { IfOk result (IsOfGuide Completions) }
 {

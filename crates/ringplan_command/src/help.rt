@@ -1,6 +1,6 @@
 //! The texts of help, and of command lines that are refused.
 
-/// The version of the program, and of the logic in which it is proved: the last word of `rt version`.
+/// The versions of the program and its proofs' logic, which is the last word of `rt version`.
 pub(crate) const VERSION: &str = "1.0.0 (Rattle logic dac8208d650f15bf)";
 
 pub(crate) const ABOUT: &str =
@@ -92,7 +92,7 @@ pub(crate) const FORMAT: &str =
     "Prints the answer as text or as json, one object; without it as text";
 
 pub(crate) const COLOR: &str =
-    "Colours the words: auto, at a terminal where NO_COLOR is not set, always or never; without it auto";
+    "Colours the words: auto, at a terminal if NO_COLOR is not set, always or never; without it auto";
 
 pub(crate) const WORKERS: &str =
     "Checks the partitions by K threads, 1 to 64, and the paths by as many as there are processors; the answer is the same";
@@ -118,31 +118,31 @@ pub(crate) const RATE: &str =
     "Says when the plan can end at the earliest, if one transfer copies N of a size in a second, 1 to 4294967295; wants --layout";
 
 pub(crate) const DEAD: &str =
-    "A node that is dead for good: a plan that is made asks nothing of it and lets it leave, and what is shown counts it as dead; write a name that begins with - as --dead=-NAME";
+    "A node that is dead for good: no step of the plan needs it, and it leaves; what is shown counts it as dead; write a name that begins with - as --dead=-NAME";
 
 pub(crate) const GONE: &str =
-    "A node that is dead from here on: no step that is to come asks anything of it; write a name that begins with - as --dead=-NAME";
+    "A node that is dead from here on: no later step needs it; write a name that begins with - as --dead=-NAME";
 
 pub(crate) const BACK: &str =
-    "Takes mirrors back that no copy can fill any more: the store must let go of them, as docs/STORES.md says; with --rest also those whose copies have no chunk";
+    "Undoes mirrors that no copy can fill any more: the store must let go of them, as docs/STORES.md says; with --rest also those whose copies have no chunk";
 
 pub(crate) const REST: &str = "Ends the moves that have begun, and begins no others";
 
 pub(crate) const LEAVE: &str =
-    "A slot that stays with its owner, by its partition and its index; a mirror of it is taken back; may stand several times";
+    "A slot that stays with its owner, by its partition and its index; its mirror is undone; may stand several times";
 
 pub(crate) const ALL_SLOTS: &str =
     "Says in a line for each slot what becomes of it; without it only how many slots there are at each node";
 
 pub(crate) const PARTIAL: &str =
-    "Plans the rest if partitions cannot be read, since fewer than R of their owners live: the slots of these stay as they are";
+    "Plans the rest if partitions cannot be read, because fewer than R of their owners live: the slots of these stay as they are";
 
 pub(crate) const EXIT_CODE: &str =
-    "Ends with status 4 where the plan that is printed has steps, and with 0 where it has none";
+    "Ends with status 4 if the plan that is printed has steps, and with 0 if it has none";
 
 pub(crate) const ROUNDS: &str = "How many rounds of copies a window has, 1 to 1000000";
 
-pub(crate) const ONLY: &str = "Prints the window of that number alone, counted from 1";
+pub(crate) const ONLY: &str = "Prints only the window of that number, counted from 1";
 
 pub(crate) const NO_WORKERS: &[u8; 105] =
     b"error: invalid value for '--workers <K>': not a number from 1 to 64\n\nFor more information, try '--help'.\n";
@@ -174,14 +174,14 @@ pub(crate) const NO_DETOUR: &[u8; 138] =
 pub(crate) const NO_SLOT: &[u8; 121] =
     b"error: invalid value for '--leave <P.I>': not a partition and an index, such as 3.1\n\nFor more information, try '--help'.\n";
 
-/// What is said of words or options that are no text.
+/// The answer to words or options that are not text.
 pub const NO_WORDS: &[u8; 123] =
     b"error: invalid UTF-8 was detected in one or more arguments\n\nUsage: ringplan <COMMAND>\n\nFor more information, try '--help'.\n";
 
 pub(crate) const NO_SHELL: &[u8; 95] =
     b"error: invalid value for '<SHELL>': not bash, zsh or fish\n\nFor more information, try '--help'.\n";
 
-/// How the text of a line begins whose word there was once, its command where that is one of an option, and the line that says what to type instead.
+/// Former words: how the error begins, its command for an option, and a line that names the successor.
 pub(crate) const SUCCESSORS: &[(&str, &str, &str); 6] = &[
     (
         "error: unrecognized subcommand 'judge'",
@@ -224,7 +224,7 @@ one line of `no`, the refusal's number and its values. The other commands print 
 
 Exit status:
   0  it was printed, or yes
-  1  the plan is refused, there is none, a drive broke off, or the history is no run of the plan
+  1  the plan is refused, there is none, a drive broke off, or the history is not a run of the plan
   2  a text or the command line is refused
   3  out of memory, or an input or output failed
   4  `goal --exit-code` printed a plan that has steps";
@@ -235,7 +235,7 @@ Example: ringplan plan examples/plan_replace.bundle
 Input: the text of a ring, then that of a change: `change 1`, a line `join <node>` for each node that joins, then a line `leave <node>` for
 each member that leaves, `end`.
 Standard output: the text of a plan that makes the change, then that of its certificate. After the ring's text they are what `check` and `play`
-read. Or one line of `no`, the refusal's number and its values: `no 28` where there is no plan, for example because fewer members would be left
+read. Or one line of `no`, the refusal's number and its values: `no 28` if there is no plan, for example because fewer members would be left
 than a partition has slots. A change without `leave` lines always has a plan.
 
 Exit status:
@@ -247,10 +247,10 @@ Exit status:
 pub(crate) const DRIVE_STREAMS: &str = "\
 Example: ringplan drive --workers 3 examples/drive_a_move_by_three.bundle
 
-Input: the texts of a ring, a plan, its certificate and 1 to 8 scripts. A script has `put`, `get`, `down` and `up` lines alone, and the numbers
+Input: the texts of a ring, a plan, its certificate and 1 to 8 scripts. A script has only `put`, `get`, `down` and `up` lines. The numbers
 after `seen` count its own `get` lines from 0.
 Standard output: `yes`, and the text of the history: each event that was answered, with its reply, in the order in which they happened. It is a
-run of the plan that finishes every step; with several threads chance decides which one of many. With `--format json` one line of JSON instead. Or one
+run of the plan that finishes every step; with several threads chance decides which one of many runs. With `--format json` one line of JSON instead. Or one
 line of `no`, the refusal's number and its values.
 
 Exit status:
@@ -276,9 +276,9 @@ pub(crate) const REPLAY_STREAMS: &str = "\
 Example: ringplan replay examples/replay_a_move.bundle
 
 Input: the texts of a ring, a plan, its certificate and a history: `history 1`, for each entry an event, ` = ` and its reply, and `end`.
-Standard output: where the history is a run of the plan with these replies, `yes`, the owners of each partition's slots after the last entry, and
-`end`. Else `no 70`, the place of the first entry, counted from 0, that cannot have happened so, and the number by which its event would be refused,
-or 0 where it would be answered otherwise. Where the plan or a text is refused, one line of `no`.
+Standard output: if the history is a run of the plan with these replies, `yes`, the owners of each partition's slots after the last entry, and
+`end`. Otherwise `no 70`, the place of the first entry that cannot have happened so, counted from 0, and the number by which its event would be
+refused, or 0 if it would be answered otherwise. If the plan or a text is refused, one line of `no`.
 With `--format json` an object in one line instead: `answer`, and of a no `name`, `number` and `values`.
 
 Exit status:
@@ -291,9 +291,9 @@ pub(crate) const PART_STREAMS: &str = "\
 Example: ringplan part --of 64 --part 7 history.bundle | ringplan replay
 
 Input: the texts of a ring, a plan, its certificate and a history of any length, read to its end before anything is printed.
-Standard output: the same ring, plan and certificate, and of the history all steps and what nodes do, and of the puts, gets, hints and handoffs
-those of the chosen partitions, with puts and gets numbered anew. A history is a run of the plan exactly if each of its parts is. With `--map` one
-number in place of that: the least of these for the faults of all parts is the fault of the whole. Standard error: why nothing is printed, such as a
+Standard output: the same ring, plan and certificate, and a history with all steps and what nodes do, but only the puts, gets, hints and handoffs
+of the chosen partitions, with new numbers for puts and gets. A history is a run of the plan exactly if each of its parts is. With `--map` it is
+one number: the least of these for the faults of all parts is the fault of the whole. Standard error: why nothing is printed, such as a
 part of more than 1,000,000 entries or 67,108,864 bytes, with the number of parts that may do.
 
 Exit status: 0 printed, 2 a text or the command line is refused, or the part is too large or has no entry N, 3 memory, input or output";
@@ -305,7 +305,7 @@ Input: in FILE the texts of a ring, a plan and its certificate; on standard inpu
 Standard output: at the line `end`, or at the input's end after a whole line, what `replay` prints. At the first entry that cannot have happened
 `no 70`, its place, counted from 0, and its number or 0, as `replay` says. At a line that is refused one line of `no`. An answer ends the command:
 nothing more is read. If a line is refused after an entry that cannot have happened, the entry decides; `replay` reads all lines first.
-A plan or a text in FILE that is refused is refused as by `check`, before any entry is read.
+A plan or a text in FILE is refused as by `check`, before any entry is read.
 
 Exit status:
   0  the history is a run of the plan
@@ -317,7 +317,7 @@ pub(crate) const MIGRATE_STREAMS: &str = "\
 Example: ringplan migrate examples/move_one_slot.bundle
 
 Input: the texts of a ring, a plan and its certificate.
-Standard output: the bundle, with `ring 2` and `cert 2` where the ring had format 1, and else unchanged; or one line of `no`, the number of the
+Standard output: the bundle, with `ring 2` and `cert 2` if the ring had format 1, and otherwise unchanged. Or one line of `no`, the number of the
 first fault of the texts and its line. The plan is not checked.
 
 Exit status:
@@ -330,7 +330,7 @@ Example: ringplan play examples/play_a_move_under_traffic.bundle
 
 Input: the texts of a ring, a plan, its certificate and a script.
 Standard output: `yes`; for each event of the script its place, counted from 0, and its reply, or `no`, the refusal's number and its values;
-then the owners of each partition's slots, and `end`. A refused event changes nothing. Where the plan or a text is refused, one line of `no`.
+then the owners of each partition's slots, and `end`. A refused event changes nothing. If the plan or a text is refused, one line of `no`.
 
 Exit status:
   0  the script was played, whatever the replies
@@ -353,7 +353,7 @@ Example: ringplan cert examples/no_certificate.bundle -o certified.bundle
 
 Input: a bundle: a ring with a change, or with a plan. What follows the plan, as a certificate, is not read.
 Standard output: the texts of the ring, the plan and a certificate for it, which `ringplan check` accepts. If none is printed, standard error has what
-`why` prints of the bundle with the best certificate that was found. Chains are as few as the plan's order allows: where a node has too many, no
+`why` prints of the bundle with the best certificate that was found. Chains are as few as the plan's order allows: if a node has too many, no
 certificate exists.
 
 Exit status: 0 printed, 1 no plan or one that is refused, 2 a text or the command line is refused, 3 memory, input or output";
@@ -372,12 +372,12 @@ Example: ringplan show examples/plan_grow.bundle
 
 Input: a bundle: a ring with a change, or with a plan and its certificate, and perhaps a history.
 Standard output: who joins and leaves, what moves in how many rounds, what becomes of balance, racks and failures, the nodes that take part, and the
-copies of each round; with a history what is done, open and next; and who is dead or down. Of a ring alone each node with its alias, rack, state, slots,
-size and allowance. If the layout has sizes, how much moves in all, by node and by round, and the most that copies which wait for one another have. With
-`--rate` also when the plan ends at the earliest; with a history both are of what is left.
+copies of each round; with a history what is done, open and next; and who is dead or down. For a ring without a plan each node with its alias, rack,
+state, slots, size and allowance. If the layout has sizes, how much moves in all, by node and by round, and the most in a row of copies that wait for
+one another. With `--rate` also when the plan ends at the earliest; with a history both are of what is left.
 Partitions, slots, steps and rounds are numbers; `5.1` is slot 1 of partition 5.
 
-Exit status: 0 printed, 1 no plan, one that is refused, or a history that is no run, 2 a text or the command line is refused, 3 memory, input or output";
+Exit status: 0 printed, 1 no plan, one that is refused, or a history that is not a run, 2 a text or the command line is refused, 3 memory, input or output";
 
 pub(crate) const DRAW_STREAMS: &str = "\
 Example: ringplan draw examples/plan_grow.bundle -o plan.svg
@@ -388,7 +388,7 @@ step under a pointer; with a history what is copied, open and still to do. The n
 sizes, how much each node gives and takes. Above 40 rounds or 90 copies side by side columns and rows are summed. With `--map` a row is a partition and
 a column a node: grey is owned before and after, orange given, blue taken.
 
-Exit status: 0 printed, 1 no plan, one that is refused, or a history that is no run, 2 a text or the command line is refused, 3 memory, input or output";
+Exit status: 0 printed, 1 no plan, one that is refused, or a history that is not a run, 2 a text or the command line is refused, 3 memory, input or output";
 
 pub(crate) const STEPS_STREAMS: &str = "\
 Example: ringplan steps examples/plan_replace.bundle

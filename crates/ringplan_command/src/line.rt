@@ -1,4 +1,4 @@
-//! What a line with a command for people asks for.
+//! The requests of commands for people.
 
 ghost use Rattle.std.specs.Prelude.{◌≡◌, [], IfOk, IfSome, IsTrue, MatchOption, None, Some, codes};
 ghost use Rattle.change_text.specs.declared.options.RackRule.{RackRule as TheRule};
@@ -22,10 +22,9 @@ use plan_runs::Back;
 use ringplan_job::{Color, Cut, Detour, Exit, Extent, Making, Picture, Shape, Statement, Wish};
 use std::alloc::{AllocError, Global};
 
-// The most rounds of copies that a window may have, and the most windows.
+// The most rounds of copies in a window, and the most windows.
 const MOST_ROUNDS: u32 = 1_000_000;
 
-/// What a line with that command and these options asks for.
 pub(crate) fn make_line(
     alloc: Global,
     options: &ArgMatches,
@@ -46,7 +45,6 @@ pub(crate) fn make_line(
     }
 }
 
-/// A line that is refused with that text.
 pub(crate) fn mistaken(alloc: Global, text: &[u8]) -> Result<Request, AllocError>
     ensures mistaken { IfOk result (λ line. (text : _) × (line ≡ Request.Mistaken text)) }
     ensures away { IfOk result IsTurnedAway }
@@ -55,7 +53,6 @@ pub(crate) fn mistaken(alloc: Global, text: &[u8]) -> Result<Request, AllocError
     Ok(Request::Mistaken(text))
 }
 
-// What a line with the word `steps` asks for: the steps, or the slots that move.
 fn steps_line(alloc: Global, matches: &ArgMatches) -> Result<Request, AllocError>
     ensures { IfOk result (IsOfWord Word.Steps (rows_of (found_of matches.now))) }
 {
@@ -68,7 +65,7 @@ fn steps_line(alloc: Global, matches: &ArgMatches) -> Result<Request, AllocError
     Ok(Request::Make(Making::Steps, options))
 }
 
-// When words have colours. None where what is named for it is none of the three words.
+// When words have colours. None if the named word is unknown.
 fn color_of(options: &ArgMatches) -> Option<Color>
     ensures { IfSome result (MeansColor (first_of (codes "color") (rows_of (found_of options.now)))) }
 {
@@ -93,7 +90,6 @@ fn color_named(text: &str) -> Option<Color>
     None
 }
 
-// What a line with the word `why` asks for.
 fn why_line(alloc: Global, options: &ArgMatches) -> Result<Request, AllocError>
     ensures { IfOk result (IsOfWord Word.Why (rows_of (found_of options.now))) }
 {
@@ -110,7 +106,7 @@ fn why_line(alloc: Global, options: &ArgMatches) -> Result<Request, AllocError>
     }
 }
 
-// What is known of nodes and partitions. None if what is given for racks is neither one character nor one of the two words.
+// What is known of nodes and partitions. None if the racks are neither one character nor a known word.
 fn known_of(alloc: Global, matches: &ArgMatches) -> Result<Option<Options>, AllocError>
     ensures { IfOk result (λ o. MatchOption o (HasNoRacks (rows_of (found_of matches.now))) (MeansKnown (rows_of (found_of matches.now)))) }
 {
@@ -129,7 +125,6 @@ fn known_of(alloc: Global, matches: &ArgMatches) -> Result<Option<Options>, Allo
     }))
 }
 
-// What a line with the word `show` asks for.
 fn show_line(alloc: Global, matches: &ArgMatches) -> Result<Request, AllocError>
     ensures { IfOk result (IsOfWord Word.Show (rows_of (found_of matches.now))) }
 {
@@ -155,7 +150,6 @@ fn show_line(alloc: Global, matches: &ArgMatches) -> Result<Request, AllocError>
     show_of(alloc, matches, wish, options)
 }
 
-// A summary in words or JSON.
 fn show_of(
     alloc: Global,
     matches: &ArgMatches,
@@ -173,7 +167,6 @@ fn show_of(
     }
 }
 
-// How much a summary is to show.
 fn shape_of(options: &ArgMatches) -> Shape
     ensures { MeansShape (rows_of (found_of options.now)) result }
 {
@@ -183,7 +176,6 @@ fn shape_of(options: &ArgMatches) -> Shape
     Shape::Short
 }
 
-// What a line with the word `draw` asks for.
 fn draw_line(alloc: Global, matches: &ArgMatches) -> Result<Request, AllocError>
     ensures { IfOk result (IsOfWord Word.Draw (rows_of (found_of matches.now))) }
 {
@@ -202,7 +194,7 @@ fn picture_of(options: &ArgMatches) -> Picture
     Picture::Rounds
 }
 
-// What a line with the word `windows` asks for. Both numbers are from 1 to 1,000,000, and the first is there.
+// The rounds are needed; both numbers are from 1 to 1,000,000.
 fn windows_line(alloc: Global, matches: &ArgMatches) -> Result<Request, AllocError>
     ensures { IfOk result (IsOfWord Word.Windows (rows_of (found_of matches.now))) }
 {
@@ -223,7 +215,6 @@ fn windows_line(alloc: Global, matches: &ArgMatches) -> Result<Request, AllocErr
     Ok(Request::Make(Making::Windows(cut), options))
 }
 
-// What a line with the word `goal` asks for.
 fn goal_line(alloc: Global, matches: &ArgMatches) -> Result<Request, AllocError>
     ensures { IfOk result (IsOfWord Word.Goal (rows_of (found_of matches.now))) }
 {
@@ -234,7 +225,6 @@ fn goal_line(alloc: Global, matches: &ArgMatches) -> Result<Request, AllocError>
     goal_of(alloc, matches, options)
 }
 
-// A plan that leads to the goal ring, as text or JSON.
 fn goal_of(alloc: Global, matches: &ArgMatches, options: Options) -> Result<Request, AllocError>
     requires known { MeansKnown (rows_of (found_of matches.now)) options }
     requires unreadable { MeansUnreadable (rows_of (found_of matches.now)) options.unreadable }
@@ -248,7 +238,6 @@ fn goal_of(alloc: Global, matches: &ArgMatches, options: Options) -> Result<Requ
     }
 }
 
-// What becomes of partitions that cannot be read.
 fn unreadable_of(matches: &ArgMatches) -> Unreadable
     ensures { MeansUnreadable (rows_of (found_of matches.now)) result }
 {
@@ -258,7 +247,6 @@ fn unreadable_of(matches: &ArgMatches) -> Unreadable
     Unreadable::Refused
 }
 
-// What a line with the word `around` asks for.
 fn around_line(alloc: Global, matches: &ArgMatches) -> Result<Request, AllocError>
     ensures { IfOk result (IsOfWord Word.Around (rows_of (found_of matches.now))) }
 {
@@ -272,7 +260,7 @@ fn around_line(alloc: Global, matches: &ArgMatches) -> Result<Request, AllocErro
     around_of(alloc, matches, options)
 }
 
-// How a plan that has begun goes on. Something is to change: a node is dead, or a layout may name one, a slot stays with its owner, or only what has begun is ended.
+// Refuses a line that changes nothing: no dead node, no layout that may name one, no slot that stays, and no `--rest`.
 fn around_of(alloc: Global, matches: &ArgMatches, options: Options) -> Result<Request, AllocError>
     requires known { MeansKnown (rows_of (found_of matches.now)) options }
     requires left { AreSlots (left_texts (rows_of (found_of matches.now))) options.left.items }
@@ -285,7 +273,6 @@ fn around_of(alloc: Global, matches: &ArgMatches, options: Options) -> Result<Re
     Ok(Request::Make(Making::Around(detour), options))
 }
 
-// Whether nothing is to change by the options, and all of the plan is to be done.
 fn names_nothing(options: &Options, extent: Extent) -> bool
     ensures { IsTrue result → (options.now.dead.items ≡ []) × (options.now.layout_file ≡ None) × (options.now.left.items ≡ []) × (extent ≡ Extent.Whole) }
 {
@@ -295,7 +282,6 @@ fn names_nothing(options: &Options, extent: Extent) -> bool
         && extent == Extent::Whole
 }
 
-// How the plan goes on, by the flags of the line.
 fn detour_of(matches: &ArgMatches) -> Detour
     ensures back { MeansBack (rows_of (found_of matches.now)) result.back }
     ensures extent { MeansExtent (rows_of (found_of matches.now)) result.extent }
@@ -308,7 +294,6 @@ fn detour_of(matches: &ArgMatches) -> Detour
     }
 }
 
-// How much of the plan is still to be done.
 fn extent_of(matches: &ArgMatches) -> Extent
     ensures { MeansExtent (rows_of (found_of matches.now)) result }
 {
@@ -318,7 +303,6 @@ fn extent_of(matches: &ArgMatches) -> Extent
     Extent::Whole
 }
 
-// Whether the line lets mirrors be taken back.
 fn back_of(matches: &ArgMatches) -> Back
     ensures { MeansBack (rows_of (found_of matches.now)) result }
 {
@@ -328,7 +312,6 @@ fn back_of(matches: &ArgMatches) -> Back
     Back::Never
 }
 
-// What the line asks the exit status to say.
 fn exit_of(matches: &ArgMatches) -> Exit
     ensures { MeansExit (rows_of (found_of matches.now)) result }
 {
@@ -338,7 +321,7 @@ fn exit_of(matches: &ArgMatches) -> Exit
     Exit::Printed
 }
 
-// How racks are known. None if what is given for them is neither one character nor one of the two words.
+// How racks are known. None if the text is neither one character nor a known word.
 fn racks_of(options: &ArgMatches) -> Option<RackRule>
     ensures { MatchOption result (HasNoRacks (rows_of (found_of options.now)))
         (MeansRacks (first_of (codes "racks-behind") (rows_of (found_of options.now)))) }

@@ -1,4 +1,4 @@
-//! The page of the manual, in the language of man(7). It is made of the help of the commands that there are.
+//! The manual page, in the language of man(7), made from the help of all commands.
 
 use crate::help::{ABOUT, STREAMS, VERSION};
 use crate::tree::command;
@@ -8,10 +8,9 @@ use helpers::Words;
 use std::alloc::{AllocError, Global};
 use std::convert::AsStr;
 
-// The line of help behind which the exit statuses stand.
+// The line of help before the exit statuses.
 const STATUSES: &str = "Exit status:\n";
 
-/// The page of the manual.
 pub(crate) fn manual(alloc: Global) -> Result<Vec<u8>, AllocError> {
     let (about, statuses) = STREAMS.split_once(STATUSES).unwrap_or((STREAMS, ""));
     let mut out = Words::new(alloc);
@@ -32,7 +31,6 @@ pub(crate) fn manual(alloc: Global) -> Result<Vec<u8>, AllocError> {
     }
 }
 
-// Adds the help of each command.
 fn push_commands(alloc: Global, out: &mut Words) -> Result<(), AllocError> {
     let program = command(alloc)?;
     for sub in program.get_subcommands() {
@@ -44,7 +42,6 @@ fn push_commands(alloc: Global, out: &mut Words) -> Result<(), AllocError> {
     Ok(())
 }
 
-// The help that a command line asks for.
 fn help_of<S: AsStr>(alloc: Global, words: &[S]) -> Result<String, AllocError> {
     match command(alloc)?.try_get_matches_from(words) {
         Ok(_matches) => Err(AllocError),
@@ -52,7 +49,7 @@ fn help_of<S: AsStr>(alloc: Global, words: &[S]) -> Result<String, AllocError> {
     }
 }
 
-// The text of help. Any other error of such a line is a refusal of memory.
+// The text of help. Any other error means that memory ran out.
 fn text_of(alloc: Global, error: &Error) -> Result<String, AllocError> {
     if error.kind() == ErrorKind::DisplayHelp {
         return format!(in alloc; "{error}");
@@ -60,7 +57,7 @@ fn text_of(alloc: Global, error: &Error) -> Result<String, AllocError> {
     Err(AllocError)
 }
 
-// Adds the lines of a text of help. A line that is set in begins an entry of a list, or goes on with its words where it is set in by ten.
+// Adds the lines of a help text. An indented line begins a list entry, or continues one if indented by ten.
 fn push_lines(out: &mut Words, text: &str) {
     let mut is_apart = false;
     for line in text.lines() {
@@ -82,7 +79,7 @@ fn push_lines(out: &mut Words, text: &str) {
     }
 }
 
-// Adds an entry of a list: a name, and perhaps two spaces and words.
+// Adds a list entry: a name, and perhaps two spaces and words.
 fn push_entry(out: &mut Words, entry: &str) {
     let (name, words) = entry.split_once("  ").unwrap_or((entry, ""));
     out.text(b".TP\n.B ");
@@ -92,7 +89,7 @@ fn push_entry(out: &mut Words, entry: &str) {
     }
 }
 
-// Adds a line of text: no byte of it means anything to roff.
+// Adds a line of text, escaped for roff.
 fn push_line(out: &mut Words, line: &str) {
     if line.starts_with('.') || line.starts_with('\'') {
         out.text(b"\\&");

@@ -1,4 +1,4 @@
-//! What is said several times on a command line.
+//! Repeated arguments.
 
 ghost use Rattle.std.specs.Prelude.{◌≡◌, [], IfOk, map, string_bytes, unwrap_or};
 ghost use Rattle.clap.specs.Words.{all_of, found_of, rows_of};
@@ -6,7 +6,7 @@ ghost use Rattle.clap.specs.Words.{all_of, found_of, rows_of};
 use clap::ArgMatches;
 use std::alloc::{AllocError, Global};
 
-/// The texts of an option that may be given several times, in their order.
+/// Returns the texts of a repeated option, in order.
 pub(crate) fn names_of(
     alloc: Global,
     matches: &ArgMatches,
@@ -24,7 +24,7 @@ pub(crate) fn names_of(
     Ok(names)
 }
 
-/// The texts of an argument that may stand several times, in their order, as strings.
+/// Returns the texts of a repeated argument, in order, as strings.
 pub(crate) fn texts_of(
     alloc: Global,
     matches: &ArgMatches,

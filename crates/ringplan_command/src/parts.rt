@@ -10,19 +10,18 @@ use crate::counts::{Count, MOST_PARTS, count_of};
 use clap::ArgMatches;
 use ring_names::Choice;
 
-// The greatest number of an entry of a part that is judged.
+// The greatest entry number of a part that is judged.
 const MOST_ENTRY: u32 = 999_999;
 
-/// Which part of a history is asked for.
+/// A wanted part of a history.
 #[derive(Clone, Copy, Debug)]
 pub struct PartWish {
     /// The partitions that it sees.
     pub choice: Choice,
-    /// The entry of the part, 0 to 999,999, whose place in the whole is printed in place of the part's bundle, if one is named.
+    /// An entry of the part, 0 to 999,999, whose place in the whole is printed instead of the part.
     pub entry: Option<u32>,
 }
 
-// The share that is named, if one is.
 fn share_of(options: &ArgMatches) -> Option<Choice>
     ensures { MatchOption result
         ((of part : ℕ) → IsShare (one_text (found_of options.now) (codes "of")) (one_text (found_of options.now) (codes "part")) of part → ⊥)
@@ -42,7 +41,7 @@ fn share_of(options: &ArgMatches) -> Option<Choice>
     }
 }
 
-// The partitions from A to B, of a text `A-B`.
+// The partitions from A to B, from `A-B`.
 fn range_of(text: &str) -> Option<Choice>
     ensures { MatchOption result
         ((first last : ℕ) → IsRange text.now first last → ⊥)
@@ -62,7 +61,7 @@ fn range_of(text: &str) -> Option<Choice>
     }
 }
 
-// The partitions that are named, if they are one share or one range.
+// The named partitions, if they are one share or one range.
 fn choice_of(options: &ArgMatches) -> Option<Choice>
     ensures { MatchOption result
         ((choice : TheChoice) → MeansChoice (texts_in (found_of options.now)) choice → ⊥)
@@ -80,7 +79,6 @@ fn choice_of(options: &ArgMatches) -> Option<Choice>
     range_of(text)
 }
 
-/// The part that is named, if one is.
 pub(crate) fn part_of(options: &ArgMatches) -> Option<PartWish>
     ensures { ReadsPart (texts_in (found_of options.now)) result }
 {

@@ -1,4 +1,4 @@
-//! What the options of a line say.
+//! Reads options.
 
 ghost use Rattle.std.specs.Prelude.{◌≡◌, ◌↔◌, IsTrue, Some, codes, option_map};
 ghost use Rattle.clap.specs.Words.{first_of, found_of, one_of, one_text, rows_of};
@@ -8,28 +8,24 @@ ghost use Rattle.ringplan_command.specs.Numbers.{MeansCount};
 use crate::counts::{Count, count_of};
 use clap::ArgMatches;
 
-// Whether the flag is on the line.
 fn has_flag(options: &ArgMatches, word: &str) -> bool
     ensures { IsTrue result ↔ (one_text (found_of options.now) word.now ≡ Some (codes "true")) }
 {
     matches!(options.try_get_one::<bool>(word), Ok(Some(true)))
 }
 
-/// Whether the flag is on the line, by the rows of its options.
 pub(crate) fn is_set(options: &ArgMatches, word: &str) -> bool
     ensures { IsTrue result ↔ IsSet word.now (rows_of (found_of options.now)) }
 {
     has_flag(options, word)
 }
 
-/// The text of an option, if it has one.
 pub(crate) fn text_of<'a>(options: &ArgMatches<'a>, word: &str) -> Option<&'a str>
     ensures { option_map (λ text. text.now) result ≡ first_of word.now (rows_of (found_of options.now)) }
 {
     options.get_str(word)
 }
 
-/// The number of an option, from 1 to the most.
 pub(crate) fn number_of(options: &ArgMatches, word: &str, most: u32) -> Count
     ensures { MeansCount 1 most (one_of word.now (rows_of (found_of options.now))) result }
 {

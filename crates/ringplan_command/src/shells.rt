@@ -1,11 +1,10 @@
-//! Scripts by which shells complete command lines. They are made of the commands and options that there are.
+//! Shell completions, made from all commands and options.
 
 use crate::tree::command;
 use clap::{Arg, Command};
 use helpers::Words;
 use std::alloc::{AllocError, Global};
 
-/// A shell that completes command lines.
 #[derive(Clone, Copy)]
 pub(crate) enum Shell {
     Bash,
@@ -14,7 +13,6 @@ pub(crate) enum Shell {
 }
 
 impl Shell {
-    /// The shell of that name.
     pub(crate) fn named(name: &str) -> Option<Shell> {
         match name {
             "bash" => Some(Shell::Bash),
@@ -25,10 +23,8 @@ impl Shell {
     }
 }
 
-// The names of the shells.
 const SHELLS: &[u8] = b"bash zsh fish";
 
-/// The script by which the shell completes command lines of the program.
 pub(crate) fn completions(alloc: Global, shell: Shell) -> Result<Vec<u8>, AllocError> {
     let mut program = command(alloc)?;
     program.build()?;
@@ -48,19 +44,17 @@ fn script(alloc: Global, shell: Shell, program: &Command) -> Result<Vec<u8>, All
     }
 }
 
-// ---- what commands and arguments say of themselves
+// ---- commands and arguments
 
 // Whether the argument names a file, as those that `Files` reads do.
 fn names_file(arg: &Arg) -> bool {
     matches!(arg.get_id(), "file" | "output" | "layout")
 }
 
-// Whether the argument is an option with a value.
 fn is_valued(arg: &Arg) -> bool {
     !arg.is_positional() && arg.get_action().takes_values()
 }
 
-// Whether the command has an argument of that id.
 fn has_argument(command: &Command, id: &str) -> bool {
     for arg in command.get_arguments() {
         if arg.get_id() == id {
@@ -70,14 +64,13 @@ fn has_argument(command: &Command, id: &str) -> bool {
     false
 }
 
-// Adds the letter of an option.
 fn push_letter(out: &mut Words, arg: &Arg) {
     if let Some(short) = arg.get_short() {
         out.byte(u8::try_from(u32::from(short)).unwrap_or(b'?'));
     }
 }
 
-// Adds the names of an option, with that between them.
+// Adds the names of an option, separated by `between`.
 fn push_flags(out: &mut Words, arg: &Arg, between: &[u8]) {
     if arg.get_short().is_some() {
         out.byte(b'-');
@@ -93,7 +86,7 @@ fn push_flags(out: &mut Words, arg: &Arg, between: &[u8]) {
     }
 }
 
-// Adds the words that may be the first argument of the command: the commands of the program, or the shells.
+// Adds the possible first arguments: the program's commands, or the shells.
 fn push_choices<'a>(out: &mut Words, program: &Command<'a>, command: &Command<'a>) {
     if matches!(command.get_name(), "ringplan" | "help") {
         for sub in program.get_subcommands() {
@@ -105,7 +98,7 @@ fn push_choices<'a>(out: &mut Words, program: &Command<'a>, command: &Command<'a
     }
 }
 
-// Adds a text that stands within single quotes: that for each quote of its own, and a backslash before each of these bytes.
+// Adds a single-quoted text. Quotes become `quote`, and these marks get a backslash.
 fn push_quoted(out: &mut Words, text: Option<&str>, quote: &[u8], marks: &[u8]) {
     for byte in text.unwrap_or("").as_bytes() {
         if *byte == b'\'' {
@@ -121,7 +114,6 @@ fn push_quoted(out: &mut Words, text: Option<&str>, quote: &[u8], marks: &[u8]) 
 
 // ---- bash
 
-// Adds all words that may follow the command.
 fn push_bash_words<'a>(out: &mut Words, program: &Command<'a>, command: &Command<'a>) {
     out.text(b"words='");
     push_choices(out, program, command);
@@ -134,7 +126,6 @@ fn push_bash_words<'a>(out: &mut Words, program: &Command<'a>, command: &Command
     out.byte(b'\'');
 }
 
-// Adds what may follow an option with a value.
 fn push_bash_value(out: &mut Words, arg: &Arg) {
     let action: &[u8] = if names_file(arg) {
         b") files=1 ;;\n"
@@ -146,7 +137,6 @@ fn push_bash_value(out: &mut Words, arg: &Arg) {
     out.text(action);
 }
 
-// Adds what may follow the command.
 fn push_bash_command<'a>(out: &mut Words, program: &Command<'a>, command: &Command<'a>) {
     out.fill(
         b"            @)\n                case $previous in\n",
@@ -202,7 +192,7 @@ fn push_zsh_text(out: &mut Words, text: Option<&str>) {
     push_quoted(out, text, b"'\\''", b"[]:\\");
 }
 
-// Adds what stands behind the name of an option.
+// Adds what follows the name of an option.
 fn push_zsh_option(out: &mut Words, arg: &Arg) {
     out.byte(b'[');
     push_zsh_text(out, arg.get_help());
@@ -215,7 +205,6 @@ fn push_zsh_option(out: &mut Words, arg: &Arg) {
     out.byte(b'\'');
 }
 
-// Adds an option by each of its names.
 fn push_zsh_names(out: &mut Words, arg: &Arg) {
     if arg.get_short().is_some() {
         out.text(ZSH_OPTION);
@@ -229,7 +218,6 @@ fn push_zsh_names(out: &mut Words, arg: &Arg) {
     }
 }
 
-// Adds what may follow the command.
 fn push_zsh_command<'a>(out: &mut Words, program: &Command<'a>, command: &Command<'a>) {
     out.fill(
         b"        @)\n            _arguments",
@@ -265,7 +253,7 @@ fn push_zsh(out: &mut Words, program: &Command) {
     out.text(ZSH_END);
 }
 
-// What stands before an option, which may be given several times.
+// Precedes an option, which may be repeated.
 const ZSH_OPTION: &[u8] = b" \\\n                '*";
 
 const ZSH_BEGIN: &[u8] = b"\
@@ -302,7 +290,7 @@ fn push_fish_text(out: &mut Words, text: Option<&str>) {
     out.text(b"'\n");
 }
 
-// Adds the begin of a line that goes for the command alone.
+// Begins a line for this command only.
 fn push_fish_begin(out: &mut Words, command: &Command) {
     out.fill(
         b"complete -c ringplan -n '__fish_seen_subcommand_from @'",
@@ -311,7 +299,6 @@ fn push_fish_begin(out: &mut Words, command: &Command) {
     );
 }
 
-// Adds an option.
 fn push_fish_option(out: &mut Words, arg: &Arg) {
     if arg.get_short().is_some() {
         out.text(b" -s ");
@@ -328,7 +315,6 @@ fn push_fish_option(out: &mut Words, arg: &Arg) {
     push_fish_text(out, arg.get_help());
 }
 
-// Adds what may follow the command.
 fn push_fish_command<'a>(out: &mut Words, program: &Command<'a>, command: &Command<'a>) {
     for arg in command.get_arguments() {
         if !arg.is_positional() {

@@ -1,4 +1,4 @@
-//! Slots that a command line names.
+//! Slots on a command line.
 
 ghost use Rattle.std.specs.Prelude.{[], IfOk, MatchOption, codes, unwrap_or};
 ghost use Rattle.clap.specs.Words.{all_of, found_of, rows_of};
@@ -23,7 +23,7 @@ fn slot_named(text: &str) -> Option<Slot>
     Some(Slot { partition, index })
 }
 
-/// The slots that `--leave` names, in their order. None if a text of it is not a partition and an index.
+/// Returns the slots of `--leave`, in order. None if a text is not a partition and an index.
 pub(crate) fn slots_of(alloc: Global, matches: &ArgMatches) -> Result<Option<Vec<Slot>>, AllocError>
     ensures { IfOk result (λ o. MatchOption o (HasNoSlot (unwrap_or (all_of (codes "leave") (rows_of (found_of matches.now))) []))
         (λ slots. AreSlots (unwrap_or (all_of (codes "leave") (rows_of (found_of matches.now))) []) slots.items)) }

@@ -1,4 +1,4 @@
-//! The commands and options that there are.
+//! All commands and options.
 
 ghost use Rattle.std.specs.Prelude.{◌≡◌, false, codes, IfOk};
 ghost use Rattle.clap.specs.Words.{App, rule_of, with_rule, with_subcommand};
@@ -19,10 +19,9 @@ use crate::help::{
 use clap::{Arg, ArgAction, Command, value_parser};
 use std::alloc::{AllocError, Global};
 
-// A command that was made, or for which memory was refused.
+// A command, unless memory ran out.
 type Made<'a> = Result<Command<'a>, AllocError>;
 
-// The command with one argument more.
 fn with_arg<'a>(command: Made<'a>, arg: Arg<'a>) -> Made<'a>
     requires { arg.global ≡ false }
     ensures { (app : App) → IfOk command.entry (IsApp app) → IfOk result (IsApp (with_rule app (rule_of arg.entry))) }
@@ -30,7 +29,6 @@ fn with_arg<'a>(command: Made<'a>, arg: Arg<'a>) -> Made<'a>
     command?.arg(arg)
 }
 
-// The command with one subcommand more.
 fn with<'a>(command: Made<'a>, more: Made<'a>) -> Made<'a>
     ensures { (app sub : App) → IfOk command.entry (IsApp app) → IfOk more.entry (IsApp sub)
         → IfOk result (IsApp (with_subcommand app sub.top)) }
@@ -38,7 +36,7 @@ fn with<'a>(command: Made<'a>, more: Made<'a>) -> Made<'a>
     command?.subcommand(more?)
 }
 
-// An option that is there or not.
+// An option without a value.
 fn flag<'a>(alloc: Global, word: &'a str, help: &'a str) -> Arg<'a>
     ensures rule { rule_of result ≡ flag_option word.entry.now }
     ensures local { result.global ≡ false }
@@ -49,7 +47,7 @@ fn flag<'a>(alloc: Global, word: &'a str, help: &'a str) -> Arg<'a>
         .action(ArgAction::SetTrue)
 }
 
-// An option with a value of that name.
+// An option with a value of this name.
 fn option<'a>(alloc: Global, word: &'a str, value: &'a str, help: &'a str) -> Arg<'a>
     ensures rule { rule_of result ≡ text_option word.entry.now }
     ensures local { result.global ≡ false }
@@ -108,7 +106,6 @@ fn number<'a>(alloc: Global, word: &'a str, value: &'a str, help: &'a str) -> Ar
     option(alloc, word, value, help).value_parser(value_parser!(u32).range(1..=1_000_000))
 }
 
-// The bundle's files.
 fn file<'a>(alloc: Global) -> Arg<'a>
     ensures rule { rule_of result ≡ file_argument }
     ensures local { result.global ≡ false }
@@ -119,7 +116,7 @@ fn file<'a>(alloc: Global) -> Arg<'a>
         .action(ArgAction::Append)
 }
 
-// `--dead NODE`, which may stand several times; the text says what a dead node is.
+// `--dead NODE`, repeated; `help` says what a dead node is.
 fn dead<'a>(alloc: Global, help: &'a str) -> Arg<'a>
     ensures rule { rule_of result ≡ list_option (codes "dead") }
     ensures local { result.global ≡ false }
@@ -127,7 +124,7 @@ fn dead<'a>(alloc: Global, help: &'a str) -> Arg<'a>
     option(alloc, "dead", "NODE", help).action(ArgAction::Append)
 }
 
-// `--leave P.I`, which may stand several times.
+// `--leave P.I`, repeated.
 fn leave<'a>(alloc: Global) -> Arg<'a>
     ensures rule { rule_of result ≡ list_option (codes "leave") }
     ensures local { result.global ≡ false }
@@ -143,7 +140,7 @@ fn output<'a>(alloc: Global) -> Arg<'a>
     option(alloc, "output", "FILE", OUTPUT).short('o')
 }
 
-// A subcommand with what it does, and what it reads and prints.
+// A subcommand, with what it does, reads and prints.
 fn job<'a>(alloc: Global, word: &'a str, about: &'a str, streams: &'a str) -> Made<'a>
     ensures { IfOk result (IsApp (job_app word.entry.now)) }
 {
@@ -154,7 +151,7 @@ fn job<'a>(alloc: Global, word: &'a str, about: &'a str, streams: &'a str) -> Ma
     with_arg(with_arg(Ok(command), file(alloc)), output(alloc))
 }
 
-// A subcommand that reads nothing, with what it does, and what it prints.
+// A subcommand that reads nothing, with what it does and prints.
 fn guide<'a>(alloc: Global, word: &'a str, about: &'a str, streams: &'a str) -> Made<'a>
     ensures { IfOk result (IsApp (guide_app word.entry.now)) }
 {
@@ -165,7 +162,7 @@ fn guide<'a>(alloc: Global, word: &'a str, about: &'a str, streams: &'a str) -> 
     with_arg(Ok(command), output(alloc))
 }
 
-// An argument that must be given, with a value of that name.
+// A required argument with a value of this name.
 fn needed<'a>(alloc: Global, word: &'a str, value: &'a str, help: &'a str) -> Arg<'a>
     ensures rule { rule_of result ≡ needed_argument word.entry.now }
     ensures local { result.global ≡ false }
@@ -234,7 +231,7 @@ fn drive<'a>(alloc: Global) -> Made<'a>
     with_arg(command, option(alloc, "format", "FORMAT", REPORT))
 }
 
-// A subcommand with words for people, which may be in colours or JSON.
+// A subcommand with words for people, in colours or JSON.
 fn words<'a>(alloc: Global, word: &'a str, about: &'a str, streams: &'a str) -> Made<'a>
     ensures { IfOk result (IsApp (words_app word.entry.now)) }
 {
@@ -243,7 +240,7 @@ fn words<'a>(alloc: Global, word: &'a str, about: &'a str, streams: &'a str) -> 
     with_arg(command, option(alloc, "color", "WHEN", COLOR))
 }
 
-// The command, told of nodes and partitions; the text says what a dead node is.
+// Adds options on nodes and partitions; `help` says what a dead node is.
 fn known<'a>(alloc: Global, command: Made<'a>, help: &'a str) -> Made<'a>
     ensures { (app : App) → IfOk command.entry (IsApp app) → IfOk result (IsApp (known_app app)) }
 {
@@ -297,7 +294,7 @@ fn goal<'a>(alloc: Global) -> Made<'a>
     with_arg(command, option(alloc, "format", "FORMAT", FORMAT))
 }
 
-// The command, told what changes in a plan that has begun.
+// Adds options on changes of a plan that has begun.
 fn changed<'a>(alloc: Global, command: Made<'a>) -> Made<'a>
     ensures { (app : App) → IfOk command.entry (IsApp app) → IfOk result (IsApp (changed_app app)) }
 {
@@ -313,7 +310,7 @@ fn around<'a>(alloc: Global) -> Made<'a>
     with_arg(command, flag(alloc, "all", ALL_SLOTS))
 }
 
-// The program's own line, which wants a subcommand.
+// The program's own line, which needs a subcommand.
 fn top<'a>(alloc: Global) -> Made<'a>
     ensures { IfOk result (IsApp top_app) }
 {
@@ -325,7 +322,6 @@ fn top<'a>(alloc: Global) -> Made<'a>
     Ok(command)
 }
 
-/// The command lines that there are.
 pub(crate) fn command<'a>(alloc: Global) -> Result<Command<'a>, AllocError>
     ensures { IfOk result (IsApp ringplan) }
 {

@@ -6,7 +6,7 @@ ghost use Rattle.ringplan_command.specs.Command.{guide_named, more_named, word_n
 
 use clap::ArgMatches;
 
-/// A command for people, by its word.
+/// A command for people.
 #[derive(Clone, Copy, Debug, PartialEq, Eq)]
 pub enum Word {
     Why,
@@ -20,16 +20,16 @@ pub enum Word {
     Around,
 }
 
-/// A text about the program itself, which reads no bundle.
+/// A text about the program itself. It reads no bundle.
 #[derive(Clone, Copy, Debug, PartialEq, Eq)]
 pub enum Guide {
-    /// The script by which a shell completes command lines.
+    /// The completions of a shell.
     Completions,
-    /// The page of the manual.
+    /// The manual page.
     Manual,
 }
 
-/// The text about the program that the subcommand asks for, if it asks for one.
+/// Returns the text about the program that the subcommand asks for, if any.
 pub(crate) fn guide_of(matches: &ArgMatches) -> Option<Guide>
     ensures { result ≡ guide_named (subcommand_rows_of matches.now) }
 {
@@ -42,7 +42,7 @@ pub(crate) fn guide_of(matches: &ArgMatches) -> Option<Guide>
     }
 }
 
-/// The command for people that the subcommand is, if it is one.
+/// Returns the command for people that the subcommand is, if any.
 pub(crate) fn people_word(matches: &ArgMatches) -> Option<Word>
     ensures { result ≡ word_named (subcommand_rows_of matches.now) }
 {
@@ -61,7 +61,6 @@ pub(crate) fn people_word(matches: &ArgMatches) -> Option<Word>
     more_of(matches)
 }
 
-// The command for people, where it is none of the first four.
 fn more_of(matches: &ArgMatches) -> Option<Word>
     ensures { result ≡ more_named (subcommand_rows_of matches.now) }
 {

@@ -7,7 +7,7 @@ use Rattle.ringplan_job.specs.declared.making.Making.{Making}
 use Rattle.ringplan_job.specs.declared.making.Making.TheVariants.{Goal}
 use Rattle.ringplan_people.specs.Made.{IsMadeWith}
 
--- a fact holds where there is a value
+-- a fact holds if there is a value
 pub kept : {T E P : Type 0} (r : Result T E) → P → OnOk r P
 kept (Ok x) p = p
 kept (Err e) p = tt

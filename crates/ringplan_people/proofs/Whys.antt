@@ -20,7 +20,7 @@ not_zero true b e = omega arith
 not_zero false true e = omega arith
 not_zero false false e = omega arith
 
--- what a check makes of texts that were read: yes where the checker accepts the plan, else its first refusal
+-- what a check makes of texts that were read: yes if the checker accepts the plan, otherwise its first refusal
 pub check_yes : (bytes : List ℕ) (b : Bundle) → whole_text (bundle_at kind.Check) bytes ≡ Ok b → first_refusal b.ring b.plan b.cert ≡ None → KeepsPromises b.ring b.plan
     → MakesIf Check bytes (Ok (codes "yes" ++ 10 ∷ []))
 check_yes bytes b read none keeps = (rw (verdict-good bytes b read, none) refl, (b, read, keeps))

@@ -24,11 +24,13 @@ use Rattle.plan_around.specs.Around.{IsAround}
 use Rattle.ringplan_people.specs.Studies.{IsStudyOf, HasApproved, IsShown, IsLeftBy, IsLeftNow}
 use Rattle.ringplan_people.specs.Why.{HasKept, IsWhy}
 
--- the text is that of the bytes' ring, of a plan that leads to the ring that their change wishes for, by some options, and of its certificate
+-- the text has the bytes' ring, a plan that leads to the ring that their change wishes for, by some options,
+-- and its certificate
 abbrev pub IsBundleOf : List ℕ → List ℕ → Type 0
 IsBundleOf bytes text = (options : Options) × (p : Proposed) × IsWishReached bytes options p × (text ≡ front_text p.approved.ring p.approved.plan p.cert)
 
--- the text has a certificate for the ring and the plan with which the bytes begin, or for those of a bundle that is made of their change
+-- the text has a certificate for the ring and the plan with which the bytes begin, or for the bundle made of
+-- their change
 abbrev pub IsCertOf : List ℕ → List ℕ → Type 0
 IsCertOf bytes text = IsCertifiedText bytes text ⊎ ((whole : List ℕ) × IsBundleOf bytes whole × IsCertifiedText whole text)
 
@@ -36,7 +38,8 @@ IsCertOf bytes text = IsCertifiedText bytes text ⊎ ((whole : List ℕ) × IsBu
 abbrev pub OfPlan : (RingValue → List Planned → Type 0) → List ℕ → Type 0
 OfPlan claim bytes = (ring : RingValue) × (plan : List Planned) × IsStudyOf bytes ring plan × IsApproved ring plan × claim ring plan
 
--- the text is what is asked for of the bytes, by these options; of a summary and a picture only the plan is promised, or of a summary that the bytes are a ring's
+-- the text is what is asked for of the bytes, by these options. For a summary and a picture only the plan is
+-- promised, or for a summary that the bytes are a ring's
 abbrev pub IsMade : Making → Options → List ℕ → List ℕ → Type 0
 IsMade Cert options bytes text = IsCertOf bytes text
 IsMade After options bytes text = IsLeftNow bytes text ⊎ IsLeftBy bytes text
@@ -56,19 +59,21 @@ IsTold (Why color) = ⊥
 IsTold (State statement) = ⊥
 IsTold making = ⊤
 
--- the status of a statement: why, 0 comes only where the bundle's plan keeps its promises; of a plan or a ring that is shown, only where it is what is shown; of a
--- goal, 0 and 4 only where a plan leads there, and 4 only where it asks whether the plan has steps
+-- the status of a statement. For why, 0 comes only if the bundle's plan keeps its promises. For a plan or a
+-- ring that is shown, 0 comes only if it is what is shown. For a goal, 0 and 4 come only if a plan leads there,
+-- and 4 only if it asks whether the plan has steps
 abbrev pub IsStated : Statement → Options → List ℕ → ℕ → Type 0
 IsStated statements.Why options bytes status = (status ≡ 0 → HasKept bytes) × (status ≤ 3)
 IsStated (statements.Show wish) options bytes status = (status ≡ 0 → IsShown bytes) × (status ≤ 3)
 IsStated (statements.Goal how) options bytes status = (((status ≡ 0) ⊎ ((status ≡ 4) × (how ≡ exit.Steps))) × ((p : Proposed) × IsLed bytes options p))
     ⊎ ((status ≢ 0) × (status ≤ 3))
 
--- the status at what was made: 0, or 4 where a goal asks it to say whether the plan has steps
+-- the status at what was made: 0, or 4 if a goal asks it to say whether the plan has steps
 abbrev pub IsMadeWith : Making → ℕ → Type 0
 IsMadeWith making status = (status ≡ 0) ⊎ ((status ≡ 4) × (making ≡ Goal exit.Steps))
 
--- what is printed of the bytes, and the status: why they are refused, or what a yes says; else what is made of them, or nothing where they are refused
+-- what is printed of the bytes, and the status: why they are refused, or what a yes says. Otherwise what is
+-- made of them, or nothing if they are refused
 pub data IsReport (making : Making) (options : Options) (bytes : List ℕ) (text : List ℕ) (status : ℕ) : Type 0 where
   told : (color : Color) → making ≡ Why color → IsWhy bytes text status → status ≤ 3 → IsReport making options bytes text status
   stated : (statement : Statement) → making ≡ State statement → IsStated statement options bytes status → IsReport making options bytes text status

@@ -20,7 +20,8 @@ use Rattle.plan_runs.specs.World.{World, is_member_now}
 use Rattle.ring_core.specs.Tables.{owners_now}
 use Rattle.plan_bundles.specs.Rings.{flags, ring_left}
 
--- the ring and the plan of a bundle without a history: those of its texts, or its ring and a plan that leads to the ring that its change wishes for, by some options
+-- the ring and the plan of a bundle without a history. They are those of the texts. Or they are the ring and a
+-- plan that leads to the ring that the change wishes for, by some options
 pub data IsPlanOf (bytes : List ℕ) (ring : RingValue) (plan : List Planned) : Type 0 where
   of_plan : (b : Bundle) → whole_text (bundle_at kind.Check) bytes ≡ Ok b → b.ring ≡ ring → b.plan ≡ plan → IsPlanOf bytes ring plan
   of_change : (options : Options) → (p : Proposed) → IsWishReached bytes options p → p.approved.ring ≡ ring → p.approved.plan ≡ plan → IsPlanOf bytes ring plan
@@ -30,7 +31,7 @@ pub data IsStudyOf (bytes : List ℕ) (ring : RingValue) (plan : List Planned) :
   unbegun : IsPlanOf bytes ring plan → IsStudyOf bytes ring plan
   of_history : (p : Parts) → whole_text replay_at bytes ≡ Ok p → p.0 ≡ ring → p.1.0 ≡ plan → IsHistory ring plan p.1.1.1.0 → IsStudyOf bytes ring plan
 
--- the bundle's plan is one that the checker accepts, so it keeps its promises
+-- the checker accepts the bundle's plan, so the plan keeps its promises
 abbrev pub HasApproved : List ℕ → Type 0
 HasApproved bytes = (ring : RingValue) × (plan : List Planned) × IsStudyOf bytes ring plan × IsApproved ring plan
 
@@ -38,7 +39,7 @@ HasApproved bytes = (ring : RingValue) × (plan : List Planned) × IsStudyOf byt
 abbrev pub IsRingText : List ℕ → Type 0
 IsRingText bytes = (ring : RingValue) × (bytes ≡ ring_text ring)
 
--- what a summary is of: a plan that the checker accepts, or a ring alone
+-- what a summary is of: a plan that the checker accepts, or only a ring
 pub data IsShown (bytes : List ℕ) : Type 0 where
   of_approved : HasApproved bytes → IsShown bytes
   of_ring : IsRingText bytes → IsShown bytes
@@ -65,6 +66,7 @@ IsLeftAt ring plan history text = ∥ ((w : World) × IsRun ring plan history w
 abbrev pub IsLeftNow : List ℕ → List ℕ → Type 0
 IsLeftNow bytes text = (ring : RingValue) × (plan : List Planned) × (history : List Entry) × IsRecorded bytes ring plan history × IsLeftAt ring plan history text
 
--- the text is that of the ring of a bundle without a history, with the owners after the last step of its plan, and with the members that were or joined, and did not retire
+-- the text is that of the ring of a bundle without a history. The owners are those after the last step of its
+-- plan. The members are those that were or joined, and did not retire
 abbrev pub IsLeftBy : List ℕ → List ℕ → Type 0
 IsLeftBy bytes text = (ring : RingValue) × (plan : List Planned) × IsPlanOf bytes ring plan × IsApproved ring plan × (text ≡ ring_text (ring_left ring plan))

@@ -31,8 +31,9 @@ AnswersCheck bytes b text status = (found : Result (List ℕ) Refusal) × (lines
 abbrev pub HasKept : List ℕ → Type 0
 HasKept bytes = (ring : RingValue) × (plan : List Planned) × IsStudyOf bytes ring plan × KeepsPromises ring plan
 
--- what is said of a bundle, and why: status 0 comes only where its plan keeps its promises; of the texts of a ring, a plan and a certificate it begins as a
--- check does, with the status of that, and after a refusal says which promises the plan keeps
+-- what is said of a bundle, and why. Status 0 comes only if its plan keeps its promises. For the texts of a
+-- ring, a plan and a certificate it begins as a check does, with that status. After a refusal it says which
+-- promises the plan keeps
 pub record IsWhy (bytes text : List ℕ) (status : ℕ) : Type 0 where
   pub yes : status ≡ 0 → HasKept bytes
   pub check : (b : Bundle) → whole_text (bundle_at kind.Check) bytes ≡ Ok b → AnswersCheck bytes b text status

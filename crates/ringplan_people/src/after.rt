@@ -20,7 +20,7 @@ use ring_names::{NodeId, Refusal, Slot};
 use ring_table::{Ring, write_ring};
 use std::alloc::Global;
 
-// By slot, the step that set a mirror which no step has switched.
+// By slot, the step that set a mirror that is not switched yet.
 #[derive(Drop)]
 struct Open {
     rows: Vec<Vec<Option<u32>>>,
@@ -43,7 +43,6 @@ impl Open {
         }
     }
 
-    // A step acts.
     fn act(&mut self, step: &Step, number: u32) {
         match step {
             Step::Mirror(slot, _) => self.set(*slot, Some(number)),
@@ -52,7 +51,7 @@ impl Open {
         }
     }
 
-    // The steps that set mirrors which no step has switched, in the order of their slots.
+    // The steps that set mirrors that are not switched yet, by slot.
     fn steps(&self, alloc: Global) -> Result<Vec<u32>, Refusal> {
         let mut steps = Vec::new(alloc);
         for row in self.rows.as_slice() {
@@ -66,7 +65,7 @@ impl Open {
     }
 }
 
-// The steps that set mirrors which no step has switched: of the whole plan, or of those of its steps that are done.
+// The steps that set mirrors that are not switched yet: of the whole plan, or of its finished steps.
 fn open_steps(
     alloc: Global,
     approved: &Approved,
@@ -86,7 +85,7 @@ fn open_steps(
     open.steps(alloc)
 }
 
-// Asks that each mirror is switched which the plan sets, or those of its steps that are done. Otherwise it is `WrongStage` at the first step that set one.
+// Refuses a mirror that is not switched as `WrongStage` at the first step that set one.
 fn ask_switched(
     alloc: Global,
     approved: &Approved,
@@ -103,7 +102,7 @@ fn ask_switched(
     }
 }
 
-/// The lesser of two numbers, of those that are there.
+/// Returns the lesser of the numbers that are there.
 pub(crate) fn earlier(one: Option<u32>, other: Option<u32>) -> Option<u32> {
     match (one, other) {
         (Some(one), Some(other)) => Some(one.min(other)),
@@ -112,13 +111,11 @@ pub(crate) fn earlier(one: Option<u32>, other: Option<u32>) -> Option<u32> {
     }
 }
 
-// Whether each node is a member now.
 fn members_now(alloc: Global, ring: &Ring, store: &World) -> Result<Vec<bool>, Refusal>
     ensures { IfOk result (λ members. (w : TheWorld) → Meets store.now w
         → members.items ≡ members_now (ring_of store.now) (plan_of store.now) w (length ring.now.nodes)) }
 {
     let mut members = Vec::new(alloc);
-    // A ring has few nodes.
     let count = ring.nodes().len() as u32;
     'nodes: for node in 0..count {
         members.push(store.is_member(NodeId(node)))?;
@@ -126,7 +123,7 @@ fn members_now(alloc: Global, ring: &Ring, store: &World) -> Result<Vec<bool>, R
     Ok(members)
 }
 
-// The text of the ring to which a history has led. Where a slot has a mirror, that is `WrongStage` at the step that set it.
+// Writes the ring to which a history has led. A slot with a mirror is `WrongStage` at the step that set it.
 fn ring_now(alloc: Global, approved: &Approved, history: &[Entry]) -> Result<Vec<u8>, Refusal>
     requires { length history.now ≤ 1000000 }
     ensures { IfOk result (λ text. IsLeftAt approved.now.ring approved.now.plan history.now text.items) }
@@ -141,7 +138,6 @@ fn ring_now(alloc: Global, approved: &Approved, history: &[Entry]) -> Result<Vec
     write_ring(alloc, &left)
 }
 
-// The text of the ring to which the history of a bundle has led.
 fn after_history(alloc: Global, bytes: &[u8]) -> Result<Vec<u8>, Refusal>
     ensures { IfOk result (λ text. IsLeftNow bytes.now text.items) }
 {
@@ -150,7 +146,7 @@ fn after_history(alloc: Global, bytes: &[u8]) -> Result<Vec<u8>, Refusal>
     ring_now(alloc, &found.approved, bundle.history.as_slice())
 }
 
-// The text of the ring that the plan of a bundle leaves. If it leaves a slot with a mirror, that is `WrongStage` at the step that sets it.
+// Writes the ring that a bundle's plan leaves. A slot with a mirror is `WrongStage` at the step that sets it.
 fn ring_left(alloc: Global, found: &Study, bytes: &[u8]) -> Result<Vec<u8>, Refusal>
     requires { IsPlanOf bytes.now found.now.approved.ring found.now.approved.plan }
     ensures { IfOk result (λ text. IsLeftBy bytes.now text.items) }
@@ -162,11 +158,10 @@ fn ring_left(alloc: Global, found: &Study, bytes: &[u8]) -> Result<Vec<u8>, Refu
     write_ring(alloc, &ring_after(alloc, approved)?)
 }
 
-/// The text of the ring that the plan of a bundle leaves, or what a history has done of it: the same nodes, with the owners and the members behind
-/// the steps that are done. A move that a history, or else the plan, begins and does not switch is `WrongStage` at the step that sets the mirror, since no ring can say
-/// it. Else refused is what `studied` refuses.
+/// Writes the ring that a bundle's plan leaves, or its history if it has one.
+///
+/// A move that begins and does not end is `WrongStage` at the step that sets the mirror, because a ring cannot say it. Other refusals are those of `studied`.
 pub fn after_bundle(alloc: Global, bytes: &[u8]) -> Result<Vec<u8>, Refusal>
-    // The checker accepted the plan. It is the ring that the plan leaves, or the one to which the bundle's history has led.
     ensures after { IfOk result (λ text. IsLeftNow bytes.now text.items ⊎ IsLeftBy bytes.now text.items) }
 {
     match kind_of(bytes) {
@@ -179,8 +174,7 @@ pub fn after_bundle(alloc: Global, bytes: &[u8]) -> Result<Vec<u8>, Refusal>
     }
 }
 
-/// Adds why `after_bundle` refuses a bundle with `WrongStage` at the step: each move that a history has begun and not ended, with the steps that are left of it, or that the
-/// plan leaves a mirror, or what is wrong with the plan.
+/// Adds why `after_bundle` refuses a bundle with `WrongStage`: each open move of a history with its steps that are left, or what is wrong with the plan.
 pub fn push_open(alloc: Global, out: &mut Words, bytes: &[u8], step: u32) -> Result<(), Refusal> {
     match studied(alloc, bytes, &Options::new(alloc)) {
         Ok(found) => {
@@ -194,7 +188,7 @@ pub fn push_open(alloc: Global, out: &mut Words, bytes: &[u8], step: u32) -> Res
     push_words_of(alloc, out, bytes, &Refusal::WrongStage(step))
 }
 
-// Says which moves are open, and whether some are.
+// Says which moves are open. Returns whether some are.
 fn push_open_of(alloc: Global, out: &mut Words, found: &Study) -> Result<bool, Refusal> {
     let (ring, plan) = (found.approved.ring(), found.approved.plan());
     let progress = match &found.history {
@@ -226,16 +220,16 @@ fn push_open_of(alloc: Global, out: &mut Words, found: &Study) -> Result<bool, R
     Ok(true)
 }
 
-// How a store comes to rest.
+// Says how a store comes to rest.
 const REST: &[u8; 118] =
     b"  To end these and begin no other: `ringplan around --rest FILE` prints a plan. Do its steps, then ask `after` of it.\n";
 
-// The words for one or for more, with the number.
+// Adds the words for one or for several, with the number.
 fn push_many(out: &mut Words, number: u32, one: &[u8], more: &[u8]) {
     out.fill(if number == 1 { one } else { more }, &[], &[number])
 }
 
-// A move that a step has begun: its slot, where it goes, and which steps are left of it.
+// A move that a step has begun.
 fn push_move(out: &mut Words, ring: &Ring, plan: &Plan, progress: Option<&Progress>, step: u32) {
     let Some((slot, node)) = mirror_of(plan, step) else {
         return;
@@ -252,7 +246,7 @@ fn push_move(out: &mut Words, ring: &Ring, plan: &Plan, progress: Option<&Progre
     out.byte(b'\n');
 }
 
-// The slot's steps after that one, up to its switch, that are not done.
+// The slot's unfinished steps after that one, up to its switch.
 fn push_left(out: &mut Words, plan: &Plan, progress: &Progress, slot: Slot, step: u32) {
     let mut words: &[u8] = b"; to do: #";
     for number in plan.slot_steps(slot) {
@@ -266,7 +260,7 @@ fn push_left(out: &mut Words, plan: &Plan, progress: &Progress, slot: Slot, step
     }
 }
 
-/// The slot of a step, if there is such a step and it has one.
+/// Returns the slot of a step, if it has one.
 pub(crate) fn slot_of(plan: &Plan, number: u32) -> Option<Slot> {
     if number >= plan.len() {
         return None;
@@ -278,7 +272,6 @@ pub(crate) fn slot_of(plan: &Plan, number: u32) -> Option<Slot> {
     }
 }
 
-// The slot of a step that sets a mirror, and the mirror.
 fn mirror_of(plan: &Plan, number: u32) -> Option<(Slot, NodeId)> {
     if number >= plan.len() {
         return None;

@@ -10,11 +10,10 @@ use plan_bundles::{Kind, cert_bundle, found_bundle, kind_of, push_excess, wish_b
 use ring_names::Refusal;
 use std::alloc::Global;
 
-// What is said where the search for a certificate was given up.
 const GIVEN_UP: &[u8; 268] =
     b"refused: the search for fewer chains was given up after 100,000,000 looks\n  Some node has more chains than it may have transfers open. Fewer may be enough, so a certificate may exist.\n  Let copies of that node wait directly for earlier ones: then no search is needed.\n";
 
-// The texts of the ring, of a plan that leads to the ring that is wished for, and of its certificate.
+// Writes the ring, a plan that leads to the goal ring, and its certificate.
 fn planned(alloc: Global, bytes: &[u8]) -> Result<Vec<u8>, Refusal>
     ensures { IfOk result (λ text. IsBundleOf bytes.now text.items) }
 {
@@ -30,7 +29,7 @@ fn cert_of_change(alloc: Global, bytes: &[u8]) -> Result<Vec<u8>, Refusal>
     cert_bundle(alloc, text.as_slice())
 }
 
-/// What `cert_bundle` says of a bundle; where that has a change, a plan is made first.
+/// Does what `cert_bundle` does. For a bundle with a change, a plan is made first.
 pub(crate) fn cert_of(alloc: Global, bytes: &[u8]) -> Result<Vec<u8>, Refusal>
     ensures certified { IfOk result (λ text. IsCertOf bytes.now text.items) }
 {
@@ -40,7 +39,7 @@ pub(crate) fn cert_of(alloc: Global, bytes: &[u8]) -> Result<Vec<u8>, Refusal>
     }
 }
 
-// A certificate for the plan of a bundle that may have a change: none where there is no plan, or a text is at fault.
+// Looks for a certificate for the plan of a bundle that may have a change. None if there is no plan, or a text is at fault.
 fn found_of(alloc: Global, bytes: &[u8]) -> Result<Option<Vec<u8>>, Refusal> {
     let found = match kind_of(bytes) {
         Kind::Change => match planned(alloc, bytes) {
@@ -56,8 +55,7 @@ fn found_of(alloc: Global, bytes: &[u8]) -> Result<Option<Vec<u8>>, Refusal> {
     }
 }
 
-/// Adds why there is no certificate: that the search was given up; or what the checker has against the one that was found, with its lines; or what there is to say of
-/// the bundle where none was sought.
+/// Adds why there is no certificate: the search was given up, the checker refuses the one that was found, or none was sought.
 pub(crate) fn push_why_none(
     alloc: Global,
     out: &mut Words,
@@ -70,7 +68,7 @@ pub(crate) fn push_why_none(
     }
 }
 
-// Adds why the certificate of the text is none. The checker refuses nothing as `NoPlan`.
+// Adds why the checker refuses the certificate of the text.
 fn push_why_not(
     alloc: Global,
     out: &mut Words,

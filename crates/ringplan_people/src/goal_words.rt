@@ -1,4 +1,4 @@
-//! Why no plan leads to the ring that is wished for, in words.
+//! Why no plan leads to the goal ring, in words.
 
 use crate::history_words::unless_memory;
 use crate::why::{push_few, push_too_few, push_words_of};
@@ -14,7 +14,7 @@ use std::alloc::Global;
 // How many partitions a refusal names.
 const NAMED: usize = 20;
 
-// Adds which partitions are unread, at most so many, and why that matters.
+// Adds which partitions cannot be read, and why that matters.
 fn push_unread(out: &mut Words, ring: &Ring, unread: &[u32], most: usize) {
     out.text(if unread.len() == 1 {
         b"partition "
@@ -38,25 +38,28 @@ fn push_unread(out: &mut Words, ring: &Ring, unread: &[u32], most: usize) {
     );
 }
 
-// Says why no plan leads there, whatever its steps. The partitions are those that are unread.
+// Says that the rings declare a node differently.
+fn push_other_node(out: &mut Words, goal: &Goal, node: u32) {
+    let declared = if (node as usize) < goal.ring.nodes().len() {
+        &goal.ring
+    } else {
+        &goal.wanted
+    };
+    out.fill(
+        b"refused: the rings do not declare node @ alike: name, allowance and place among the `node` lines must be the same\n",
+        &[declared.name(node)],
+        &[],
+    )
+}
+
+// Says why no plan can lead there.
 fn push_unfit(out: &mut Words, goal: &Goal, unread: &[u32], unfit: Unfit) {
     let ring = &goal.ring;
     match unfit {
         Unfit::Space => out.text(
             b"refused: the rings have other `space` or `quorum` lines, and no plan changes these\n",
         ),
-        Unfit::Node(node) => {
-            let declared = if (node as usize) < ring.nodes().len() {
-                ring
-            } else {
-                &goal.wanted
-            };
-            out.fill(
-                b"refused: the rings do not declare node @ alike: its name, its allowance and its place among the `node` lines must be the same\n",
-                &[declared.name(node)],
-                &[],
-            )
-        }
+        Unfit::Node(node) => push_other_node(out, goal, node),
         Unfit::DeadJoiner(node) => out.fill(
             b"refused: @ is dead and cannot join: let the change not join it\n",
             &[ring.name(node)],
@@ -75,7 +78,6 @@ fn push_unfit(out: &mut Words, goal: &Goal, unread: &[u32], unfit: Unfit) {
     }
 }
 
-// Says why no plan was found.
 fn push_no_plan(
     alloc: Global,
     out: &mut Words,
@@ -102,7 +104,6 @@ fn push_no_plan(
     Ok(())
 }
 
-// How many members of the ring are not dead.
 fn count_living(ring: &Ring, dead: &[NodeId]) -> u32 {
     let mut count = 0u32;
     for node in 0..small(ring.nodes().len()) {
@@ -112,7 +113,7 @@ fn count_living(ring: &Ring, dead: &[NodeId]) -> u32 {
     count
 }
 
-// The refusal of a line, as many lines less.
+// Takes so many lines off the refusal's line number.
 fn behind(refusal: &Refusal, lines: u32) -> Option<Refusal> {
     match refusal {
         Refusal::BadLine(line) => Some(Refusal::BadLine(line.checked_sub(lines)?)),
@@ -126,15 +127,13 @@ fn behind(refusal: &Refusal, lines: u32) -> Option<Refusal> {
     }
 }
 
-// What is said of a ring alone.
+// Says what there is to say of a bundle without a plan.
 const NO_CHANGE: &[u8; 160] =
     b"refused: a change is missing after the ring\n  A change is `change 1`, lines `join <node>`, then lines `leave <node>`, and `end`. Or the goal ring stands there.\n";
 
-// What is said of a bundle with a plan.
 const HAS_PLAN: &[u8; 141] =
     b"refused: the bundle has a plan already\n  `ringplan show` says what the plan does. For another plan put a change or a goal ring in its place.\n";
 
-// Whether the text begins as one of a ring.
 fn begins_a_ring(text: &[u8]) -> bool {
     let line = &text[..text.len().min(7)];
     line == b"ring 1\n".as_slice()
@@ -142,7 +141,7 @@ fn begins_a_ring(text: &[u8]) -> bool {
         || line == b"ring 3\n".as_slice()
 }
 
-// Says what is wrong with a text; lines of the second ring are counted from its first.
+// Says what is wrong with a text. Lines of the second ring are counted from its first.
 fn push_fault(
     alloc: Global,
     out: &mut Words,
@@ -180,7 +179,6 @@ fn push_fault(
     }
 }
 
-// Whether the line is one of the second ring.
 fn is_behind(inside: &Refusal) -> bool {
     !matches!(
         inside,
@@ -212,7 +210,7 @@ fn push_by_goal(
     }
 }
 
-// Says that too few members would be left, and whether that is so.
+// Says that too few members would be left. Returns whether that is so.
 fn push_few_left(
     alloc: Global,
     out: &mut Words,
@@ -231,7 +229,6 @@ fn push_few_left(
     }
 }
 
-// What a change asks for, and the nodes that are named dead.
 fn wanted_with(
     alloc: Global,
     bytes: &[u8],
@@ -243,7 +240,7 @@ fn wanted_with(
     Ok((wanted, dead))
 }
 
-/// Adds which of the nodes that are named dead leave though the change does not say so.
+/// Adds which dead nodes leave although the change does not say so.
 pub fn push_dead_leavers(
     alloc: Global,
     out: &mut Words,
@@ -267,7 +264,7 @@ pub fn push_dead_leavers(
     Ok(())
 }
 
-/// Adds which partitions stay as they are, since they cannot be read.
+/// Adds which partitions stay as they are, because they cannot be read.
 pub fn push_left(
     alloc: Global,
     out: &mut Words,
@@ -286,7 +283,7 @@ pub fn push_left(
     Ok(())
 }
 
-/// Adds why no plan leads to the ring that is wished for.
+/// Adds why no plan leads to the goal ring.
 pub fn push_goal_words(
     alloc: Global,
     out: &mut Words,

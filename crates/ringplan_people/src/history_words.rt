@@ -1,4 +1,4 @@
-//! Why a history is no run of its plan.
+//! Why a history is not a run of its plan.
 
 ghost use Rattle.std.specs.Prelude.{◌≢◌, OnOk};
 ghost use Rattle.ring_names.specs.declared.refusal.Refusal.TheVariants.{OutOfMemory};
@@ -17,7 +17,7 @@ use std::alloc::Global;
 fn reason(code: u32) -> &'static [u8] {
     match code {
         0 => b"its reply would be another",
-        12 => b"the node is no member",
+        12 => b"the node is not a member",
         40 => b"a step or a get that it waits for is not done",
         41 => b"it is so already",
         42 => b"a node that must be up is down",
@@ -34,7 +34,7 @@ fn reason(code: u32) -> &'static [u8] {
     }
 }
 
-/// Says why a history is no run.
+/// Says why a history is not a run of its plan.
 pub(crate) fn tell_history(
     alloc: Global,
     said: &mut Said,
@@ -43,7 +43,7 @@ pub(crate) fn tell_history(
     code: u32,
 ) -> Result<(), Refusal> {
     said.title_with(
-        b"the history is no run of the plan: entry # cannot have happened so",
+        b"the history is not a run of the plan: entry # cannot have happened so",
         &[],
         &[entry],
     );
@@ -60,14 +60,13 @@ pub(crate) fn tell_history(
     }
 }
 
-// An approved plan, and a history of it.
 #[derive(Drop)]
 struct Recorded {
     approved: Approved,
     history: Vec<Entry>,
 }
 
-// The plan and the history of a bundle, where its texts are in order and the checker accepts the plan.
+// Reads the plan and the history of a bundle. None if a text is refused or the checker says no.
 fn replayed(alloc: Global, bytes: &[u8]) -> Result<Option<Recorded>, Refusal> {
     let bundle = match read_replay(alloc, bytes) {
         Ok(bundle) => bundle,
@@ -89,7 +88,7 @@ fn replayed(alloc: Global, bytes: &[u8]) -> Result<Option<Recorded>, Refusal> {
     }
 }
 
-// The line behind the first parts.
+// The number of the line after the first parts.
 fn line_behind(bytes: &[u8], parts: u32) -> u32 {
     let page = Page {
         bytes: &bytes[..front(bytes, parts)],
@@ -97,7 +96,6 @@ fn line_behind(bytes: &[u8], parts: u32) -> u32 {
     page.count().saturating_add(1)
 }
 
-// The step of an event, if it has one.
 fn step_of(event: &Event) -> Option<u32> {
     match event {
         Event::Do(step)
@@ -109,7 +107,7 @@ fn step_of(event: &Event) -> Option<u32> {
     }
 }
 
-// Says which step the entry's event is of, and the reply that was due.
+// Says which step the event is of, and the reply that was due.
 fn tell_entry(
     alloc: Global,
     said: &mut Said,
@@ -140,7 +138,7 @@ fn tell_entry(
     }
 }
 
-// Says what the reply should have been, and where the puts came from in which it differs.
+// Says what the reply should have been, and where the differing puts came from.
 fn tell_reply(
     alloc: Global,
     said: &mut Said,
@@ -154,7 +152,7 @@ fn tell_reply(
     trail.tell(alloc, said, wrong, reply)
 }
 
-// The reply to an event after those entries; None where it is refused.
+// The reply to an event after those entries. None if it is refused.
 fn due(
     alloc: Global,
     approved: &Approved,
@@ -170,7 +168,7 @@ fn due(
     }
 }
 
-// The reply of the world to the event; None where it is refused.
+// The reply of the world to the event. None if it is refused.
 fn reply_of(world: &mut World, event: &Event) -> Result<Option<Reply>, Refusal> {
     if world.puts() == u32::MAX || world.gets() == u32::MAX {
         return Ok(None);
@@ -181,7 +179,7 @@ fn reply_of(world: &mut World, event: &Event) -> Result<Option<Reply>, Refusal> 
     }
 }
 
-/// Nothing, but where memory is out.
+/// Hands on `OutOfMemory`, and leaves out every other refusal.
 pub(crate) fn unless_memory(refusal: Refusal) -> Result<(), Refusal>
     ensures { OnOk result (refusal ≢ OutOfMemory) }
 {
@@ -191,7 +189,7 @@ pub(crate) fn unless_memory(refusal: Refusal) -> Result<(), Refusal>
     Ok(())
 }
 
-// No reply, but where memory is out.
+// Hands on `OutOfMemory`, and makes every other refusal no reply.
 fn none_unless_memory(refusal: Refusal) -> Result<Option<Reply>, Refusal> {
     unless_memory(refusal)?;
     Ok(None)

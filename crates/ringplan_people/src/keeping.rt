@@ -1,6 +1,6 @@
 //! Which promises a refused plan keeps, in words and as a value.
 
-ghost use Rattle.std.specs.Prelude.{◌≡◌, ◌++◌, IfOk, IfSome, OnOk};
+ghost use Rattle.std.specs.Prelude.{◌≡◌, ◌++◌, IfOk, OnOk};
 ghost use Rattle.plan_text.specs.Valid.{Suits};
 ghost use Rattle.ringplan_people.specs.Kept.{SaysKept, kept_lines, promise_line, promise_lines};
 
@@ -16,13 +16,13 @@ use std::alloc::{AllocError, Global};
 
 const HELD: &[u8; 27] = b"no acknowledged put is lost";
 
-const APART: &[u8; 40] = b"no two slots of a partition share a node";
+/// The promises, as a refusal and a yes say them.
+pub(crate) const APART: &[u8; 40] = b"no two slots of a partition share a node";
 
-const FEW: &[u8; 50] = b"no node has more transfers open than its allowance";
+pub(crate) const FEW: &[u8; 50] = b"no node has more transfers open than its allowance";
 
-const MEMBERS: &[u8; 40] = b"each slot's owner and mirror are members";
+pub(crate) const MEMBERS: &[u8; 40] = b"each slot's owner and mirror are members";
 
-// Adds the line of a promise, if it is kept.
 fn push_promise(out: &mut Vec<u8>, is_kept: bool, promise: &[u8]) -> Result<(), AllocError>
     ensures { OnOk result (out.new.items ≡ out.old.items ++ promise_line is_kept promise.now) }
 {
@@ -34,7 +34,6 @@ fn push_promise(out: &mut Vec<u8>, is_kept: bool, promise: &[u8]) -> Result<(), 
     Ok(())
 }
 
-// Adds the lines of the promises that are kept.
 fn push_promises(out: &mut Vec<u8>, kept: Kept) -> Result<(), AllocError>
     ensures { OnOk result (out.new.items ≡ out.old.items ++ promise_lines kept) }
 {
@@ -45,7 +44,6 @@ fn push_promises(out: &mut Vec<u8>, kept: Kept) -> Result<(), AllocError>
     Ok(())
 }
 
-// What is printed of the promises that are kept.
 fn lines_of(alloc: Global, kept: Kept) -> Result<Vec<u8>, AllocError>
     ensures { IfOk result (λ lines. lines.items ≡ kept_lines kept) }
 {
@@ -59,7 +57,7 @@ fn lines_of(alloc: Global, kept: Kept) -> Result<Vec<u8>, AllocError>
     Ok(lines)
 }
 
-/// Says which promises a refused plan keeps; nothing if a fact of its certificate is not a path.
+/// Says which promises a refused plan keeps. Nothing if a fact of its certificate is not a path.
 pub(crate) fn say_kept(
     alloc: Global,
     ring: &Ring,
@@ -78,7 +76,6 @@ pub(crate) fn say_kept(
     }
 }
 
-// The names of the promises that are kept, as a value.
 fn names_of(alloc: Global, kept: Kept) -> Result<Value, Refusal> {
     let mut names = Vec::new(alloc);
     for (is_kept, name) in [
@@ -94,7 +91,7 @@ fn names_of(alloc: Global, kept: Kept) -> Result<Value, Refusal> {
     Ok(Value::Array(names))
 }
 
-/// The promises that the plan of a bundle keeps, if the bundle has a ring, a plan and a certificate whose facts are paths.
+/// Returns the promises that a bundle's plan keeps. None if a text is refused or a fact is not a path.
 pub(crate) fn kept_value(alloc: Global, bytes: &[u8]) -> Result<Option<Value>, Refusal> {
     let found = match read_bundle(alloc, Kind::Check, bytes) {
         Ok(bundle) => promises_kept(alloc, &bundle.ring, &bundle.plan, &bundle.cert),

@@ -6,7 +6,7 @@ use ring_names::Refusal;
 use show_why::{Page, Said, tell_layout};
 use std::alloc::Global;
 
-// Adds the mend, and what comes of the mended text, unless that is refused as before.
+// Adds the mend and what comes of it, unless the mended text is refused as before.
 fn push_mend(
     alloc: Global,
     out: &mut Words,
@@ -32,7 +32,6 @@ fn push_mend(
     Ok(())
 }
 
-// Whether the refusal is of that line.
 fn is_at(refusal: &Refusal, number: u32) -> bool {
     match refusal {
         Refusal::BadLine(line) | Refusal::TooLarge(line) | Refusal::Repeated(line) => {
@@ -42,7 +41,7 @@ fn is_at(refusal: &Refusal, number: u32) -> bool {
     }
 }
 
-/// Says what is wrong with a layout that is refused, in words that follow its line's number and its file: a title, the line, notes and a mend.
+/// Says what is wrong with a layout: a title, the line, notes and a mend.
 pub fn layout_fault(alloc: Global, bytes: &[u8], refusal: &Refusal) -> Result<Vec<u8>, Refusal> {
     let mut said = Said::new(alloc);
     tell_layout(alloc, &mut said, bytes, refusal)?;

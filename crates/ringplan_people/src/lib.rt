@@ -1,4 +1,4 @@
-//! What is made of bundles for people: plans in words and pictures, plans that lead to a ring that is wished for, and the ring that a plan leaves.
+//! What people read of bundles: plans in words and pictures, why a bundle is refused, and the ring that a plan leaves.
 #![tactic(auto)]
 
 mod after;

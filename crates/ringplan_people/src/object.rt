@@ -7,14 +7,14 @@ use ringplan_jobs::Answer;
 use serde_json::{Map, Value, put};
 use std::alloc::Global;
 
-/// An object that is made member by member. A line shows its members by name.
+/// A JSON object that is made member by member.
 #[derive(Drop)]
 pub(crate) struct Object {
     alloc: Global,
     members: Map<String, Value>,
 }
 
-/// The text as a value; bytes that are no UTF-8 are left out.
+/// Returns the text as a value, without bytes that are not UTF-8.
 pub(crate) fn text_value(alloc: Global, text: &[u8]) -> Result<Value, Refusal> {
     let mut string = String::new(alloc);
     for chunk in text.utf8_chunks() {
@@ -24,7 +24,7 @@ pub(crate) fn text_value(alloc: Global, text: &[u8]) -> Result<Value, Refusal> {
 }
 
 impl Object {
-    /// An object without members.
+    /// Returns an object without members.
     pub fn new(alloc: Global) -> Object {
         Object {
             alloc,
@@ -32,39 +32,39 @@ impl Object {
         }
     }
 
-    /// An object that has these members so far.
+    /// Returns an object with these members.
     pub fn with(alloc: Global, members: Map<String, Value>) -> Object {
         Object { alloc, members }
     }
 
-    /// Puts a member.
+    /// Adds a member.
     pub fn put(&mut self, name: &str, value: Value) -> Result<(), Refusal> {
         Ok(put(&mut self.members, self.alloc, name, value)?)
     }
 
-    /// Puts a number.
+    /// Adds a number.
     pub fn number(&mut self, name: &str, number: u32) -> Result<(), Refusal> {
         self.put(name, Value::from(number))
     }
 
-    /// Puts a number of up to 64 bits.
+    /// Adds a number of up to 64 bits.
     pub fn long(&mut self, name: &str, number: u64) -> Result<(), Refusal> {
         self.put(name, Value::from(number))
     }
 
-    /// Puts a text; bytes that are no UTF-8 are left out.
+    /// Adds a text, without bytes that are not UTF-8.
     pub fn text(&mut self, name: &str, text: &[u8]) -> Result<(), Refusal> {
         let value = text_value(self.alloc, text)?;
         self.put(name, value)
     }
 
-    /// The object as a value.
+    /// Returns the object as a value.
     pub fn value(self) -> Value {
         let Object { members, .. } = self;
         Value::Object(members)
     }
 
-    /// The answer that is the object as one line, with that status.
+    /// Returns the object as one line, with that status.
     pub fn answer(self, status: u8) -> Result<Answer, Refusal>
         ensures { IfOk result (λ answer. answer.status ≡ status) }
     {

@@ -1,4 +1,4 @@
-//! Colours of words for people, by the escape sequences of ECMA-48 (SGR).
+//! Colours, by the escape sequences of ECMA-48 (SGR).
 
 use helpers::Words;
 use ring_names::Refusal;
@@ -6,7 +6,6 @@ use ringplan_job::Color;
 use show_why::cut_line;
 use std::alloc::Global;
 
-// How a line is painted.
 #[derive(Clone, Copy)]
 enum Paint {
     Nothing,
@@ -29,7 +28,7 @@ fn begin_of(paint: Paint) -> &'static [u8] {
 
 const END: &[u8; 4] = b"\x1b[0m";
 
-// The byte with which a line begins after an empty margin; nothing of a line without one.
+// The first byte after an empty margin, if the line has one.
 fn mark_of(line: &[u8]) -> Option<u8> {
     let mut has_margin = false;
     for byte in line {
@@ -42,7 +41,7 @@ fn mark_of(line: &[u8]) -> Option<u8> {
     None
 }
 
-// Whether the line is a new one of a mend: a number, and a plus after it.
+// Whether a mend adds the line: a number with a plus after it.
 fn is_new(line: &[u8]) -> bool {
     let mut has_digit = false;
     for place in 0..line.len() {
@@ -56,7 +55,6 @@ fn is_new(line: &[u8]) -> bool {
     false
 }
 
-// The paint of a line by its first words.
 fn paint_of(line: &[u8]) -> Paint {
     if line.starts_with(b"refused: ") || line.starts_with(b"Plan: ") {
         return Paint::Title;
@@ -77,7 +75,7 @@ fn paint_of(line: &[u8]) -> Paint {
     }
 }
 
-// Adds the line with its paint; the line feed has none.
+// Adds the painted line. The line feed is not painted.
 fn push_line(out: &mut Words, line: &[u8]) {
     let begin = begin_of(paint_of(line));
     if begin.is_empty() || !line.ends_with(b"\n") {
@@ -90,7 +88,7 @@ fn push_line(out: &mut Words, line: &[u8]) {
     out.byte(b'\n');
 }
 
-/// The words, with colours where these are always wanted: titles are bold, faults red, what belongs to them cyan, mends and a yes green.
+/// Colours the words if `color` asks for it: titles bold, faults red, what belongs to them cyan, mends and a yes green.
 pub(crate) fn painted(alloc: Global, words: Vec<u8>, color: Color) -> Result<Vec<u8>, Refusal> {
     if color != Color::Always {
         return Ok(words);

@@ -1,4 +1,4 @@
-//! The racks that are known, and what of the options does not fit a bundle, in words.
+//! Which racks are known, and which options do not fit a bundle, in words.
 
 use change_text::{Options, RackRule, read_wanted};
 use helpers::Words;
@@ -12,7 +12,7 @@ use ring_table::{Ring, read_ring};
 use show_why::{Nearest, push_printed};
 use std::alloc::Global;
 
-/// The racks of an approved plan's ring.
+/// Returns the racks of an approved plan's ring.
 pub(crate) fn racking_of(
     alloc: Global,
     approved: &Approved,
@@ -37,7 +37,6 @@ pub(crate) fn push_racks(
     Ok(())
 }
 
-// Says that the ring does not declare the name, and which name is near.
 fn push_undeclared(
     alloc: Global,
     out: &mut Words,
@@ -58,10 +57,8 @@ fn push_undeclared(
     Ok(())
 }
 
-// How many nodes are named that a ring declares.
 const NAMED: usize = 6;
 
-// Says which nodes the ring declares.
 fn push_declared(out: &mut Words, ring: &Ring) {
     let mut words: &[u8] = b"  It declares `@`";
     for (place, node) in ring.nodes().iter().enumerate() {
@@ -77,7 +74,6 @@ fn push_declared(out: &mut Words, ring: &Ring) {
     });
 }
 
-// Says why the fact does not fit the ring.
 fn push_misfit(alloc: Global, out: &mut Words, ring: &Ring, entry: &Entry) -> Result<(), Refusal> {
     let node = match &entry.fact {
         Fact::Rack { node, rack: _ }
@@ -97,7 +93,6 @@ fn push_misfit(alloc: Global, out: &mut Words, ring: &Ring, entry: &Entry) -> Re
     push_undeclared(alloc, out, ring, node)
 }
 
-// Says which member has no rack, if one has none.
 fn push_unracked(
     alloc: Global,
     out: &mut Words,
@@ -128,12 +123,10 @@ fn push_unracked(
     Ok(true)
 }
 
-// Adds the words with two names.
 fn fill_two<'a>(out: &mut Words, words: &[u8], first: &'a [u8], second: &'a [u8]) {
     out.fill(words, &[first, second], &[]);
 }
 
-// Says that no rack follows the separator in the name of a member.
 fn push_unparted(out: &mut Words, name: &[u8], byte: u8) {
     let separator = [if byte.is_ascii_graphic() { byte } else { b'?' }];
     let words: &[u8] = if name.contains(&byte) {
@@ -145,12 +138,12 @@ fn push_unparted(out: &mut Words, name: &[u8], byte: u8) {
     out.text(b"  `--racks-behind none` plans without racks, and a layout names them.\n");
 }
 
-/// Whether a refusal may be of the options: an unknown name, or a partition that there is not.
+/// Whether the refusal may be about the options: an unknown name, or a partition that the ring does not have.
 pub(crate) fn is_of_options(refusal: &Refusal) -> bool {
     matches!(refusal, Refusal::UnknownNode(0) | Refusal::TooLarge(_))
 }
 
-/// Says what of the options does not fit the ring with which the bytes begin: a name, a partition, or a rack that is missing. Answers whether something does not.
+/// Says which option does not fit the ring: a name, a partition, or a missing rack. Returns whether one does not.
 pub(crate) fn push_misfits(
     alloc: Global,
     out: &mut Words,

@@ -1,4 +1,4 @@
-//! What is printed of a bundle for people: on standard output what is made of it, or on standard error why nothing is.
+//! Reports: what is made of a bundle on standard output, or on standard error why nothing is.
 
 ghost use Rattle.std.specs.Prelude.{◌≡◌, ◌≤◌, ◌⊎◌, IfOk};
 ghost use Rattle.plan_bundles.specs.Goals.{IsLedText};
@@ -24,7 +24,7 @@ use ringplan_jobs::{Answer, answer_of};
 use show_why::Page;
 use std::alloc::Global;
 
-/// What is printed on standard output and on standard error, and the exit status.
+/// Standard output, standard error and the exit status.
 #[derive(Debug, Drop)]
 pub struct Report {
     pub output: Vec<u8>,
@@ -32,14 +32,14 @@ pub struct Report {
     pub status: u8,
 }
 
-// What standard error says of what is made, and whether that is a plan with steps that was asked for.
+// What standard error says, and whether a plan with steps was made for a goal.
 #[derive(Drop)]
 struct Notes {
     words: Words,
     has_steps: bool,
 }
 
-// The text of a plan that leads to the goal ring. Notes which dead nodes leave though the change does not say so, and whether the plan has steps.
+// Makes a plan that leads to the goal ring. Notes which dead nodes leave unasked, and whether the plan has steps.
 fn make_goal(
     alloc: Global,
     bytes: &[u8],
@@ -59,7 +59,7 @@ fn make_goal(
     found.bundle(alloc)
 }
 
-// What is made of the bundle. Adds what standard error says of it.
+// Makes what is asked for. Adds what standard error says.
 fn make_of(
     alloc: Global,
     making: Making,
@@ -84,7 +84,7 @@ fn make_of(
     }
 }
 
-/// The exit status at a goal: 4 where it asks whether the plan has steps, and the plan has.
+/// Returns the exit status at a goal: 4 if it asks whether the plan has steps and the plan has, otherwise 0.
 pub(crate) fn goal_status(exit: Exit, has_steps: bool) -> u8
     ensures { (result ≡ 0) ⊎ ((result ≡ 4) × (exit ≡ Exit.Steps)) }
 {
@@ -99,7 +99,6 @@ pub(crate) fn goal_status(exit: Exit, has_steps: bool) -> u8
     }
 }
 
-// The exit status at what was made.
 fn made_status(making: Making, has_steps: bool) -> u8
     ensures { IsMadeWith making result }
 {
@@ -109,7 +108,6 @@ fn made_status(making: Making, has_steps: bool) -> u8
     }
 }
 
-// The report of what was made, with these notes.
 fn made(making: Making, output: Vec<u8>, notes: Notes) -> Result<Report, Refusal>
     ensures { IfOk result (λ r. (r.output.items ≡ output.items) × IsMadeWith making r.status) }
 {
@@ -123,7 +121,7 @@ fn made(making: Making, output: Vec<u8>, notes: Notes) -> Result<Report, Refusal
     })
 }
 
-// The report of a refusal: on standard error its line, and then those words.
+// The report of a refusal: its line and those words on standard error.
 fn refused_with(alloc: Global, refusal: Refusal, words: Words) -> Result<Report, Refusal>
     ensures { IfOk result (λ r. IsRefusal refusal r.output.items r.errors.items r.status) }
 {
@@ -138,7 +136,7 @@ fn refused_with(alloc: Global, refusal: Refusal, words: Words) -> Result<Report,
     })
 }
 
-/// Adds why it was refused.
+/// Adds why a request was refused.
 pub(crate) fn push_said(
     alloc: Global,
     out: &mut Words,
@@ -163,7 +161,6 @@ pub(crate) fn push_said(
     }
 }
 
-// Says why `after` has no ring.
 fn push_unmade(
     alloc: Global,
     out: &mut Words,
@@ -176,7 +173,6 @@ fn push_unmade(
     }
 }
 
-// Says why `around` has no other plan, if `around_bundle` has not said it.
 fn push_unturned(
     alloc: Global,
     out: &mut Words,
@@ -190,7 +186,7 @@ fn push_unturned(
     }
 }
 
-// What the notes say of a refusal: `around_bundle` says itself why there is no plan.
+// Adds why it was refused, unless `around_bundle` has said it.
 fn said_before(alloc: Global, making: Making, refusal: &Refusal, notes: Notes) -> Words {
     let Notes { words, .. } = notes;
     match (making, refusal) {
@@ -199,11 +195,11 @@ fn said_before(alloc: Global, making: Making, refusal: &Refusal, notes: Notes) -
     }
 }
 
-// What goes around dead nodes before the first step.
+// Says what goes around dead nodes before the first step.
 const GOAL_DEAD: &[u8; 76] =
     b"  Before the first step `ringplan goal --dead NODE` goes around dead nodes.\n";
 
-// Says why the line of a bundle is refused where a history should go on, and what to do if there is none.
+// Says why a line is refused that should go on the history, and what to do without a history.
 fn push_unbegun(alloc: Global, out: &mut Words, bytes: &[u8], line: u32) -> Result<(), Refusal> {
     let is_over = line > Page { bytes }.count();
     if kind_of(bytes) == Kind::Change {
@@ -224,7 +220,6 @@ fn push_unbegun(alloc: Global, out: &mut Words, bytes: &[u8], line: u32) -> Resu
     Ok(())
 }
 
-// The report of what is made of the bundle, or of why nothing is.
 fn report_made(
     alloc: Global,
     making: Making,
@@ -248,7 +243,6 @@ fn report_made(
     }
 }
 
-// The report of an answer, with nothing on standard error.
 fn silent(alloc: Global, answer: Answer) -> Report
     ensures output { result.output.items ≡ answer.output.items }
     ensures status { result.status ≡ answer.status }
@@ -261,7 +255,6 @@ fn silent(alloc: Global, answer: Answer) -> Report
     }
 }
 
-// The report of why a bundle is refused, or of what a yes says.
 fn report_why(alloc: Global, color: Color, bytes: &[u8]) -> Result<Report, Refusal>
     ensures why { IfOk result (λ r. IsWhy bytes.now r.output.items r.status) }
     ensures few { IfOk result (λ r. r.status ≤ 3) }
@@ -270,7 +263,6 @@ fn report_why(alloc: Global, color: Color, bytes: &[u8]) -> Result<Report, Refus
     Ok(silent(alloc, answer))
 }
 
-// The report of a statement.
 fn report_stated(
     alloc: Global,
     statement: Statement,
@@ -283,9 +275,8 @@ fn report_stated(
     Ok(silent(alloc, answer))
 }
 
-/// What is printed of a bundle, if `making` is asked for by these options. On standard output stands what is made of the bundle, and the status is 0, or 4 for a plan
-/// with steps where a goal asks so; or it is empty, and on standard error stand the refusal's line and why. `why` and a statement print both on standard output.
-/// The only refusal is `OutOfMemory`.
+/// Returns what is printed for a request: what is made of the bundle on standard output, or the refusal's line and why on standard error.
+/// `why` and a statement print both on standard output. The only refusal is `OutOfMemory`.
 pub fn report_bundle(
     alloc: Global,
     making: Making,
@@ -301,7 +292,7 @@ pub fn report_bundle(
     }
 }
 
-/// What is printed where the input could not be read whole: nothing on standard output, and on standard error the refusal's line and why.
+/// Returns what is printed if the input could not be read: the refusal's line and why, on standard error.
 pub fn report_unread(alloc: Global, refusal: Refusal) -> Result<Report, Refusal>
     ensures { IfOk result (λ r. IsRefusal refusal r.output.items r.errors.items r.status) }
 {

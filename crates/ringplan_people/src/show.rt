@@ -23,7 +23,7 @@ use show_plan::{
 };
 use std::alloc::Global;
 
-/// What is shown of a bundle's plan, and how far its history has come, where there is one.
+/// A bundle's plan, and how far its history has come.
 #[derive(Drop)]
 pub(crate) struct Shown {
     pub scene: Scene,
@@ -31,7 +31,7 @@ pub(crate) struct Shown {
     pub present: Present,
 }
 
-/// How much each partition stores, if the layout has sizes. A partition that the ring does not have is `TooLarge`, with its line in the layout.
+/// Returns how much each partition stores, if the layout has sizes. A partition that the ring does not have is `TooLarge` with its line in the layout.
 pub(crate) fn sizes_by(
     alloc: Global,
     ring: &Ring,
@@ -44,7 +44,7 @@ pub(crate) fn sizes_by(
     Ok(Some(sizes))
 }
 
-/// How much an approved plan moves, if the layout has sizes, and what its history leaves. Refused is what `sizes_by` refuses.
+/// Returns how much a plan moves and its history leaves, if the layout has sizes. Refusals are those of `sizes_by`.
 pub(crate) fn volumes_of(
     alloc: Global,
     found: &Study,
@@ -60,7 +60,7 @@ pub(crate) fn volumes_of(
     Ok(Some(volumes))
 }
 
-/// The nodes that are named dead. A name that the ring does not declare is `UnknownNode(0)`.
+/// Returns the dead nodes. A name that the ring does not declare is `UnknownNode(0)`.
 pub(crate) fn dead_of(
     alloc: Global,
     ring: &Ring,
@@ -70,7 +70,7 @@ pub(crate) fn dead_of(
     nodes_of(alloc, ring, names.as_slice())
 }
 
-/// What is shown of a plan.
+/// Returns what is shown of a plan.
 pub(crate) fn shown_by(alloc: Global, found: &Study, options: &Options) -> Result<Shown, Refusal> {
     let (ring, plan) = (found.approved.ring(), found.approved.plan());
     let progress = match &found.history {
@@ -88,7 +88,6 @@ pub(crate) fn shown_by(alloc: Global, found: &Study, options: &Options) -> Resul
     })
 }
 
-// How much the summary shows that is asked for.
 fn shape_of(asked: Asked) -> Shape {
     match asked {
         Asked::Short => Shape::Short,
@@ -96,7 +95,7 @@ fn shape_of(asked: Asked) -> Shape {
     }
 }
 
-/// The racks of a ring of which nothing moves.
+/// Returns the racks of a ring without a plan.
 pub(crate) fn racks_at_rest(
     alloc: Global,
     ring: &Ring,
@@ -107,7 +106,7 @@ pub(crate) fn racks_at_rest(
     racks_of(alloc, ring, members.as_slice(), options)
 }
 
-/// What the options say of a ring's nodes and partitions, with these racks. Refused is a name that the ring does not declare, and a partition that it does not have.
+/// Returns what the options say of a ring's nodes and partitions. Unknown names and partitions are refused.
 pub(crate) fn facts_of(
     alloc: Global,
     ring: &Ring,
@@ -122,7 +121,7 @@ pub(crate) fn facts_of(
     })
 }
 
-// The summary of a ring alone, of which nothing moves.
+// The summary of a ring without a plan.
 fn show_ring(alloc: Global, bytes: &[u8], options: &Options) -> Result<Vec<u8>, Refusal>
     ensures shown { OnOk result (IsShown bytes.now) }
 {
@@ -132,7 +131,6 @@ fn show_ring(alloc: Global, bytes: &[u8], options: &Options) -> Result<Vec<u8>, 
     ring_summary(alloc, &ring, &facts)
 }
 
-// The summary of a bundle without colours.
 fn show_plain(
     alloc: Global,
     bytes: &[u8],
@@ -149,10 +147,10 @@ fn show_plain(
     show_plan(alloc, bytes, wish, options, words)
 }
 
-/// The summary of a bundle's plan, where the checker accepts it; with a history its progress, and with sizes how much moves. Of a ring and nothing more it is that of
-/// the ring. Refused is what `studied` refuses, or the ring's reader; a name that the ring does not declare, and a member without a rack where racks are known, as
-/// `UnknownNode(0)`; and a partition that the ring does not have, as `TooLarge` with its line in the layout. It may have colours. Adds to the words which racks a change was
-/// planned by.
+/// Summarizes a bundle's plan if the checker accepts it, with its history's progress and its sizes, or a ring without a plan.
+///
+/// Refusals are those of `studied` and of the ring's reader. An unknown name, or a member without a rack if racks are known, is `UnknownNode(0)`. A partition
+/// that the ring does not have is `TooLarge` with its line in the layout. Adds to the words which racks a change was planned by.
 pub fn show_bundle(
     alloc: Global,
     bytes: &[u8],
@@ -160,14 +158,12 @@ pub fn show_bundle(
     options: &Options,
     words: &mut Words,
 ) -> Result<Vec<u8>, Refusal>
-    // It comes only where the checker accepted the bundle's plan, or the bytes are a ring's text.
     ensures shown { OnOk result (IsShown bytes.now) }
 {
     let text = show_plain(alloc, bytes, wish, options, words)?;
     painted(alloc, text, wish.color)
 }
 
-// How much moves, and how fast, where sizes are asked for.
 fn sized(volumes: Option<&Volumes>, rate: Option<u32>) -> Option<Sized<'_>> {
     match volumes {
         Some(volumes) => Some(Sized { volumes, rate }),
@@ -175,7 +171,6 @@ fn sized(volumes: Option<&Volumes>, rate: Option<u32>) -> Option<Sized<'_>> {
     }
 }
 
-// The aliases of a study's nodes in words.
 fn aliases_shown(
     alloc: Global,
     found: &Study,
@@ -187,7 +182,6 @@ fn aliases_shown(
     }
 }
 
-// The racks of a study's nodes. Adds which they are, if a change was planned.
 fn racks_shown(
     alloc: Global,
     bytes: &[u8],
@@ -203,7 +197,6 @@ fn racks_shown(
     Ok(racking.racks)
 }
 
-// The summary of a bundle's plan.
 fn show_plan(
     alloc: Global,
     bytes: &[u8],
@@ -241,8 +234,7 @@ fn show_plan(
     summary(&view)
 }
 
-/// The picture of a bundle's plan as SVG, or the map of its slots, if the checker accepts it; with a history that of the run's progress. Refused is what `studied`
-/// refuses, and what of the options does not fit, as `show_bundle` does. Adds to the words which racks a change was planned by.
+/// Draws a bundle's plan as SVG, or the map of its slots, with its history's progress. Refusals and words are those of `show_bundle`.
 pub fn draw_bundle(
     alloc: Global,
     bytes: &[u8],
@@ -250,7 +242,6 @@ pub fn draw_bundle(
     options: &Options,
     words: &mut Words,
 ) -> Result<Vec<u8>, Refusal>
-    // It comes only where the checker accepted the bundle's plan.
     ensures approved { OnOk result (HasApproved bytes.now) }
 {
     let found = studied(alloc, bytes, options)?;
@@ -277,7 +268,6 @@ pub fn draw_bundle(
     drawn(&sheet, kind, racks.as_ref())
 }
 
-// The picture that is asked for.
 fn drawn(sheet: &Sheet, kind: Picture, racks: Option<&Labels>) -> Result<Vec<u8>, Refusal> {
     match kind {
         Picture::Rounds => picture(sheet),

@@ -1,4 +1,4 @@
-//! What is stated of a bundle: one object of JSON.
+//! Statements about a bundle, as a JSON object.
 
 ghost use Rattle.std.specs.Prelude.{◌≡◌, ◌≢◌, ◌≤◌, ◌⊎◌, IfOk};
 ghost use Rattle.plan_bundles.specs.Goals.{IsLed};
@@ -27,7 +27,7 @@ use show_plan::{Facts, Present, Scene, Volumes, stored_by};
 use show_why::Said;
 use std::alloc::Global;
 
-// What comes of a mended bundle, in one word or as the line of a refusal.
+// What comes of a mended bundle: a word, or the line of a refusal.
 fn outcome_value(alloc: Global, outcome: Outcome) -> Result<Value, Refusal> {
     let word: &[u8] = match outcome {
         Outcome::Accepted => b"accepted",
@@ -44,7 +44,7 @@ fn outcome_value(alloc: Global, outcome: Outcome) -> Result<Value, Refusal> {
     text_value(alloc, word)
 }
 
-// The mend: the lines that change, what stands in their place, and what comes of it.
+// The mend: the lines that change, their new text, and what comes of it.
 fn mend_value(alloc: Global, said: &Said, outcome: Outcome) -> Result<Value, Refusal> {
     let mut lines = Vec::new(alloc);
     for place in 0..said.changes() {
@@ -61,7 +61,6 @@ fn mend_value(alloc: Global, said: &Said, outcome: Outcome) -> Result<Value, Ref
     Ok(mend.value())
 }
 
-// The numbers as a value.
 fn numbers_value(alloc: Global, numbers: &[u32]) -> Result<Value, Refusal> {
     let mut values = Vec::new(alloc);
     for number in numbers {
@@ -70,7 +69,6 @@ fn numbers_value(alloc: Global, numbers: &[u32]) -> Result<Value, Refusal> {
     Ok(Value::Array(values))
 }
 
-// The names of nodes as a value.
 fn names_value(alloc: Global, ring: &Ring, nodes: &[u32]) -> Result<Value, Refusal> {
     let mut values = Vec::new(alloc);
     for node in nodes {
@@ -79,7 +77,6 @@ fn names_value(alloc: Global, ring: &Ring, nodes: &[u32]) -> Result<Value, Refus
     Ok(Value::Array(values))
 }
 
-// The object of a refusal, with these words.
 fn refused_object(alloc: Global, refusal: &Refusal, words: Words) -> Result<Object, Refusal> {
     let words = words.end()?;
     let mut object = Object::with(alloc, refusal_members(alloc, refusal)?);
@@ -87,14 +84,13 @@ fn refused_object(alloc: Global, refusal: &Refusal, words: Words) -> Result<Obje
     Ok(object)
 }
 
-// The answer that is the object of a refusal.
 fn refused_answer(object: Object, refusal: &Refusal) -> Result<Answer, Refusal>
     ensures { IfOk result (λ answer. (answer.status ≢ 0) × (answer.status ≤ 3)) }
 {
     object.answer(status_of(refusal))
 }
 
-// What is stated of a bundle that is refused: the refusal, the words of `why`, the lines at fault, the promises that its plan keeps, and a mend if there is one.
+// What is stated of a refused bundle: the refusal, the words of `why`, the lines at fault, the promises that its plan keeps, and a mend.
 fn state_refusal(alloc: Global, bytes: &[u8], refusal: &Refusal) -> Result<Answer, Refusal>
     ensures { IfOk result (λ answer. (answer.status ≢ 0) × (answer.status ≤ 3)) }
 {
@@ -114,7 +110,6 @@ fn state_refusal(alloc: Global, bytes: &[u8], refusal: &Refusal) -> Result<Answe
     refused_answer(object, refusal)
 }
 
-// What a yes says of a plan.
 fn state_accepted(alloc: Global, found: &Study) -> Result<Answer, Refusal>
     ensures { IfOk result (λ answer. answer.status ≡ 0) }
 {
@@ -128,7 +123,6 @@ fn state_accepted(alloc: Global, found: &Study) -> Result<Answer, Refusal>
     object.answer(0)
 }
 
-// Why a bundle is refused, or what a yes says.
 fn state_why(alloc: Global, bytes: &[u8]) -> Result<Answer, Refusal>
     ensures yes { IfOk result (λ answer. answer.status ≡ 0 → HasApproved bytes.now) }
     ensures few { IfOk result (λ answer. answer.status ≤ 3) }
@@ -143,7 +137,6 @@ fn state_why(alloc: Global, bytes: &[u8]) -> Result<Answer, Refusal>
     }
 }
 
-// What is stated of the nodes of a ring.
 #[derive(Clone, Copy)]
 struct Nodes<'a> {
     alloc: Global,
@@ -155,7 +148,7 @@ struct Nodes<'a> {
 }
 
 impl<'a> Nodes<'a> {
-    // The object of a node: its name, rack and alias, whether it is a member and dead, what it owns and stores, and how many transfers it bears.
+    // The object of a node.
     fn object(&self, node: u32) -> Result<Object, Refusal> {
         let present = self.present;
         let mut object = Object::new(self.alloc);
@@ -173,7 +166,6 @@ impl<'a> Nodes<'a> {
     }
 }
 
-// Puts the node's label, if it has one.
 fn put_label(
     object: &mut Object,
     key: &'static str,
@@ -186,7 +178,7 @@ fn put_label(
     }
 }
 
-// Puts how many transfers the node bears: of both kinds together, or of each.
+// Adds the node's allowance: one number, or one for each side.
 fn put_allowance(object: &mut Object, ring: &Ring, node: u32) -> Result<(), Refusal> {
     match ring.nodes().get(node as usize) {
         Some(declared) => match declared.allowance {
@@ -200,7 +192,6 @@ fn put_allowance(object: &mut Object, ring: &Ring, node: u32) -> Result<(), Refu
     }
 }
 
-// The nodes of a ring alone.
 fn ring_object(alloc: Global, ring: &Ring, facts: &Facts) -> Result<Object, Refusal> {
     let present = Present::at_rest(alloc, ring, facts.dead.as_slice())?;
     let stored = stored_by(alloc, &present, facts.sizes())?;
@@ -221,7 +212,6 @@ fn ring_object(alloc: Global, ring: &Ring, facts: &Facts) -> Result<Object, Refu
     Ok(object)
 }
 
-// The nodes of a ring with a plan: what each owns, gives and takes, and whether it is down.
 fn nodes_value(stated: &Nodes, shown: &Shown, volumes: Option<&Volumes>) -> Result<Value, Refusal> {
     let loads = &shown.scene.loads;
     let mut nodes = Vec::new(stated.alloc);
@@ -241,7 +231,7 @@ fn nodes_value(stated: &Nodes, shown: &Shown, volumes: Option<&Volumes>) -> Resu
     Ok(Value::Array(nodes))
 }
 
-// Puts what a plan does: who joins and leaves, and how much moves in how many rounds.
+// Adds who joins and leaves, and how much moves in how many rounds.
 fn put_change(
     object: &mut Object,
     alloc: Global,
@@ -254,7 +244,7 @@ fn put_change(
     object.number("rounds", scene.round_count())
 }
 
-// Puts how much a plan moves, what its history leaves, and when that ends at the earliest.
+// Adds how much a plan moves, what its history leaves, and when that ends at the earliest.
 fn put_volumes(
     object: &mut Object,
     alloc: Global,
@@ -278,7 +268,6 @@ fn put_volumes(
     Ok(())
 }
 
-// Puts the nodes of a ring with a plan.
 fn put_nodes<'a>(
     object: &mut Object,
     alloc: Global,
@@ -301,7 +290,6 @@ fn put_nodes<'a>(
     object.put("nodes", nodes_value(&stated, shown, volumes)?)
 }
 
-// What a plan does to each node, and how far a history has come.
 fn plan_object(
     alloc: Global,
     found: &Study,
@@ -327,7 +315,7 @@ fn plan_object(
     Ok(object)
 }
 
-// What of the options does not fit the bundle.
+// Which option does not fit the bundle.
 fn state_misfit(
     alloc: Global,
     bytes: &[u8],
@@ -343,7 +331,6 @@ fn state_misfit(
     refused_answer(object, refusal)
 }
 
-// A ring alone, of which nothing moves.
 fn state_ring(alloc: Global, bytes: &[u8], options: &Options) -> Result<Answer, Refusal>
     ensures yes { IfOk result (λ answer. answer.status ≡ 0 → IsShown bytes.now) }
     ensures few { IfOk result (λ answer. answer.status ≤ 3) }
@@ -357,14 +344,12 @@ fn state_ring(alloc: Global, bytes: &[u8], options: &Options) -> Result<Answer, 
     }
 }
 
-// The object of a ring alone, by the options.
 fn ring_stated(alloc: Global, ring: &Ring, options: &Options) -> Result<Object, Refusal> {
     let Racking { racks, .. } = racks_at_rest(alloc, ring, options)?;
     let facts = facts_of(alloc, ring, racks, options)?;
     ring_object(alloc, ring, &facts)
 }
 
-// A plan that the checker accepted.
 fn state_studied(
     alloc: Global,
     bytes: &[u8],
@@ -380,7 +365,6 @@ fn state_studied(
     }
 }
 
-// Why a bundle is refused, or what of the options does not fit it.
 fn state_unshown(
     alloc: Global,
     bytes: &[u8],
@@ -395,7 +379,6 @@ fn state_unshown(
     state_refusal(alloc, bytes, refusal)
 }
 
-// The plan of a bundle.
 fn state_plan(alloc: Global, bytes: &[u8], wish: Wish, options: &Options) -> Result<Answer, Refusal>
     ensures yes { IfOk result (λ answer. answer.status ≡ 0 → IsShown bytes.now) }
     ensures few { IfOk result (λ answer. answer.status ≤ 3) }
@@ -410,7 +393,6 @@ fn state_plan(alloc: Global, bytes: &[u8], wish: Wish, options: &Options) -> Res
     }
 }
 
-// What is shown of a bundle, as `show` takes it.
 fn state_shown(
     alloc: Global,
     bytes: &[u8],
@@ -427,7 +409,6 @@ fn state_shown(
     state_plan(alloc, bytes, wish, options)
 }
 
-// The bundle of a plan that leads to the goal ring, and how much it moves.
 fn led_object(alloc: Global, found: &Proposed) -> Result<Object, Refusal> {
     let (ring, plan) = (found.approved.ring(), found.approved.plan());
     let scene = Scene::of(alloc, &found.approved, &found.cert)?;
@@ -440,7 +421,6 @@ fn led_object(alloc: Global, found: &Proposed) -> Result<Object, Refusal> {
     Ok(object)
 }
 
-// Why no plan leads to the goal ring.
 fn state_unled(
     alloc: Global,
     bytes: &[u8],
@@ -458,7 +438,6 @@ fn state_unled(
     refused_answer(object, refusal)
 }
 
-// A plan that leads to the goal ring.
 fn state_goal(alloc: Global, bytes: &[u8], options: &Options, exit: Exit) -> Result<Answer, Refusal>
     ensures { IfOk result (λ answer. (((answer.status ≡ 0) ⊎ ((answer.status ≡ 4) × (exit ≡ Exit.Steps)))
         × ((p : _) × IsLed bytes.now options.now p)) ⊎ ((answer.status ≢ 0) × (answer.status ≤ 3))) }
@@ -472,8 +451,9 @@ fn state_goal(alloc: Global, bytes: &[u8], options: &Options, exit: Exit) -> Res
     }
 }
 
-/// What is stated of a bundle, as an object of JSON in one line, and the exit status: that of `why`, of `show` and of `goal`. A refusal is stated by the members
-/// of a check's answer and by `words`; `why` and `show` add the lines at fault and a mend. The only refusal is `OutOfMemory`.
+/// States what `why`, `show` or `goal` says as one line of JSON, with the same exit status.
+///
+/// A refusal has the members of a check's answer and `words`. `why` and `show` add the lines at fault and a mend. The only refusal is `OutOfMemory`.
 pub fn state_bundle(
     alloc: Global,
     statement: Statement,

@@ -1,4 +1,4 @@
-//! The steps of a bundle's plan, for whoever carries them out on a store of his own.
+//! The steps of a bundle's plan, for those who carry them out on a store of their own.
 
 ghost use Rattle.std.specs.Prelude.{◌≡◌, List, IfOk};
 ghost use Rattle.ring_table.specs.Value.{RingValue};
@@ -17,7 +17,6 @@ use plan_lines::{write_moves, write_steps};
 use ring_names::Refusal;
 use std::alloc::Global;
 
-// The steps of an approved plan.
 fn steps_of(alloc: Global, approved: &Approved) -> Result<Vec<u8>, Refusal>
     ensures text { IfOk result (λ v. v.items ≡ steps_text approved.now.ring approved.now.plan) }
     ensures approved { IsApproved approved.now.ring approved.now.plan }
@@ -25,15 +24,13 @@ fn steps_of(alloc: Global, approved: &Approved) -> Result<Vec<u8>, Refusal>
     write_steps(alloc, approved.ring(), approved.plan())
 }
 
-/// The steps of a bundle's plan as lines of JSON, where the checker accepts it; where the bundle has a change, a plan is made first, and a history changes
-/// nothing. Refused is what `studied` refuses.
+/// Writes the steps of a bundle's plan as lines of JSON, if the checker accepts it. A history changes nothing. Refusals are those of `studied`.
 pub fn steps_bundle(
     alloc: Global,
     bytes: &[u8],
     options: &Options,
     words: &mut Words,
 ) -> Result<Vec<u8>, Refusal>
-    // They are those of the bundle's plan, which the checker accepted, in order, and none is left out.
     ensures steps { IfOk result (λ text. (ring : RingValue) × (plan : List Planned)
         × IsStudyOf bytes.now ring plan × IsApproved ring plan × (text.items ≡ steps_text ring plan)) }
 {
@@ -42,7 +39,6 @@ pub fn steps_bundle(
     steps_of(alloc, &found.approved)
 }
 
-// The slots that an approved plan moves.
 fn moves_of(alloc: Global, approved: &Approved) -> Result<Vec<u8>, Refusal>
     ensures text { IfOk result (λ v. v.items ≡ moves_text approved.now.ring approved.now.plan) }
     ensures approved { IsApproved approved.now.ring approved.now.plan }
@@ -50,14 +46,13 @@ fn moves_of(alloc: Global, approved: &Approved) -> Result<Vec<u8>, Refusal>
     write_moves(alloc, approved.ring(), approved.plan())
 }
 
-/// The slots that a bundle's plan moves as lines of JSON, where the checker accepts it; else as `steps_bundle`.
+/// Writes the slots that a bundle's plan moves as lines of JSON. Refusals are those of `studied`.
 pub fn moves_bundle(
     alloc: Global,
     bytes: &[u8],
     options: &Options,
     words: &mut Words,
 ) -> Result<Vec<u8>, Refusal>
-    // They are the moves of the bundle's plan, which the checker accepted, in order, and none is left out.
     ensures moves { IfOk result (λ text. (ring : RingValue) × (plan : List Planned)
         × IsStudyOf bytes.now ring plan × IsApproved ring plan × (text.items ≡ moves_text ring plan)) }
 {

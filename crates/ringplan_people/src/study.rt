@@ -1,4 +1,4 @@
-//! A bundle whose plan the checker accepts.
+//! Bundles whose plan the checker accepts.
 
 ghost use Rattle.std.specs.Prelude.{◌≡◌, None, IfOk, IfSome};
 ghost use Rattle.plan_text.specs.Valid.{Suits};
@@ -18,16 +18,16 @@ use ring_table::Ring;
 use ringplan_jobs::{Kind as Sections, read_bundle};
 use std::alloc::Global;
 
-/// An approved plan with its certificate, and what has happened of it.
+/// An approved plan with its certificate and history.
 #[derive(Drop)]
 pub struct Study {
     pub approved: Approved,
     pub cert: Cert,
-    /// A run of the plan, where the bundle has a history.
+    /// A run of the plan, if the bundle has a history.
     pub history: Option<Vec<Entry>>,
 }
 
-/// A plan with no history, where the checker accepts it.
+/// Checks a plan without a history.
 pub(crate) fn accepted(alloc: Global, ring: Ring, plan: Plan, cert: Cert) -> Result<Study, Refusal>
     requires { Suits ring plan }
     ensures same { IfOk result (λ s. (s.approved.ring ≡ ring) × (s.approved.plan ≡ plan)) }
@@ -46,7 +46,7 @@ pub(crate) fn accepted(alloc: Global, ring: Ring, plan: Plan, cert: Cert) -> Res
     }
 }
 
-/// A bundle with a plan, and without a history.
+/// Reads and checks a bundle with a plan and without a history.
 pub(crate) fn study_plan(alloc: Global, bytes: &[u8]) -> Result<Study, Refusal>
     ensures of { IfOk result (λ s. IsPlanOf bytes.now s.approved.ring s.approved.plan) }
     ensures history { IfOk result (λ s. s.history ≡ None) }
@@ -55,7 +55,7 @@ pub(crate) fn study_plan(alloc: Global, bytes: &[u8]) -> Result<Study, Refusal>
     accepted(alloc, bundle.ring, bundle.plan, bundle.cert)
 }
 
-/// A bundle with a change, and a plan that leads to the ring that is wished for.
+/// Reads a bundle with a change, and makes a plan for it.
 pub(crate) fn study_change(alloc: Global, bytes: &[u8], options: &Options) -> Result<Study, Refusal>
     ensures of { IfOk result (λ s. IsPlanOf bytes.now s.approved.ring s.approved.plan) }
     ensures history { IfOk result (λ s. s.history ≡ None) }
@@ -68,7 +68,6 @@ pub(crate) fn study_change(alloc: Global, bytes: &[u8], options: &Options) -> Re
     })
 }
 
-// A bundle with a history.
 fn study_history(alloc: Global, bytes: &[u8]) -> Result<Study, Refusal>
     ensures of { IfOk result (λ s. IsStudyOf bytes.now s.approved.ring s.approved.plan) }
     ensures history { IfOk result
@@ -85,12 +84,11 @@ fn study_history(alloc: Global, bytes: &[u8]) -> Result<Study, Refusal>
     })
 }
 
-/// The plan of a bundle, if the checker accepts it; if the bundle has a change, a plan is made first, by the options. Refused is the first fault of the texts, what
-/// `wish_bundle` or the checker refuses, and a history that is not a run of the plan.
+/// Reads and checks a bundle. For one with a change, a plan is made first, by the options.
+///
+/// Refused are the first fault of the texts, what `wish_bundle` or the checker refuses, and a history that is not a run of the plan.
 pub fn studied(alloc: Global, bytes: &[u8], options: &Options) -> Result<Study, Refusal>
-    // The ring and the plan are those of the bundle, or the plan makes its change.
     ensures of { IfOk result (λ s. IsStudyOf bytes.now s.approved.ring s.approved.plan) }
-    // What has happened is the bundle's history, and a run of the plan.
     ensures history { IfOk result
         (λ s. IfSome s.history (λ h. IsRecorded bytes.now s.approved.ring s.approved.plan h.items)) }
 {

@@ -1,4 +1,4 @@
-//! The trail of a wrong reply: the entries by which the puts that differ came to where they were read.
+//! The trail of a wrong reply: how the differing puts came to where they were read.
 
 use crate::after::{earlier, slot_of};
 use plan_runs::{Entry, Event, Key, Reply};
@@ -9,14 +9,14 @@ use ring_table::Ring;
 use show_why::Said;
 use std::alloc::Global;
 
-// A trail has at most twelve lines: three puts with two entries each, and three steps of the slot.
+// At most twelve lines: three puts with two entries each, and three steps of the slot.
 const PUTS: usize = 3;
 
 const ENTRIES: usize = 2;
 
 const STEPS: usize = 3;
 
-/// The entries of a history before one with a wrong reply, the line of the first of them, and the plan that they run.
+/// The entries of a history before a wrong reply, the line of the first, and their plan.
 #[derive(Clone, Copy)]
 pub(crate) struct Trail<'a> {
     pub ring: &'a Ring,
@@ -25,21 +25,20 @@ pub(crate) struct Trail<'a> {
     pub line: u32,
 }
 
-// A put that only one of two replies has: the one that was due, where it is missing.
+// A put that only one of two replies has. It is missing if only the reply that was due has it.
 #[derive(Clone, Copy)]
 struct Differing {
     put: u32,
     is_missing: bool,
 }
 
-// Where a get looked: the slot of a read with the chunk of the key, or all that the get has read.
+// Where a get looked: the slot of a read with the key's chunk, or all that the get has read.
 #[derive(Clone, Copy)]
 enum Looked {
     Slot(Slot, u32),
     Reads(u32),
 }
 
-// The puts of a reply that has some.
 fn puts_of(reply: &Reply) -> Option<&[u32]> {
     match reply {
         Reply::Found(puts) | Reply::Answer(puts) => Some(puts.as_slice()),
@@ -47,7 +46,6 @@ fn puts_of(reply: &Reply) -> Option<&[u32]> {
     }
 }
 
-// The first puts that only one of two ascending lists has.
 fn differences(alloc: Global, due: &[u32], told: &[u32]) -> Result<Vec<Differing>, Refusal> {
     let mut found = Vec::new(alloc);
     let (mut in_due, mut in_told) = (0usize, 0usize);
@@ -70,7 +68,6 @@ fn differences(alloc: Global, due: &[u32], told: &[u32]) -> Result<Vec<Differing
     Ok(found)
 }
 
-// The key of the get of that number.
 fn key_of(history: &[Entry], get: u32) -> Option<&Key> {
     let mut left = get;
     for entry in history {
@@ -84,7 +81,7 @@ fn key_of(history: &[Entry], get: u32) -> Option<&Key> {
     None
 }
 
-// The place of the entry that started the put of that number.
+// The place of the entry that started the put.
 fn start_of(history: &[Entry], put: u32) -> Option<usize> {
     let mut left = put;
     for (place, entry) in history.iter().enumerate() {
@@ -98,7 +95,6 @@ fn start_of(history: &[Entry], put: u32) -> Option<usize> {
     None
 }
 
-// Whether the event is a read of the get that found the put.
 fn is_find(entry: &Entry, get: u32, put: u32) -> bool {
     match &entry.event {
         Event::Read(other, _) if *other == get => match puts_of(&entry.reply) {
@@ -110,7 +106,6 @@ fn is_find(entry: &Entry, get: u32, put: u32) -> bool {
 }
 
 impl<'a> Trail<'a> {
-    // Where the event looked, if it is a read or the end of a get.
     fn source_of(&self, event: &Event) -> Option<Looked> {
         match event {
             Event::EndGet(get) => Some(Looked::Reads(*get)),
@@ -128,7 +123,7 @@ impl<'a> Trail<'a> {
         }
     }
 
-    // Whether the entry brought the put to where it was looked for.
+    // Whether the entry brought the put to where the get looked.
     fn brings(&self, entry: &Entry, source: Looked, put: u32) -> bool {
         match source {
             Looked::Reads(get) => is_find(entry, get, put),
@@ -141,7 +136,7 @@ impl<'a> Trail<'a> {
         }
     }
 
-    // Whether the entry is one of the slot: a step of it, a copy of the chunk, or hints that are handed to it.
+    // Whether the entry is a step of the slot, a copy of its chunk, or a handoff of hints to it.
     fn is_of_slot(&self, event: &Event, slot: Slot, chunk: u32) -> bool {
         match event {
             Event::Do(step) | Event::CloseCopy(step) => slot_of(self.plan, *step) == Some(slot),
@@ -153,7 +148,6 @@ impl<'a> Trail<'a> {
         }
     }
 
-    // What an entry of the slot does.
     fn deed(&self, event: &Event) -> &'static [u8] {
         match event {
             Event::Handoff(_, _) => b"hints of the slot go to its owner",
@@ -176,13 +170,11 @@ impl<'a> Trail<'a> {
         }
     }
 
-    // The line of an entry.
     fn line_of(&self, place: usize) -> u32 {
         self.line
             .saturating_add(u32::try_from(place).unwrap_or(u32::MAX))
     }
 
-    // Shows the last entries that brought the put.
     fn tell_bringers(&self, said: &mut Said, source: Looked, put: u32) {
         let mut shown = 0usize;
         for turn in 0..self.history.len() {
@@ -197,7 +189,6 @@ impl<'a> Trail<'a> {
         }
     }
 
-    // Shows the line of a put that differs, and the last entries that brought it.
     fn tell_put(&self, said: &mut Said, source: Looked, one: Differing) {
         self.tell_bringers(said, source, one.put);
         let Some(place) = start_of(self.history, one.put) else {
@@ -212,7 +203,6 @@ impl<'a> Trail<'a> {
         said.beside_with(self.line_of(place), words, &[], &[one.put]);
     }
 
-    // Shows the last entries of the slot.
     fn tell_steps(&self, said: &mut Said, slot: Slot, chunk: u32) {
         let mut shown = 0usize;
         for turn in 0..self.history.len() {
@@ -228,8 +218,7 @@ impl<'a> Trail<'a> {
         }
     }
 
-    /// Shows for each put in which the reply to a read or to the end of a get differs from the one that was due its line and the entries
-    /// by which it came, and of a read the slot's last entries: at most twelve lines.
+    /// Shows for each differing put of a read or the end of a get its line and the entries that brought it. For a read also the slot's last entries.
     pub(crate) fn tell(
         &self,
         alloc: Global,

@@ -13,7 +13,7 @@ ghost use Rattle.ringplan_people.specs.Studies.{HasApproved};
 ghost use Rattle.ringplan_people.specs.Why.{AnswersCheck, BeginsWith, IsWhy};
 
 use crate::history_words::{tell_history, unless_memory};
-use crate::keeping::say_kept;
+use crate::keeping::{APART, FEW, MEMBERS, say_kept};
 use crate::painting::painted;
 use crate::study::{Study, studied, study_change};
 use change_text::{Options, Wanted, read_wanted};
@@ -30,7 +30,7 @@ use show_refusal::{Read, Remedy, tell_plan};
 use show_why::{Page, Said, tell_text};
 use std::alloc::Global;
 
-/// What comes of a mended bundle.
+/// What the checker says of a mended bundle.
 #[derive(Clone, Copy, PartialEq, Eq)]
 pub(crate) enum Outcome {
     /// The checker says yes.
@@ -41,13 +41,12 @@ pub(crate) enum Outcome {
     Replayed,
     /// Another refusal.
     Next(Refusal),
-    /// The refusal that came before; or there is no mend.
+    /// The refusal that came before, or there is no mend.
     Same,
 }
 
-// What comes of a bundle that was refused so before it was mended.
+// Checks a mended bundle that was refused so before.
 fn asked(alloc: Global, mended: &[u8], was: &Refusal) -> Result<Outcome, Refusal>
-    // Where the checker says yes, the plan keeps its promises.
     ensures yes { IfOk result (λ o. o ≡ Outcome.Accepted → TextsKeepPromises mended.now) }
 {
     match kind_of(mended) {
@@ -66,7 +65,6 @@ fn asked(alloc: Global, mended: &[u8], was: &Refusal) -> Result<Outcome, Refusal
     }
 }
 
-// What comes of a bundle that is refused.
 fn next(refusal: Refusal, was: &Refusal) -> Result<Outcome, Refusal>
     ensures { IfOk result (λ o. o ≢ Outcome.Accepted) }
 {
@@ -80,7 +78,7 @@ fn next(refusal: Refusal, was: &Refusal) -> Result<Outcome, Refusal>
     })
 }
 
-// Adds the mend, with what comes of the mended bundle, unless that is refused as before. Returns what comes of it.
+// Adds the mend and what comes of it, unless the mended bundle is refused as before.
 fn push_mend(
     alloc: Global,
     out: &mut Words,
@@ -122,7 +120,7 @@ fn push_next(alloc: Global, out: &mut Words, refusal: Refusal) -> Result<(), Ref
     Ok(())
 }
 
-// Says what there is to say of the refusal of a bundle whose texts are in order.
+// Says why a bundle is refused whose texts are in order.
 fn tell_read(
     alloc: Global,
     said: &mut Said,
@@ -136,10 +134,10 @@ fn tell_read(
     }
 }
 
-// The most bytes of texts for which another certificate is sought: the search may take the square of their steps.
+// Longer texts are not searched for another certificate, which may take the square of their steps.
 const SOUGHT: usize = 65_536;
 
-// What may mend that a certificate has too many chains of a node, where that is why its plan is refused.
+// What may mend a plan that is refused because a node has too many chains.
 fn remedy_of(alloc: Global, texts: &[u8], refusal: &Refusal) -> Result<Remedy, Refusal> {
     let Refusal::TooManyChains(node) = refusal else {
         return Ok(Remedy::Unknown);
@@ -155,7 +153,6 @@ fn remedy_of(alloc: Global, texts: &[u8], refusal: &Refusal) -> Result<Remedy, R
     }
 }
 
-// Says why the checker refuses the plan of these texts.
 fn tell_checked(
     alloc: Global,
     said: &mut Said,
@@ -177,7 +174,6 @@ fn tell_checked(
     Ok(())
 }
 
-// How many members the change would leave.
 fn members_left(wanted: &Wanted) -> u32 {
     let mut members = 0u32;
     for node in wanted.ring.nodes() {
@@ -192,7 +188,7 @@ fn members_left(wanted: &Wanted) -> u32 {
     members
 }
 
-/// Says that too few members would be left that are not dead, and whether that is so.
+/// Says that too few live members would be left. Returns whether that is so.
 pub(crate) fn push_few(
     alloc: Global,
     out: &mut Words,
@@ -213,14 +209,13 @@ pub(crate) fn push_few(
     Ok(true)
 }
 
-/// Says that so many members are too few for partitions of so many slots.
+/// Says that so many members are too few for the slots of a partition.
 pub(crate) fn push_too_few(alloc: Global, out: &mut Words, members: u32, slots: u32) {
     let mut said = Said::new(alloc);
     tell_few(&mut said, members, slots);
     said.push(out, Page { bytes: b"" });
 }
 
-// Says why there is no plan for a change.
 fn tell_no_plan(alloc: Global, said: &mut Said, bytes: &[u8]) -> Result<(), Refusal> {
     let wanted = match read_wanted(alloc, bytes) {
         Ok(wanted) => wanted,
@@ -230,7 +225,7 @@ fn tell_no_plan(alloc: Global, said: &mut Said, bytes: &[u8]) -> Result<(), Refu
     Ok(())
 }
 
-// Says that so many members are too few for partitions of so many slots, where they are.
+// Says whether too few members are left, or only that no plan was found.
 fn tell_few(said: &mut Said, members: u32, slots: u32) {
     if members >= slots {
         said.title(b"the planner found no plan");
@@ -245,8 +240,7 @@ fn tell_few(said: &mut Said, members: u32, slots: u32) {
     said.note(b"Let fewer nodes leave, or more join.")
 }
 
-/// Adds why a bundle is refused so, in words: nothing where there is no more to say than its line. `said` keeps what is said, and returned is what comes of its
-/// mend.
+/// Adds why a bundle is refused so. Keeps what is said in `said`, and returns what comes of its mend.
 pub(crate) fn push_why(
     alloc: Global,
     out: &mut Words,
@@ -260,7 +254,7 @@ pub(crate) fn push_why(
     push_said(alloc, out, said, bytes, refusal)
 }
 
-// Adds what is said of a bundle that is refused so, and its mend. Returns what comes of the mend.
+// Adds what is said and its mend. Returns what comes of the mend.
 fn push_said(
     alloc: Global,
     out: &mut Words,
@@ -275,7 +269,7 @@ fn push_said(
     Ok(Outcome::Same)
 }
 
-/// Adds why a bundle is refused so, in words: nothing where there is no more to say than its line.
+/// Adds why a bundle is refused so: nothing if its line says all.
 pub fn push_words_of(
     alloc: Global,
     out: &mut Words,
@@ -287,7 +281,7 @@ pub fn push_words_of(
     Ok(())
 }
 
-/// Adds what a yes says of a plan.
+/// Adds what a yes says about a plan.
 pub(crate) fn push_accepted(out: &mut Words, found: &Study) {
     let (ring, plan) = (found.approved.ring(), found.approved.plan());
     let begin: &[u8] = if plan.len() == 1 {
@@ -302,15 +296,17 @@ pub(crate) fn push_accepted(out: &mut Words, found: &Study) {
     if ring.loss() > 0 {
         out.fill(b",\n  with # lost between", &[], &[ring.loss()]);
     }
-    let end =
-        b";\n  no two slots of a partition share a node;\n  no node has more transfers open than its allowance;\n  each slot's owner and mirror are members.\n";
-    out.text(end);
+    out.fill(
+        b";\n  @;\n  @;\n  @.\n",
+        &[APART.as_slice(), FEW.as_slice(), MEMBERS.as_slice()],
+        &[],
+    );
     if found.history.is_some() {
         out.text(b"  The history is a run of it.\n");
     }
 }
 
-// The answer that tells what was found, with these lines and words after it.
+// The answer: what was found, these lines and these words.
 fn answer_with(
     alloc: Global,
     found: Result<Vec<u8>, Refusal>,
@@ -327,7 +323,6 @@ fn answer_with(
     Ok(answer)
 }
 
-// The answer to a plan that is accepted.
 fn answer_accepted(alloc: Global, found: &Study, color: Color) -> Result<Answer, Refusal>
     ensures { IfOk result (λ a. BeginsWith (Ok (codes "yes" ++ 10 ∷ [])) [] a.output.items a.status) }
 {
@@ -337,7 +332,7 @@ fn answer_accepted(alloc: Global, found: &Study, color: Color) -> Result<Answer,
     answer_with(alloc, Ok(yes), b"", words, color)
 }
 
-// The answer to a plan that the checker gave back, read of the bytes with this certificate.
+// The answer to a plan that the checker refused.
 fn answer_turned(
     alloc: Global,
     bytes: &[u8],
@@ -367,7 +362,6 @@ fn answer_turned(
     answer_with(alloc, Err(*refusal), lines.as_slice(), words, color)
 }
 
-// Why a ring, a plan and its certificate, as they were read, are accepted or refused.
 fn why_read(alloc: Global, bytes: &[u8], bundle: Bundle, color: Color) -> Result<Answer, Refusal>
     requires read { whole_text (bundle_at kind.Check) bytes.now ≡ Ok bundle }
     requires parts { IsOfRing bundle }
@@ -392,7 +386,7 @@ fn why_read(alloc: Global, bytes: &[u8], bundle: Bundle, color: Color) -> Result
     }
 }
 
-// Adds why a bundle with a change or a history is accepted or refused, and gives the refusal.
+// Adds why a bundle with a change or a history is accepted or refused. Returns the refusal.
 fn push_more(alloc: Global, out: &mut Words, bytes: &[u8]) -> Result<Option<Refusal>, Refusal>
     ensures { IfOk result (λ r. IfNone r (HasApproved bytes.now)) }
 {
@@ -411,7 +405,6 @@ fn push_more(alloc: Global, out: &mut Words, bytes: &[u8]) -> Result<Option<Refu
     }
 }
 
-// Why a bundle with a change or a history is accepted or refused.
 fn why_more(alloc: Global, bytes: &[u8], color: Color) -> Result<Answer, Refusal>
     ensures yes { IfOk result (λ a. a.status ≡ 0 → HasApproved bytes.now) }
     ensures few { IfOk result (λ a. a.status ≤ 3) }
@@ -424,7 +417,7 @@ fn why_more(alloc: Global, bytes: &[u8], color: Color) -> Result<Answer, Refusal
     answer_with(alloc, found, b"", words, color)
 }
 
-// Why a bundle whose texts are not those of a ring, a plan and a certificate is accepted or refused.
+// Why a bundle is accepted or refused that is not a ring, a plan and a certificate.
 fn why_unread(
     alloc: Global,
     bytes: &[u8],
@@ -446,11 +439,10 @@ fn why_unread(
     }
 }
 
-/// What the checker says of a bundle, and why: its line, and then words with the lines concerned and a mend, where there is one. Of a bundle with a change the
-/// planner's refusal or the yes to its plan, of one with a history also whether that is a run. The status is that of the line.
-/// The words may have colours; the line has none. The texts of a ring, a plan and a certificate are read and checked once.
+/// Says what the checker answers, and why: its line, then words with the lines concerned and a mend. The status is that of the line.
+///
+/// A bundle with a change is planned first. If a bundle has a history, the words say whether it is a run. Only the words may have colours.
 pub fn why_bundle(alloc: Global, bytes: &[u8], color: Color) -> Result<Answer, Refusal>
-    // Status 0 comes only where the plan keeps its promises; of a ring, a plan and a certificate line and status are those of a check.
     ensures why { IfOk result (λ a. IsWhy bytes.now a.output.items a.status) }
     ensures few { IfOk result (λ a. a.status ≤ 3) }
 {

@@ -17,11 +17,10 @@ use ring_names::Refusal;
 use ringplan_job::Cut;
 use std::alloc::Global;
 
-// What is said of too many bytes.
 const TOO_MANY: &[u8; 123] =
     b"refused: the windows have more than 67,108,864 bytes together, as each has the whole ring\n  Let a window have more rounds.\n";
 
-/// The plan of a bundle in windows, or one of these, as `cut_plan` says; a history changes nothing. Refused is what `studied` refuses, and what `cut_plan` does.
+/// Cuts a bundle's plan into windows, or returns one of these, as `cut_plan` does. A history changes nothing. Refusals are those of `studied` and `cut_plan`.
 pub fn windows_bundle(
     alloc: Global,
     bytes: &[u8],
@@ -29,7 +28,6 @@ pub fn windows_bundle(
     options: &Options,
     words: &mut Words,
 ) -> Result<Vec<u8>, Refusal>
-    // They are windows of the bundle's plan, which the checker accepted, from the ring's text on to its end, or the one of the number that is asked for.
     ensures windows { IfOk result (λ text. (ring : RingValue) × (plan : List Planned)
         × IsStudyOf bytes.now ring plan × IsApproved ring plan × AreAskedOf ring plan cut.only text.items) }
 {
@@ -57,7 +55,7 @@ pub fn push_windows_words(
     }
 }
 
-// Says that there is no such window, where the plan itself is accepted.
+// Says that there is no such window, if the plan itself is accepted.
 fn push_no_window(
     alloc: Global,
     out: &mut Words,
@@ -72,7 +70,7 @@ fn push_no_window(
     }
 }
 
-// Says how many windows there are, or that no ring can say what one of them leaves.
+// Says how many windows there are, or that a window leaves no ring.
 fn push_count(alloc: Global, out: &mut Words, found: &Study, cut: Cut) -> Result<(), Refusal> {
     match cut_plan(alloc, &found.approved, cut.rounds, None) {
         Ok(text) => {
@@ -95,7 +93,6 @@ fn push_count(alloc: Global, out: &mut Words, found: &Study, cut: Cut) -> Result
     Ok(())
 }
 
-// How many rings begin in the text.
 fn count_rings(text: &[u8]) -> u32 {
     let mut count = 0u32;
     for line in text.split(|byte| *byte == b'\n') {

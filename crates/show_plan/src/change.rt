@@ -1,4 +1,4 @@
-//! Who joins and who leaves, and what must move for it.
+//! Which nodes join and leave, and what must move for that.
 
 use crate::names::{NodeNames, push_many, push_names};
 use crate::present::Present;
@@ -7,7 +7,7 @@ use crate::writing::columns;
 use helpers::{Words, small};
 use ring_table::Ring;
 
-// `a and b join`, or nothing where nobody does.
+// Writes `a and b join`, or nothing if there are no nodes.
 fn push_who(out: &mut Words, names: NodeNames, nodes: &[u32], one: &[u8], more: &[u8]) {
     let mut width = 0usize;
     for node in nodes {
@@ -22,11 +22,11 @@ fn push_who(out: &mut Words, names: NodeNames, nodes: &[u32], one: &[u8], more: 
     out.text(if nodes.len() == 1 { one } else { more });
 }
 
-/// Who joins and who leaves.
+/// Writes which nodes join and leave.
 pub fn push_change(out: &mut Words, names: NodeNames, scene: &Scene) {
     let (joins, leaves) = (scene.joins.as_slice(), scene.leaves.as_slice());
     if joins.is_empty() && leaves.is_empty() {
-        out.text(b"Nobody joins or leaves");
+        out.text(b"No node joins or leaves");
     }
     if !joins.is_empty() {
         push_who(out, names, joins, b"joins", b"join");
@@ -39,7 +39,7 @@ pub fn push_change(out: &mut Words, names: NodeNames, scene: &Scene) {
     }
 }
 
-/// How many slots move, with the word for one or that for more; where a slot moves more than once `1000 moves of 1 slot`.
+/// Writes how many slots move, in words for one or more. If a slot moves more than once: `1000 moves of 1 slot`.
 pub fn push_moves(out: &mut Words, scene: &Scene, one: &[u8], more: &[u8]) {
     let moves = scene.move_count();
     if moves == scene.moved_slots {
@@ -49,8 +49,8 @@ pub fn push_moves(out: &mut Words, scene: &Scene, one: &[u8], more: &[u8]) {
     push_many(out, scene.moved_slots, b"slot", b"slots")
 }
 
-/// The fewest slots that must move if these nodes join and leave: each of a leaver or of a dead node, and as many more as give each joiner its share of all,
-/// rounded down.
+/// Returns the fewest slots that must move. These are all slots of leavers and dead nodes, or more, so that
+/// each joiner gets its share, rounded down.
 pub fn fewest_moves(ring: &Ring, scene: &Scene, present: &Present) -> u32 {
     let total = ring.q().saturating_mul(ring.n());
     let share = match total.checked_div(count_living(ring, scene, present)) {
@@ -72,7 +72,6 @@ pub fn fewest_moves(ring: &Ring, scene: &Scene, present: &Present) -> u32 {
     leaving.saturating_add(share.saturating_mul(joins).saturating_sub(given))
 }
 
-// How many members there are in the end that are not dead.
 fn count_living(ring: &Ring, scene: &Scene, present: &Present) -> u32 {
     let mut count = 0u32;
     for node in 0..small(ring.nodes().len()) {
@@ -83,7 +82,7 @@ fn count_living(ring: &Ring, scene: &Scene, present: &Present) -> u32 {
     count
 }
 
-/// How many members there are in the end that answer.
+/// Counts the members in the end that answer.
 pub fn count_members(ring: &Ring, scene: &Scene, present: &Present) -> u32 {
     let mut count = 0u32;
     for node in 0..small(ring.nodes().len()) {

@@ -3,7 +3,6 @@
 use helpers::Labels;
 use ring_names::{Listed, NodeId};
 
-// Whether two of the owners stand in one rack.
 fn shares_rack(row: &[NodeId], racks: &Labels) -> bool {
     for first in 0..row.len() {
         for second in first + 1..row.len() {
@@ -15,7 +14,7 @@ fn shares_rack(row: &[NodeId], racks: &Labels) -> bool {
     false
 }
 
-/// How many partitions have two slots in one rack.
+/// Counts the partitions with two slots in one rack.
 pub fn sharing(rows: &[Listed<NodeId>], racks: &Labels) -> u32 {
     let mut count = 0u32;
     for row in rows {

@@ -1,4 +1,4 @@
-//! What remains if nodes fail, beside those that do not answer.
+//! What remains if nodes fail, besides those that do not answer.
 
 use crate::present::Present;
 use helpers::{at, raise, small};
@@ -6,7 +6,6 @@ use ring_names::{Listed, NodeId, Refusal};
 use ring_table::Ring;
 use std::alloc::Global;
 
-// How many of the owners answer.
 fn count_up(row: &[NodeId], present: &Present) -> u32 {
     let mut count = 0u32;
     for node in row {
@@ -17,7 +16,7 @@ fn count_up(row: &[NodeId], present: &Present) -> u32 {
     count
 }
 
-/// How many partitions answer reads and writes without the silent nodes.
+/// Counts the partitions that answer reads and writes without the silent nodes.
 pub fn kept(ring: &Ring, rows: &[Listed<NodeId>], present: &Present) -> u32 {
     let needed = ring.r().max(ring.w());
     let mut count = 0u32;
@@ -29,8 +28,7 @@ pub fn kept(ring: &Ring, rows: &[Listed<NodeId>], present: &Present) -> u32 {
     count
 }
 
-/// How many partitions still answer reads and writes, whichever node fails beside the silent ones: all that do without these, but for those that have no
-/// owner to spare and lose one, if the node fails that the most of them have.
+/// Counts the partitions that answer reads and writes if any one more node fails, at worst.
 pub fn kept_by_one(
     alloc: Global,
     ring: &Ring,
@@ -55,16 +53,16 @@ pub fn kept_by_one(
     Ok(kept(ring, rows, present).saturating_sub(most))
 }
 
-/// How many partitions pairs of nodes that answer share.
+/// How many partitions two answering nodes share.
 #[derive(Clone, Copy)]
 pub struct Shared {
     /// The most of any pair.
     pub most: u32,
-    /// Those of all pairs together.
+    /// The sum over all pairs.
     pub sum: u32,
 }
 
-/// Counts the partitions that each pair of nodes that answer shares.
+/// Counts the partitions shared by each pair of answering nodes.
 pub fn count_shared(
     alloc: Global,
     ring: &Ring,
@@ -83,7 +81,6 @@ pub fn count_shared(
     Ok(shared)
 }
 
-// Those of the owners that answer.
 fn up_of(alloc: Global, row: &[NodeId], present: &Present) -> Result<Vec<u32>, Refusal> {
     let mut up = Vec::new(alloc);
     for node in row {
@@ -94,7 +91,7 @@ fn up_of(alloc: Global, row: &[NodeId], present: &Present) -> Result<Vec<u32>, R
     Ok(up)
 }
 
-// Counts the pairs of the row. Answers the greatest of their counts.
+// Counts the pairs of the row. Returns the greatest count so far.
 fn count_pairs(counts: &mut [u32], row: &[u32]) -> u32 {
     let mut most = 0u32;
     for first in 0..row.len() {
@@ -108,13 +105,12 @@ fn count_pairs(counts: &mut [u32], row: &[u32]) -> u32 {
     most
 }
 
-/// How many pairs so many nodes have.
+/// Returns the number of pairs of nodes.
 pub fn all_pairs(nodes: u32) -> u32 {
     let all = u64::from(nodes).saturating_mul(u64::from(nodes.saturating_sub(1))) / 2;
     u32::try_from(all).unwrap_or(u32::MAX)
 }
 
-// How many of the owners the marks name.
 fn count_marked(marks: &[u32], row: &[NodeId]) -> u32 {
     let mut count = 0u32;
     for node in row {
@@ -123,7 +119,7 @@ fn count_marked(marks: &[u32], row: &[NodeId]) -> u32 {
     count
 }
 
-/// How many partitions have two slots or more on the nodes.
+/// Counts the partitions with two or more slots on the nodes.
 pub fn count_crowded(
     alloc: Global,
     ring: &Ring,

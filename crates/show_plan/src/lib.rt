@@ -1,5 +1,5 @@
-//! What is shown of a plan, and a plan in words: its moves and their rounds, what each node owns, gives and takes, and how far a run has come.
-//! Nothing is promised of it but what `plan_moves` says of moves, rounds and owners.
+//! A plan in words: its moves and their rounds, what each node owns, gives and takes, and how far a run has come.
+//! Nothing is proved of the words, except what `plan_moves` proves of moves, rounds and owners.
 #![tactic(auto)]
 
 mod change;

@@ -15,7 +15,7 @@ use std::alloc::Global;
 pub struct Loads {
     /// Slots owned before the first step.
     pub before: Vec<u32>,
-    /// Slots owned behind the last.
+    /// Slots owned after the last step.
     pub after: Vec<u32>,
     /// Moves whose copies read from the node.
     pub gives: Vec<u32>,
@@ -59,7 +59,7 @@ impl Loads {
         }
     }
 
-    /// Has the fewest transfers that the plan's order allows stand in the place of the certificate's chains, as far as they are found.
+    /// Replaces the numbers of chains by the fewest transfers that the plan's order allows, if found.
     pub fn count_fewest(&mut self, alloc: Global, ring: &Ring, plan: &Plan) -> Result<(), Refusal> {
         let mut order = Order::of(alloc, plan)?;
         let sides = Sides::of(alloc, ring, plan)?;
@@ -74,7 +74,6 @@ impl Loads {
         Ok(())
     }
 
-    // The counts of transfers of that side.
     fn counts(&mut self, side: Side) -> &mut [u32] {
         match side {
             Side::Both => self.joint.as_mut_slice(),
@@ -90,8 +89,9 @@ impl Loads {
         }
     }
 
-    /// How many transfers the node never has more of at once, and how many it bears: `3 at once (bears 4)`, or `2 in at once (bears 2), 1 out at once (bears 2)`.
-    /// Nothing where it has none of a side.
+    /// Writes the most transfers of the node at once, and its allowance. Leaves out a side without transfers.
+    ///
+    /// For example `3 at once (bears 4)`, or `2 in at once (bears 2), 1 out at once (bears 2)`.
     pub fn push_at_once(&self, out: &mut Words, allowance: Allowance, node: u32) {
         let place = node as usize;
         match allowance {
@@ -114,14 +114,13 @@ impl Loads {
     }
 }
 
-// Writes what was found.
 fn put(numbers: &mut [u32], place: usize, found: Option<u32>) {
     if let (Some(number), Some(found)) = (numbers.get_mut(place), found) {
         *number = found;
     }
 }
 
-// `3 at once (bears 4)`, with these words in the middle; nothing of none.
+// Writes `3 at once (bears 4)`, with these words in the middle. Writes nothing for none.
 fn push_of(out: &mut Words, count: u32, most: u32, words: &[u8]) {
     if count == 0 {
         return;

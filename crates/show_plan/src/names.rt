@@ -6,12 +6,12 @@ use ring_table::Ring;
 use std::alloc::Global;
 use std::str;
 
-// The most characters of a name, and how many of a longer one stand before the points in its middle, and after them.
+// The most characters of a name, and how many of a longer one are kept at each end.
 const MOST: usize = 32;
 
 const KEPT: usize = 15;
 
-/// The names of a ring's nodes in words: their aliases, if they have some.
+/// The names of a ring's nodes in words: their aliases, if they have any.
 #[derive(Clone, Copy)]
 pub struct NodeNames<'a> {
     ring: &'a Ring,
@@ -19,7 +19,7 @@ pub struct NodeNames<'a> {
 }
 
 impl<'a> NodeNames<'a> {
-    /// The aliases are as `short_labels` makes them.
+    /// Takes aliases made by `short_labels`.
     pub fn new(ring: &'a Ring, aliases: Option<&'a Labels>) -> NodeNames<'a> {
         NodeNames { ring, aliases }
     }
@@ -28,7 +28,7 @@ impl<'a> NodeNames<'a> {
         self.ring
     }
 
-    /// The name of the node.
+    /// Returns the node's alias, or its name.
     pub fn name(&self, node: u32) -> &'a [u8] {
         match self.aliases {
             Some(aliases) if !aliases.name(node).is_empty() => aliases.name(node),
@@ -37,7 +37,7 @@ impl<'a> NodeNames<'a> {
     }
 }
 
-/// The labels with at most 32 characters each: a longer one has `..` in place of its middle.
+/// Shortens the labels to at most 32 characters, with `..` in the middle.
 pub fn short_labels(alloc: Global, labels: &Labels) -> Result<Labels, Refusal> {
     let mut short = Labels::new(alloc);
     for node in 0..helpers::small(labels.numbers().len()) {
@@ -51,7 +51,6 @@ pub fn short_labels(alloc: Global, labels: &Labels) -> Result<Labels, Refusal> {
     Ok(short)
 }
 
-// The label with at most 32 characters.
 fn short_of(alloc: Global, label: &str) -> Result<String, Refusal> {
     let count = label.chars().count();
     let mut short = String::new(alloc);
@@ -65,7 +64,7 @@ fn short_of(alloc: Global, label: &str) -> Result<String, Refusal> {
     Ok(short)
 }
 
-// The character, or a question mark for the two that XML does not have.
+// Replaces two characters that XML does not allow.
 fn shown(letter: char) -> char {
     match letter {
         '\u{fffe}' | '\u{ffff}' => '?',
@@ -73,7 +72,7 @@ fn shown(letter: char) -> char {
     }
 }
 
-/// The names of the nodes: `a`, `a and b`, `a, b and c`. Of more than `most` nodes the last stand as a number: `a, b and 7 others`.
+/// Writes the names: `a`, `a and b`, `a, b and c`. With more than `most` nodes: `a, b and 7 others`.
 pub fn push_names(out: &mut Words, names: NodeNames, nodes: &[u32], most: usize) {
     let shown = if nodes.len() > most {
         most.saturating_sub(1)
@@ -99,15 +98,15 @@ pub fn push_names(out: &mut Words, names: NodeNames, nodes: &[u32], most: usize)
     }
 }
 
-/// The number, a space, and the word for one or that for more.
+/// Writes the number and the word for one or for more.
 pub fn push_many(out: &mut Words, number: u32, one: &[u8], more: &[u8]) {
     out.number(number);
     out.byte(b' ');
     out.text(if number == 1 { one } else { more });
 }
 
-/// How many partitions the ring has of how many slots, how many of those answer a read and take a write, and how many may be lost; in front of the answers and
-/// between them stand these words.
+/// Writes the numbers of partitions and slots, and the quorums. `first` and `second` come before the answers to a read
+/// and a write.
 pub fn push_quorum(out: &mut Words, ring: &Ring, first: &[u8], second: &[u8]) {
     push_many(out, ring.q(), b"partition of ", b"partitions of ");
     push_many(out, ring.n(), b"slot", b"slots");

@@ -25,19 +25,19 @@ use std::alloc::Global;
 pub enum Shape {
     /// At most 24 nodes, 12 rounds and 6 entries of a round; the rest is summed.
     Short,
-    /// All.
+    /// Everything.
     Whole,
 }
 
-/// How much the plan moves, where partitions have sizes.
+/// How much the plan moves, if partitions have sizes.
 #[derive(Clone, Copy)]
 pub struct Sized<'a> {
     pub volumes: &'a Volumes,
-    /// How much one transfer copies in a second, from 1 on, where it is known.
+    /// How much one transfer copies in a second, from 1 on, if known.
     pub rate: Option<u32>,
 }
 
-/// What a summary is made of.
+/// The input of a summary.
 #[derive(Clone, Copy)]
 pub struct View<'a> {
     pub alloc: Global,
@@ -45,21 +45,19 @@ pub struct View<'a> {
     pub names: NodeNames<'a>,
     pub plan: &'a Plan,
     pub scene: &'a Scene,
-    /// How the ring stands after the last entry of the history, or before the first step.
+    /// The ring after the last entry of the history, or before the first step.
     pub present: &'a Present,
-    /// How far the history has come, where there is one.
+    /// How far the history has come.
     pub progress: Option<&'a Progress>,
     pub shape: Shape,
-    /// How much moves, where sizes are asked for.
+    /// How much moves, if asked for.
     pub sized: Option<Sized<'a>>,
-    /// The racks of nodes, if they are known.
+    /// The racks of nodes, if known.
     pub racks: Option<&'a Labels>,
 }
 
-// Behind which column of a line its words begin.
 const INDENT: usize = 12;
 
-// What the plan does to its ring.
 fn tell_change(view: &View, line: &mut Words) {
     push_change(line, view.names, view.scene);
     line.text(b" a ring of ");
@@ -83,7 +81,7 @@ fn tell_moves(view: &View, line: &mut Words) {
     push_fewest(view, line)
 }
 
-// Whether fewer moves would do.
+// Writes whether fewer moves would do.
 fn push_fewest(view: &View, line: &mut Words) {
     let moves = view.scene.move_count();
     let fewest = fewest_moves(view.ring, view.scene, view.present);
@@ -108,7 +106,7 @@ fn tell_round_count(view: &View, line: &mut Words) {
     line.number(view.scene.widest());
 }
 
-// How much moves, or how much of it a history leaves, and how long that takes at least.
+// Writes how much moves or remains to move, and how long that takes at least.
 fn tell_sizes(line: &mut Words, sized: Sized) {
     let volumes = sized.volumes;
     line.text(b"  sizes     ");
@@ -150,7 +148,6 @@ fn count_early(view: &View) -> u32 {
     early
 }
 
-// How many copies read listed slots.
 fn count_listed(view: &View) -> u32 {
     let mut listed = 0u32;
     for shown in view.scene.shown.moves.as_slice() {
@@ -161,7 +158,6 @@ fn count_listed(view: &View) -> u32 {
     listed
 }
 
-// What mirrors cost.
 fn tell_writes(view: &View, line: &mut Words) {
     line.text(b"  writes    twice for a slot while its mirror is open; ");
     let early = count_early(view);
@@ -177,14 +173,13 @@ fn tell_writes(view: &View, line: &mut Words) {
     )
 }
 
-// How many copies read more than the owner.
 fn tell_sources(line: &mut Words, listed: u32) {
     line.text(b"  sources   ");
     push_many(line, listed, b"copy reads", b"copies read");
     line.text(b" listed slots of the partition in place of the owner");
 }
 
-// How many slots the members own that answer, now and in the end.
+// The spans of slots that answering members own, now and in the end.
 fn spans_of(view: &View) -> (Span, Span) {
     let (mut now, mut then) = (Span::new(), Span::new());
     let loads = &view.scene.loads;
@@ -231,7 +226,7 @@ fn tell_racks(view: &View, line: &mut Words, racks: &Labels) {
     }
 }
 
-// In how many partitions those that join have two slots or more.
+// Writes in how many partitions joiners have two or more slots.
 fn tell_joiners(view: &View, line: &mut Words) -> Result<(), Refusal> {
     let rows = view.scene.last_rows.as_slice();
     let joins = view.scene.joins.as_slice();
@@ -246,7 +241,7 @@ fn tell_joiners(view: &View, line: &mut Words) -> Result<(), Refusal> {
     Ok(())
 }
 
-// Which silent nodes keep hints, and for how many slots.
+// Writes which silent nodes keep hints, and for how many slots.
 fn tell_hints(view: &View, out: &mut Words, line: &mut Words) -> Result<(), Refusal> {
     let Some(progress) = view.progress else {
         return Ok(());
@@ -307,7 +302,6 @@ fn tell_two_fail(view: &View, line: &mut Words) -> Result<(), Refusal> {
     Ok(())
 }
 
-// The last line.
 fn push_total(view: &View, out: &mut Words) {
     let scene = view.scene;
     out.text(b"Plan: ");
@@ -320,7 +314,6 @@ fn push_total(view: &View, out: &mut Words) {
     push_many(out, scene.round_count(), b"round.\n", b"rounds.\n");
 }
 
-// What the plan does, line by line; the second text is that of one line.
 fn push_overview(view: &View, out: &mut Words, line: &mut Words) -> Result<(), Refusal> {
     tell_change(view, line);
     end_line(out, line, 2);
@@ -330,21 +323,7 @@ fn push_overview(view: &View, out: &mut Words, line: &mut Words) -> Result<(), R
         end_line(out, line, INDENT);
         tell_hints(view, out, line)?;
     }
-    tell_moves(view, line);
-    end_line(out, line, INDENT);
-    tell_round_count(view, line);
-    end_line(out, line, INDENT);
-    if let Some(sized) = view.sized {
-        tell_sizes(line, sized);
-        end_line(out, line, INDENT);
-    }
-    tell_writes(view, line);
-    end_line(out, line, INDENT);
-    let listed = count_listed(view);
-    if listed > 0 {
-        tell_sources(line, listed);
-        end_line(out, line, INDENT);
-    }
+    push_motion(view, out, line);
     tell_balance(view, line);
     end_line(out, line, INDENT);
     if let Some(racks) = view.racks {
@@ -360,7 +339,25 @@ fn push_overview(view: &View, out: &mut Words, line: &mut Words) -> Result<(), R
     Ok(())
 }
 
-// What remains where a node or two fail.
+// Writes what moves, in how many rounds, and what copies read.
+fn push_motion(view: &View, out: &mut Words, line: &mut Words) {
+    tell_moves(view, line);
+    end_line(out, line, INDENT);
+    tell_round_count(view, line);
+    end_line(out, line, INDENT);
+    if let Some(sized) = view.sized {
+        tell_sizes(line, sized);
+        end_line(out, line, INDENT);
+    }
+    tell_writes(view, line);
+    end_line(out, line, INDENT);
+    let listed = count_listed(view);
+    if listed > 0 {
+        tell_sources(line, listed);
+        end_line(out, line, INDENT);
+    }
+}
+
 fn push_failures(view: &View, out: &mut Words, line: &mut Words) -> Result<(), Refusal> {
     tell_one_fails(view, line)?;
     end_line(out, line, INDENT);
@@ -369,7 +366,6 @@ fn push_failures(view: &View, out: &mut Words, line: &mut Words) -> Result<(), R
     Ok(())
 }
 
-// All of the summary; the second text is that of one line.
 fn push_summary(view: &View, out: &mut Words, line: &mut Words) -> Result<(), Refusal> {
     push_overview(view, out, line)?;
     push_table(view, out, line)?;
@@ -383,8 +379,10 @@ fn push_summary(view: &View, out: &mut Words, line: &mut Words) -> Result<(), Re
     Ok(())
 }
 
-/// The summary of a plan: who joins and leaves, what moves in how many rounds, what it does to balance, racks and failures, the table of nodes, the
-/// rounds, and where there is a history how far it has come. Lines have at most 100 bytes, but for rows of nodes with long names or large sizes. Its only refusal is `OutOfMemory`.
+/// Writes the summary of a plan: joins and leaves, moves and rounds, balance, racks, failures, the table of nodes, and
+/// the history's progress.
+///
+/// Lines have at most 100 bytes, except rows with long names or large sizes. Fails only with `OutOfMemory`.
 pub fn summary(view: &View) -> Result<Vec<u8>, Refusal> {
     let mut out = Words::new(view.alloc);
     let mut line = Words::new(view.alloc);

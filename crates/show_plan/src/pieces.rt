@@ -3,7 +3,7 @@
 use crate::writing::{WIDTH, columns, push_spaces};
 use helpers::Words;
 
-/// A line that is being filled with words. What does not fit goes to a line of its own behind the indent.
+/// A line that is filled with words. What does not fit goes to a new line after the indent.
 #[derive(Clone, Copy)]
 pub struct Flow {
     indent: usize,
@@ -19,7 +19,7 @@ impl Flow {
         }
     }
 
-    /// Adds a word behind so many spaces.
+    /// Adds a word after a gap of spaces.
     pub fn push(&mut self, out: &mut Words, word: &[u8], gap: usize) {
         let wide = columns(word);
         let end = self.column.saturating_add(gap).saturating_add(wide);

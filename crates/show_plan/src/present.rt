@@ -1,4 +1,4 @@
-//! How a ring stands after the last entry of a history.
+//! A ring after the last entry of a history.
 
 use crate::scene::Scene;
 use crate::shown::Shown;
@@ -9,25 +9,24 @@ use ring_names::{Listed, NodeId, Refusal};
 use ring_table::Ring;
 use std::alloc::Global;
 
-/// Who owns each slot, who is a member and who does not answer: after the last entry of a history, or before the first step if there is none.
+/// The owners, members and silent nodes after the last entry of a history, or before the first step.
 #[derive(Drop)]
 pub struct Present {
     /// The owners, by partition.
     pub rows: Vec<Listed<NodeId>>,
     /// How many slots each node owns.
     pub owned: Vec<u32>,
-    /// The nodes that do not answer, since they are dead or down, by number.
+    /// The nodes that do not answer because they are dead or down, ascending.
     pub silent: Vec<u32>,
-    // by node
     is_member: Vec<bool>,
-    // by node, by the history
+    // by node, from the history
     is_down: Vec<bool>,
-    // by node, as it was named
+    // by node, as named
     is_dead: Vec<bool>,
 }
 
 impl Present {
-    /// The ring as the history leaves it, with these nodes dead. Its only refusal is `OutOfMemory`.
+    /// The ring as the history leaves it, with these nodes dead. Fails only with `OutOfMemory`.
     pub fn of(
         alloc: Global,
         ring: &Ring,
@@ -46,7 +45,7 @@ impl Present {
         Ok(present)
     }
 
-    /// The ring as it is, without a plan, with these nodes dead. Its only refusal is `OutOfMemory`.
+    /// The ring without a plan, with these nodes dead. Fails only with `OutOfMemory`.
     pub fn at_rest(alloc: Global, ring: &Ring, dead: &[NodeId]) -> Result<Present, Refusal> {
         let rows = rows_now(alloc, ring, &[], None)?;
         let mut present = Present::with_rows(alloc, ring, rows)?;
@@ -55,7 +54,6 @@ impl Present {
         Ok(present)
     }
 
-    // These owners, and nothing known yet of the nodes.
     fn with_rows(
         alloc: Global,
         ring: &Ring,
@@ -72,14 +70,12 @@ impl Present {
         })
     }
 
-    // Who is dead.
     fn note_dead(&mut self, dead: &[NodeId]) {
         for node in dead {
             put(self.is_dead.as_mut_slice(), node.0, true);
         }
     }
 
-    // Who was a member at the start, and who does not answer.
     fn note_nodes(&mut self, ring: &Ring, progress: Option<&Progress>) -> Result<(), Refusal> {
         let mut number = 0u32;
         for node in ring.nodes() {
@@ -93,7 +89,6 @@ impl Present {
         Ok(())
     }
 
-    // Who has joined and retired since.
     fn note_steps(&mut self, plan: &Plan, progress: &Progress) {
         for number in 0..plan.len() {
             if !progress.is_done(number) {
@@ -113,7 +108,7 @@ impl Present {
         }
     }
 
-    /// Whether the node is down, by the history.
+    /// Whether the node is down in the history.
     pub fn is_down(&self, node: u32) -> bool {
         is_set(self.is_down.as_slice(), node)
     }
@@ -123,12 +118,12 @@ impl Present {
         is_set(self.is_dead.as_slice(), node)
     }
 
-    /// Whether the node does not answer, since it is dead or down.
+    /// Whether the node is dead or down.
     pub fn is_silent(&self, node: u32) -> bool {
         self.is_dead(node) || self.is_down(node)
     }
 
-    /// Why the node does not answer: `dead`, or `down`.
+    /// Returns `dead` or `down`, the reason why the node does not answer.
     pub fn silence(&self, node: u32) -> &'static [u8] {
         if self.is_dead(node) { b"dead" } else { b"down" }
     }
@@ -146,7 +141,6 @@ fn is_down(progress: Option<&Progress>, node: u32) -> bool {
     }
 }
 
-// Whether the move's slot has gone over to its new owner.
 fn is_switched(shown: &Shown, progress: &Progress) -> bool {
     match shown.switch {
         Some(step) => progress.is_done(step),
@@ -154,7 +148,7 @@ fn is_switched(shown: &Shown, progress: &Progress) -> bool {
     }
 }
 
-// The owners by partition. A slot's moves stand in their order, so its last switch that is done decides.
+// The owners by partition. Moves of a slot are in order, so its last done switch decides.
 fn rows_now(
     alloc: Global,
     ring: &Ring,
@@ -179,7 +173,6 @@ fn rows_now(
     Ok(listed)
 }
 
-// Gives the slot to the node to which it moves.
 fn set_owner(rows: &mut [Vec<NodeId>], shown: &Shown) {
     if let Some(row) = rows.get_mut(shown.slot.partition as usize) {
         if let Some(owner) = row.get_mut(shown.slot.index as usize) {

@@ -1,4 +1,4 @@
-//! A ring alone, in words.
+//! A ring without a plan, in words.
 
 use crate::domains::sharing;
 use crate::failing::{all_pairs, count_shared, kept_by_one};
@@ -16,10 +16,9 @@ use ring_names::{NodeId, Refusal};
 use ring_table::{Allowance, Node, Ring};
 use std::alloc::Global;
 
-// Behind which column of a line its words begin.
 const INDENT: usize = 12;
 
-/// What is known of the nodes and partitions of a ring, beside its text.
+/// What is known of nodes and partitions besides the ring's text.
 #[derive(Drop)]
 pub struct Facts {
     pub racks: Option<Labels>,
@@ -30,7 +29,7 @@ pub struct Facts {
 }
 
 impl Facts {
-    /// How much each partition stores, if that is known.
+    /// How much each partition stores, if known.
     pub fn sizes(&self) -> Option<&[u64]> {
         match &self.sizes {
             Some(sizes) => Some(sizes.as_slice()),
@@ -39,25 +38,24 @@ impl Facts {
     }
 }
 
-// What is said of a ring: its owners, and what is known of its nodes.
+// A ring, its owners, and what is known of its nodes.
 #[derive(Clone, Copy)]
 struct Rest<'a> {
     alloc: Global,
     ring: &'a Ring,
     present: &'a Present,
     facts: &'a Facts,
-    // how much each node stores, if that is known
+    // how much each node stores, if known
     stored: &'a Option<Vec<u64>>,
 }
 
 impl<'a> Rest<'a> {
-    // The names that the ring declares: the table has both.
+    // The declared names: the table has the aliases in their own column.
     fn names(&self) -> NodeNames<'a> {
         NodeNames::new(self.ring, None)
     }
 }
 
-// How wide the columns of names, aliases, racks, states and sizes are.
 #[derive(Clone, Copy)]
 struct Widths {
     names: usize,
@@ -121,7 +119,6 @@ fn tell_two_fail(rest: &Rest, line: &mut Words) -> Result<(), Refusal> {
     Ok(())
 }
 
-// What is said of the ring as a whole; the second text is that of one line.
 fn push_whole(rest: &Rest, out: &mut Words, line: &mut Words) -> Result<(), Refusal> {
     line.text(b"A ring of ");
     push_quorum(line, rest.ring, b": any ", b", any ");
@@ -146,7 +143,7 @@ fn push_whole(rest: &Rest, out: &mut Words, line: &mut Words) -> Result<(), Refu
     Ok(())
 }
 
-// `4`, or `2 in, 1 out`
+// Writes `4`, or `2 in, 1 out`.
 fn push_bears(out: &mut Words, allowance: Allowance) {
     match allowance {
         Allowance::Joint(most) => out.number(most),
@@ -159,7 +156,7 @@ fn push_bears(out: &mut Words, allowance: Allowance) {
     }
 }
 
-// `in` or `out`, and `dead`: `in, dead`
+// `in`, `out`, `in, dead` or `out, dead`
 fn state_of(rest: &Rest, node: u32) -> &'static [u8] {
     match (rest.present.is_member(node), rest.present.is_dead(node)) {
         (true, false) => b"in",
@@ -170,7 +167,6 @@ fn state_of(rest: &Rest, node: u32) -> &'static [u8] {
 }
 
 impl Widths {
-    // As wide as what stands in the columns.
     fn of(rest: &Rest) -> Widths {
         let mut widths = Widths {
             names: 4,
@@ -197,7 +193,6 @@ impl Widths {
         widths
     }
 
-    // The head of the table.
     fn push_head(&self, rest: &Rest, out: &mut Words) {
         push_spaces(out, 4);
         push_left(out, b"node", self.names);
@@ -219,7 +214,6 @@ impl Widths {
         out.text(b"  bears\n");
     }
 
-    // The line of the node of that number.
     fn push_row(&self, rest: &Rest, out: &mut Words, row: (&Node, u32)) {
         let (node, number) = row;
         push_spaces(out, 4);
@@ -247,7 +241,7 @@ impl Widths {
     }
 }
 
-/// How much each node stores, if partitions have sizes.
+/// Returns how much each node stores, if partitions have sizes.
 pub fn stored_by(
     alloc: Global,
     present: &Present,
@@ -263,9 +257,10 @@ pub fn stored_by(
     }
 }
 
-/// The summary of a ring alone: who is dead, its balance, racks and failures, and a line for each node with its alias and its rack if such are known, whether it is a
-/// member, `in`, or not, `out`, and whether it is `dead`, its slots, how much it stores if partitions have sizes, and how many transfers it bears. Its only refusal is
-/// `OutOfMemory`.
+/// Writes the summary of a ring: its dead nodes, balance, racks and failures, and a table of its nodes.
+///
+/// The table has each node's alias and rack if known, its state (`in`, `out`, `dead`), slots, stored size if partitions
+/// have sizes, and allowance. Fails only with `OutOfMemory`.
 pub fn ring_summary(alloc: Global, ring: &Ring, facts: &Facts) -> Result<Vec<u8>, Refusal> {
     let present = Present::at_rest(alloc, ring, facts.dead.as_slice())?;
     let stored = stored_by(alloc, &present, facts.sizes())?;

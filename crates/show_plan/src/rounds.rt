@@ -9,18 +9,18 @@ use helpers::{Words, at, small};
 use ring_names::Refusal;
 use std::alloc::Global;
 
-// How many rounds a short list has, and how many it shows where there are more.
+// The most rounds of a short list, and how many it shows if there are more.
 const SHORT: u32 = 12;
 
 const SHOWN: u32 = 10;
 
-// How many pairs of nodes, and slots of a pair, a short list has in a round.
+// In a short list, the most pairs of nodes in a round, and the most slots of a pair.
 const ENTRIES: usize = 6;
 
-// How far the copies of a round are indented, where rounds have no sizes.
+// The indent of a round's copies, if rounds have no sizes.
 const INDENT: usize = 18;
 
-// How wide the column of a round's size is, with the spaces before it; 0 where rounds have none.
+// The width of the column of sizes, with its spaces; 0 without sizes.
 fn size_column(view: &View) -> usize {
     match view.sized {
         Some(Sized { volumes, .. }) => volumes.rounds_width.saturating_add(2),
@@ -28,7 +28,7 @@ fn size_column(view: &View) -> usize {
     }
 }
 
-// A move among those that are listed: by round, then by whom it reads and to whom it goes. Copies that read listed slots stand by themselves.
+// A move in the order of the list: by round, by the nodes read, by target. Copies of listed slots are entries of their own.
 #[derive(Clone, Copy, PartialEq, Eq, PartialOrd, Ord)]
 struct Placed {
     round: u32,
@@ -37,7 +37,6 @@ struct Placed {
     place: u32,
 }
 
-// The moves that have a copy, in the order in which they are listed.
 fn in_order(alloc: Global, moves: &[Shown]) -> Result<Vec<Placed>, Refusal> {
     let mut order = Vec::new(alloc);
     let mut place = 0u32;
@@ -61,12 +60,12 @@ fn in_order(alloc: Global, moves: &[Shown]) -> Result<Vec<Placed>, Refusal> {
     Ok(order)
 }
 
-// Whether the two stand in one entry.
+// Whether both belong to one entry.
 fn are_alike(one: &Placed, other: &Placed) -> bool {
     one.round == other.round && one.reads == other.reads && one.to == other.to
 }
 
-// How many of these stand in one entry with the first.
+// How many moves belong to the first entry.
 fn alike_in_front(order: &[Placed]) -> usize {
     let mut count = 0usize;
     let Some(first) = order.first() else {
@@ -81,7 +80,6 @@ fn alike_in_front(order: &[Placed]) -> usize {
     count
 }
 
-// The first so many of these, and the others.
 fn cut(order: &[Placed], count: usize) -> (&[Placed], &[Placed]) {
     if count <= order.len() {
         return (&order[..count], &order[count..]);
@@ -89,14 +87,12 @@ fn cut(order: &[Placed], count: usize) -> (&[Placed], &[Placed]) {
     (order, &[])
 }
 
-// `5.1`: partition and slot.
 fn push_slot(out: &mut Words, shown: &Shown) {
     out.number(shown.slot.partition);
     out.byte(b'.');
     out.number(shown.slot.index);
 }
 
-// Whom the copy reads.
 fn push_read(view: &View, out: &mut Words, shown: &Shown) {
     let nodes = view.scene.shown.read_by(shown);
     if nodes.len() > 2 {
@@ -112,7 +108,7 @@ fn push_read(view: &View, out: &mut Words, shown: &Shown) {
     }
 }
 
-// The word for a copy: the first of an entry has the nodes in front.
+// Writes a copy. The first of an entry begins with the nodes.
 fn tell_copy(view: &View, word: &mut Words, shown: &Shown, is_first: bool) {
     word.clear();
     if is_first {
@@ -124,7 +120,7 @@ fn tell_copy(view: &View, word: &mut Words, shown: &Shown, is_first: bool) {
     push_slot(word, shown)
 }
 
-// `and 5 more`.
+// Writes `and 5 more`.
 fn tell_more(word: &mut Words, count: usize, what: &[u8]) {
     word.clear();
     word.text(b"and ");
@@ -133,7 +129,7 @@ fn tell_more(word: &mut Words, count: usize, what: &[u8]) {
     word.text(what);
 }
 
-// The entry of copies between the same nodes. The last text is that of one word.
+// Writes the copies between the same nodes. `word` is a buffer.
 fn push_entry(view: &View, out: &mut Words, flow: &mut Flow, entry: &[Placed], word: &mut Words) {
     let most = match view.shape {
         Shape::Short if entry.len() > ENTRIES => ENTRIES - 1,
@@ -155,7 +151,6 @@ fn push_entry(view: &View, out: &mut Words, flow: &mut Flow, entry: &[Placed], w
     flow.push(out, word.as_slice(), 1)
 }
 
-// How many entries the round has.
 fn entries(round: &[Placed]) -> usize {
     let mut count = 0usize;
     let mut rest = round;
@@ -170,7 +165,6 @@ fn entries(round: &[Placed]) -> usize {
     count
 }
 
-// The lines of a round. The last text is that of one word.
 fn push_round(view: &View, out: &mut Words, round: &[Placed], word: &mut Words) {
     let Some(first) = round.first() else {
         return;
@@ -196,7 +190,6 @@ fn push_round(view: &View, out: &mut Words, round: &[Placed], word: &mut Words) 
     out.byte(b'\n');
 }
 
-// The first so many entries of a round, and how many copies the others have.
 fn push_entries(view: &View, out: &mut Words, round: &[Placed], most: usize, word: &mut Words) {
     let mut flow = Flow::new(INDENT.saturating_add(size_column(view)));
     let mut rest = round;
@@ -215,7 +208,6 @@ fn push_entries(view: &View, out: &mut Words, round: &[Placed], most: usize, wor
     flow.push(out, word.as_slice(), 3)
 }
 
-// The rounds in this order, with the copies of each.
 fn push_in_order(view: &View, out: &mut Words, word: &mut Words, order: &[Placed]) {
     let count = view.scene.round_count();
     let most = match view.shape {
@@ -244,7 +236,7 @@ fn push_in_order(view: &View, out: &mut Words, word: &mut Words, order: &[Placed
     out.text(b" (--all)\n");
 }
 
-/// The rounds, with the copies of each. The second text is that of one word; it is empty before and behind.
+/// Writes the rounds and their copies. `word` is an empty buffer.
 pub fn push_rounds(view: &View, out: &mut Words, word: &mut Words) -> Result<(), Refusal> {
     out.text(b"  round  copies");
     if view.sized.is_some() {

@@ -8,10 +8,9 @@ use plan_moves::Progress;
 use plan_text::Step;
 use ring_names::Slot;
 
-// Behind which column of a line its words begin.
 const INDENT: usize = 12;
 
-// `mirror 7.0 n13`: what the step of that number does.
+// Writes what the step does: `mirror 7.0 n13`.
 fn push_step(view: &View, out: &mut Words, number: u32) {
     if number >= view.plan.len() {
         return;
@@ -40,7 +39,7 @@ fn push_words(view: &View, out: &mut Words, word: &[u8], slot: Option<Slot>, nod
     }
 }
 
-/// The lines of what a history has done.
+/// Writes what a history has done.
 pub fn push_progress(view: &View, out: &mut Words, line: &mut Words, progress: &Progress) {
     push_done(view, out, progress);
     push_open(view, out, progress);
@@ -91,7 +90,7 @@ fn push_open(view: &View, out: &mut Words, progress: &Progress) {
     }
 }
 
-// The first four steps that are ready, and how many more are.
+// Writes the first four steps that are ready, and how many more are.
 fn tell_next(view: &View, line: &mut Words, progress: &Progress) {
     line.text(b"  next      ");
     let mut count = 0u32;

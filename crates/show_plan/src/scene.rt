@@ -11,17 +11,17 @@ use ring_names::{Listed, NodeId, Refusal};
 use ring_table::Ring;
 use std::alloc::Global;
 
-/// An approved plan with all that is said of it: its moves and their rounds, what each node gives and takes, and who owns what in the end.
+/// An approved plan with its moves and rounds, the transfers of each node, and the owners in the end.
 #[derive(Drop)]
 pub struct Scene {
     pub shown: AllShown,
     /// By step.
     pub rounds: Vec<u32>,
-    /// By round, from 1 on: how many copies it has.
+    /// By round, from 1 on: its copies.
     pub widths: Vec<u32>,
-    /// The nodes that join, in the order of the plan's steps.
+    /// The nodes that join, in the order of steps.
     pub joins: Vec<u32>,
-    /// Those that retire.
+    /// The nodes that retire.
     pub leaves: Vec<u32>,
     /// How many different slots move.
     pub moved_slots: u32,
@@ -31,7 +31,7 @@ pub struct Scene {
 }
 
 impl Scene {
-    /// What is shown of a plan that the checker accepted by the certificate. Its only refusal is `OutOfMemory`.
+    /// What is shown of a plan that the checker accepted. Fails only with `OutOfMemory`.
     pub fn of(alloc: Global, approved: &Approved, cert: &Cert) -> Result<Scene, Refusal> {
         let (ring, plan) = (approved.ring(), approved.plan());
         let begun = moves(alloc, ring, plan)?;
@@ -55,12 +55,12 @@ impl Scene {
         })
     }
 
-    /// How many rounds of copies run one behind the other.
+    /// Returns how many rounds of copies run one after the other.
     pub fn round_count(&self) -> u32 {
         helpers::small(self.widths.len())
     }
 
-    /// How many copies the widest round has.
+    /// Returns how many copies the widest round has.
     pub fn widest(&self) -> u32 {
         let mut most = 0u32;
         for width in self.widths.as_slice() {
@@ -69,7 +69,7 @@ impl Scene {
         most
     }
 
-    /// How many moves there are.
+    /// Counts the moves.
     pub fn move_count(&self) -> u32 {
         helpers::small(self.shown.moves.len())
     }
@@ -89,7 +89,6 @@ impl Scene {
     }
 }
 
-// How many copies each round has.
 fn widths(alloc: Global, moves: &[Shown]) -> Result<Vec<u32>, Refusal> {
     let mut most = 0u32;
     for shown in moves {
@@ -104,7 +103,6 @@ fn widths(alloc: Global, moves: &[Shown]) -> Result<Vec<u32>, Refusal> {
     Ok(widths)
 }
 
-// How many different slots move.
 fn moved_slots(alloc: Global, ring: &Ring, moves: &[Shown]) -> Result<u32, Refusal> {
     let mut marks = vec![in alloc; 0u32; (ring.q() as usize).saturating_mul(7)]?;
     let mut count = 0u32;
@@ -118,7 +116,6 @@ fn moved_slots(alloc: Global, ring: &Ring, moves: &[Shown]) -> Result<u32, Refus
     Ok(count)
 }
 
-// The nodes that join, and those that retire, in the order of the steps.
 fn changed_members(alloc: Global, plan: &Plan) -> Result<(Vec<u32>, Vec<u32>), Refusal> {
     let (mut joins, mut leaves) = (Vec::new(alloc), Vec::new(alloc));
     for number in 0..plan.len() {

@@ -1,4 +1,4 @@
-//! The moves of a plan, with the steps that belong to them.
+//! The moves of a plan with their steps.
 
 use find_chains::Stays;
 use helpers::{at, row};
@@ -8,7 +8,7 @@ use ring_names::{Refusal, Rows, Slot};
 use ring_table::Ring;
 use std::alloc::Global;
 
-/// A move with its copy and its switch, where the plan has them.
+/// A move with its copy and its switch, if the plan has them.
 #[derive(Clone, Copy, Debug)]
 pub struct Shown {
     pub slot: Slot,
@@ -17,13 +17,13 @@ pub struct Shown {
     pub mirror: u32,
     pub copy: Option<u32>,
     pub switch: Option<u32>,
-    /// The round of the copy, from 1; 0 where there is none.
+    /// The round of the copy, from 1; 0 without a copy.
     pub round: u32,
     /// The round in which the mirror opens.
     pub opens: u32,
-    /// Which row has the nodes that the copy reads.
+    /// The row of the nodes that the copy reads.
     pub reads: Option<usize>,
-    /// Whether the copy reads listed slots in place of the owner.
+    /// Whether the copy reads listed slots instead of the owner.
     pub is_listed: bool,
 }
 
@@ -34,19 +34,16 @@ pub struct AllShown {
     pub reads: Rows,
 }
 
-// A copy, as its move shows it.
 #[derive(Clone, Copy)]
 struct Copied<'a> {
     number: u32,
     round: u32,
-    // the nodes that it reads
     reads: &'a [u32],
-    // whether it reads listed slots in place of the owner
     is_listed: bool,
 }
 
 impl AllShown {
-    /// The moves, with the steps of the plan that belong to them, and the rounds of those.
+    /// Collects the moves with their steps and rounds.
     pub fn of(
         alloc: Global,
         ring: &Ring,
@@ -82,7 +79,6 @@ impl AllShown {
         Ok(all)
     }
 
-    // The next move begins.
     fn begin(&mut self, moves: &[Move], rounds: &[u32]) -> Result<(), Refusal> {
         if let Some(found) = moves.get(self.moves.len()) {
             let opens = at(rounds, found.mirror as usize);
@@ -102,7 +98,6 @@ impl AllShown {
         Ok(())
     }
 
-    // The open move of that number, if there is one, has this copy.
     fn copy(&mut self, open: Option<usize>, copied: Copied) -> Result<(), Refusal> {
         let Some(place) = open else {
             return Ok(());
@@ -118,7 +113,6 @@ impl AllShown {
         Ok(())
     }
 
-    // The open move of that number, if there is one, ends by this switch.
     fn switch(&mut self, open: Option<usize>, number: u32) {
         let Some(place) = open else {
             return;
@@ -128,7 +122,7 @@ impl AllShown {
         }
     }
 
-    /// The nodes that the move's copy reads, in the order in which their slots are listed.
+    /// Returns the nodes that the move's copy reads, in the order of the listed slots.
     pub fn read_by(&self, shown: &Shown) -> &[u32] {
         match shown.reads {
             Some(place) => row(&self.reads, place),
@@ -137,12 +131,11 @@ impl AllShown {
     }
 }
 
-// The number of the slot's open move. Each move begins with a mirror, whose stay comes after those of the ring's owners.
+// The slot's open move. Each move begins with a mirror, whose stay comes after those of the ring's owners.
 fn open_move(stays: &Stays, owners: usize, slot: Slot) -> Option<usize> {
     stays.mirror_at(slot)?.checked_sub(owners)
 }
 
-// Adds the owner of the slot, unless the nodes have it.
 fn push_owner(nodes: &mut Vec<u32>, stays: &Stays, slot: Slot) -> Result<(), Refusal> {
     match stays.owner(slot) {
         Some(node) if !nodes.as_slice().contains(&node) => nodes.push(node)?,

@@ -9,7 +9,6 @@ use ring_names::Refusal;
 use ring_table::Ring;
 use std::alloc::Global;
 
-// Those of the silent nodes that are dead, or those that are only down.
 fn silent_by(alloc: Global, present: &Present, is_dead: bool) -> Result<Vec<u32>, Refusal> {
     let mut nodes = Vec::new(alloc);
     for node in present.silent.as_slice() {
@@ -20,7 +19,7 @@ fn silent_by(alloc: Global, present: &Present, is_dead: bool) -> Result<Vec<u32>
     Ok(nodes)
 }
 
-/// Who is dead and who is down, and how many partitions answer all the same. Some node does not answer.
+/// Writes which nodes are dead or down, and how many partitions answer without them. There must be such a node.
 pub fn tell_silent(
     alloc: Global,
     names: NodeNames,
@@ -58,7 +57,7 @@ pub fn tell_silent(
     Ok(())
 }
 
-/// `if one fails`, and beside whom.
+/// Writes `if one fails`, and the silent nodes besides.
 pub fn push_failing(line: &mut Words, names: NodeNames, present: &Present, words: &[u8]) {
     line.text(words);
     if !present.silent.is_empty() {
@@ -68,7 +67,7 @@ pub fn push_failing(line: &mut Words, names: NodeNames, present: &Present, words
     }
 }
 
-/// Adds the name of a node, and why it does not answer: `n07 dead`. Answers how many columns that takes.
+/// Writes a node's name, and why it does not answer: `n07 dead`. Returns the columns used.
 pub fn push_node(out: &mut Words, names: NodeNames, present: &Present, node: u32) -> usize {
     let name = names.name(node);
     out.text(name);
@@ -81,7 +80,7 @@ pub fn push_node(out: &mut Words, names: NodeNames, present: &Present, node: u32
     columns(name).saturating_add(silence).saturating_add(1)
 }
 
-/// How many members of the ring answer.
+/// Counts the ring's members that answer.
 pub fn count_answering(ring: &Ring, present: &Present) -> u32 {
     let mut count = 0u32;
     for node in 0..small(ring.nodes().len()) {

@@ -2,7 +2,7 @@
 
 use helpers::Words;
 
-/// The fewest and the most slots among nodes.
+/// The fewest and the most slots of some nodes.
 #[derive(Clone, Copy)]
 pub struct Span {
     least: u32,
@@ -10,7 +10,7 @@ pub struct Span {
 }
 
 impl Span {
-    /// Of no node.
+    /// The span of no node.
     pub fn new() -> Span {
         Span {
             least: u32::MAX,
@@ -18,7 +18,7 @@ impl Span {
         }
     }
 
-    /// Counts a node with so many slots.
+    /// Counts a node.
     pub fn add(&mut self, count: u32) {
         self.least = self.least.min(count);
         self.most = self.most.max(count);

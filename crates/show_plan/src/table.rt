@@ -14,28 +14,26 @@ use ring_names::Refusal;
 use ring_table::Node;
 use std::alloc::Global;
 
-// How many rows a short table has.
+// The most rows of a short table.
 const SHORT: usize = 24;
 
-// How wide the longest bar is.
+// The width of the longest bar.
 const BAR: usize = 24;
 
-// The rows of a table, and what they have in common.
 #[derive(Drop)]
 struct Table {
-    // the nodes of the rows, by number
+    // the nodes of the rows, ascending
     rows: Vec<u32>,
-    // those that take part and have no row
+    // the nodes that take part without a row
     hidden: Vec<u32>,
     names: usize,
     at_once: usize,
-    // of a size that a node of a row gives or takes
+    // width of a size given or taken
     sizes: usize,
-    // the most slots that a node of a row owns before or behind the plan
+    // the most slots that a node of a row owns before or after the plan
     top: u32,
 }
 
-// The nodes that take part or do not answer, by number.
 fn taking_part(view: &View) -> Result<Vec<u32>, Refusal> {
     let mut nodes = Vec::new(view.alloc);
     for node in 0..small(view.ring.nodes().len()) {
@@ -46,7 +44,7 @@ fn taking_part(view: &View) -> Result<Vec<u32>, Refusal> {
     Ok(nodes)
 }
 
-// What a node does in a plan, for the order in which nodes get a row: one that does not answer comes first.
+// The node's rank by its role in the plan. Nodes that do not answer come first.
 fn kind(view: &View, node: u32) -> usize {
     if view.present.is_silent(node) {
         0
@@ -59,13 +57,12 @@ fn kind(view: &View, node: u32) -> usize {
     }
 }
 
-// How many transfers the node has.
 fn work(scene: &Scene, node: u32) -> u32 {
     let gives = at(scene.loads.gives.as_slice(), node as usize);
     gives.saturating_add(at(scene.loads.takes.as_slice(), node as usize))
 }
 
-// The nodes by kind, and among those of a kind the ones with the most transfers first.
+// The nodes by kind, and in a kind the busiest first.
 fn ranked(view: &View, nodes: &[u32]) -> Result<Vec<(usize, u32, u32)>, Refusal> {
     let mut order = Vec::new(view.alloc);
     for node in nodes {
@@ -76,7 +73,7 @@ fn ranked(view: &View, nodes: &[u32]) -> Result<Vec<(usize, u32, u32)>, Refusal>
     Ok(order)
 }
 
-// Rows in turns: the first of each kind, then the second of each, and so on.
+// Takes the kinds in turns: the first of each, then the second of each, and so on.
 fn in_turns(
     alloc: Global,
     ranked: &[(usize, u32, u32)],
@@ -93,7 +90,7 @@ fn in_turns(
     Ok(turns)
 }
 
-// The first so many of these, by number.
+// The first nodes, ascending.
 fn first_of(
     alloc: Global,
     turns: &[(usize, usize, u32)],
@@ -107,14 +104,13 @@ fn first_of(
     Ok(found)
 }
 
-// Those of the nodes that get one of so many rows: the busiest that leave, that join and that stay, in turns.
+// Chooses the nodes of the rows: the busiest of each kind, in turns.
 fn chosen(view: &View, nodes: &[u32], most: usize) -> Result<Vec<u32>, Refusal> {
     let order = ranked(view, nodes)?;
     let turns = in_turns(view.alloc, order.as_slice())?;
     first_of(view.alloc, turns.as_slice(), most)
 }
 
-// Those of the nodes that are not among the others.
 fn without(alloc: Global, nodes: &[u32], others: &[u32]) -> Result<Vec<u32>, Refusal> {
     let mut found = Vec::new(alloc);
     for node in nodes {
@@ -150,7 +146,6 @@ impl Table {
         })
     }
 
-    // Makes the columns as wide as what stands in them; the text is empty, and is so behind it.
     fn measure(&mut self, view: &View, line: &mut Words) {
         let loads = &view.scene.loads;
         for node in self.rows.as_slice() {
@@ -165,7 +160,6 @@ impl Table {
         }
     }
 
-    // The line of a node, up to its bar.
     fn tell_row(&self, view: &View, line: &mut Words, node: u32) {
         let (scene, place) = (view.scene, node as usize);
         line.text(b"  ");
@@ -190,7 +184,6 @@ impl Table {
         push_two(view, line, node)
     }
 
-    // The line of a node, all of it; the second text is that of one line.
     fn push_row(&self, view: &View, out: &mut Words, line: &mut Words, node: u32) {
         let loads = &view.scene.loads;
         self.tell_row(view, line, node);
@@ -200,7 +193,7 @@ impl Table {
         line.clear();
     }
 
-    // A bar of what the node owns: `=` for what it keeps, `-` for what it gives and `+` for what it takes.
+    // Writes a bar of slots: `=` for kept, `-` for given and `+` for taken.
     fn push_bar(&self, line: &mut Words, before: u32, after: u32) {
         let room = WIDTH.saturating_sub(columns(line.as_slice())).min(BAR);
         let scale = small(room).min(self.top);
@@ -211,7 +204,6 @@ impl Table {
         push_times(line, b'-', start.saturating_sub(end))
     }
 
-    // The head, and a line for each row.
     fn push_all(&self, view: &View, out: &mut Words, line: &mut Words) {
         push_spaces(out, 4);
         push_left(out, b"node", self.names);
@@ -235,7 +227,6 @@ impl Table {
         self.push_hidden(view, out)
     }
 
-    // The line of those without a row.
     fn push_hidden(&self, view: &View, out: &mut Words) {
         if self.hidden.is_empty() {
             return;
@@ -263,7 +254,6 @@ impl Table {
         out.text(b" (--all)\n");
     }
 
-    // The sizes of those without a row.
     fn push_hidden_sizes(&self, out: &mut Words, volumes: &Volumes) {
         let (mut gives, mut takes) = (0u64, 0u64);
         for node in self.hidden.as_slice() {
@@ -277,7 +267,7 @@ impl Table {
     }
 }
 
-// The slots that the node owns before the first step and after the last.
+// Writes the node's slots before the first step and after the last.
 fn push_two(view: &View, line: &mut Words, node: u32) {
     let (loads, place) = (&view.scene.loads, node as usize);
     push_spaces(line, 3);
@@ -290,7 +280,7 @@ fn push_two(view: &View, line: &mut Words, node: u32) {
     line.byte(b' ');
 }
 
-// The slots that the node owns before the first step, after the last entry of the history, and after the last step.
+// Writes the node's slots before the first step, now, and after the last step.
 fn push_three(view: &View, line: &mut Words, node: u32) {
     let (loads, place) = (&view.scene.loads, node as usize);
     push_spaces(line, 2);
@@ -306,7 +296,7 @@ fn push_three(view: &View, line: &mut Words, node: u32) {
     push_spaces(line, 2)
 }
 
-// Adds how many transfers the node never has more of at once, or a point, and tells how many bytes that takes.
+// Writes the most transfers of the node at once, or a point. Returns the bytes used.
 fn push_at_once(view: &View, line: &mut Words, node: u32) -> usize {
     let begin = line.len();
     if let Some(Node { allowance, .. }) = view.ring.nodes().get(node as usize) {
@@ -327,7 +317,7 @@ fn sign(view: &View, node: u32) -> u8 {
     }
 }
 
-// A number, or a point for none.
+// Writes a number, or a point for 0.
 fn push_count(line: &mut Words, count: u32) {
     if count == 0 {
         return push_right(line, b".", 5);
@@ -335,7 +325,6 @@ fn push_count(line: &mut Words, count: u32) {
     push_number_right(line, count, 5)
 }
 
-// The line of the members that do nothing.
 fn push_idle(view: &View, out: &mut Words) -> Result<(), Refusal> {
     let mut idle = Vec::new(view.alloc);
     for node in 0..small(view.ring.nodes().len()) {
@@ -357,10 +346,8 @@ fn push_idle(view: &View, out: &mut Words) -> Result<(), Refusal> {
     Ok(())
 }
 
-/// The table: for each node that takes part or does not answer, how many transfers it never has more of at once, gives and takes, and how many slots it owns in the beginning, with a
-/// history now, and in the end.
-///
-/// The second text is that of one line.
+/// Writes the table of nodes that take part or do not answer: transfers at once, moves, and slots before, now and in
+/// the end. `line` is a buffer.
 pub fn push_table(view: &View, out: &mut Words, line: &mut Words) -> Result<(), Refusal> {
     let mut table = Table::of(view)?;
     table.measure(view, line);

@@ -1,4 +1,4 @@
-//! How much a plan moves, where partitions have sizes.
+//! How much a plan moves, if partitions have sizes.
 
 use crate::scene::Scene;
 use crate::shown::Shown;
@@ -10,19 +10,19 @@ use ring_names::{Listed, NodeId, Refusal, Slot};
 use ring_table::Ring;
 use std::alloc::Global;
 
-/// How much a history leaves to be moved.
+/// How much a history leaves to move.
 #[derive(Clone, Copy, Debug)]
 pub struct Left {
-    /// What copies that are not done have to move. Chunks that are copied do not count.
+    /// What unfinished copies have to move, without their copied chunks.
     pub moved: u64,
-    /// The most that such copies have of which each waits for the one before.
+    /// The most that such copies move on one path of dependencies.
     pub longest: u64,
 }
 
-/// How much a plan moves by the sizes of partitions, in their unit.
+/// How much a plan moves, in the unit of the sizes.
 #[derive(Drop)]
 pub struct Volumes {
-    /// What all moves move together.
+    /// The sum of all moves.
     pub moved: u64,
     /// By node, what copies read from it. A copy of listed slots reads the whole partition from each.
     pub gives: Vec<u64>,
@@ -30,19 +30,18 @@ pub struct Volumes {
     pub takes: Vec<u64>,
     /// By round, from 1 on, what its copies move.
     pub rounds: Vec<u64>,
-    /// How wide a column of what rounds move is.
+    /// The width of a column of these numbers.
     pub rounds_width: usize,
-    /// The most that copies have of which each waits for the one before.
+    /// The most that copies move on one path of dependencies. One transfer must copy that much before the plan can end.
     ///
-    /// No execution ends before one transfer could copy so much. No allowance makes a better bound: the copies of a node lie on as many chains as it bears
-    /// transfers, and on a chain each copy waits for the one before.
+    /// Allowances give no better bound: they are chains of copies, which depend on each other.
     pub longest: u64,
-    /// What is left, if a history is known.
+    /// What remains, if a history is known.
     pub left: Option<Left>,
 }
 
 impl Volumes {
-    /// What the plan of the scene moves, by partitions of these sizes, and what the progress leaves. Its only refusal is `OutOfMemory`.
+    /// Measures the plan by the sizes of partitions, and what the progress leaves. Fails only with `OutOfMemory`.
     pub fn of(
         alloc: Global,
         ring: &Ring,
@@ -72,7 +71,6 @@ impl Volumes {
         Ok(volumes)
     }
 
-    // Counts a move of that size.
     fn count(&mut self, scene: &Scene, shown: &Shown, size: u64) {
         self.moved = self.moved.saturating_add(size);
         add(self.takes.as_mut_slice(), shown.to as usize, size);
@@ -84,7 +82,7 @@ impl Volumes {
         }
     }
 
-    /// In how many seconds the plan, or what a history leaves of it, ends at the earliest, if one transfer copies so much in a second, from 1 on.
+    /// Returns the least seconds until the plan can end, given what a transfer copies in a second, from 1 on.
     pub fn earliest_end(&self, rate: u32) -> u64 {
         let rate = u64::from(rate);
         let longest = match &self.left {
@@ -96,13 +94,12 @@ impl Volumes {
     }
 }
 
-// Adds the size at the place.
 fn add(words: &mut [u64], place: usize, size: u64) {
     let sum = word(words, place).saturating_add(size);
     set_word(words, place, sum);
 }
 
-// What is left of a copy of that size: nothing if it is done, and otherwise the chunks that are not copied, also if it was broken off.
+// What remains of a copy: its chunks that are not copied, also after an abort.
 fn rest_of(size: u64, number: u32, progress: Option<&Progress>) -> u64 {
     let Some(progress) = progress else {
         return size;
@@ -114,12 +111,10 @@ fn rest_of(size: u64, number: u32, progress: Option<&Progress>) -> u64 {
     size.saturating_mul(chunks).saturating_add(15) / 16
 }
 
-// The size of the slot's partition.
 fn size_of(sizes: &[u64], slot: &Slot) -> u64 {
     word(sizes, slot.partition as usize)
 }
 
-// What the progress leaves.
 fn left_of(
     alloc: Global,
     plan: &Plan,
@@ -139,7 +134,7 @@ fn left_of(
     })
 }
 
-// The greatest sum of what is left of copies on a path of dependencies.
+// The greatest remaining sum of copies on a path of dependencies.
 fn longest(
     alloc: Global,
     plan: &Plan,
@@ -162,7 +157,7 @@ fn longest(
     Ok(most)
 }
 
-/// How much each of so many nodes stores of partitions with these owners and sizes.
+/// Returns how much each node stores, given owners and sizes.
 pub fn stored(
     alloc: Global,
     nodes: usize,

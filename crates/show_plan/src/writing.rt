@@ -5,10 +5,10 @@ use helpers::Words;
 /// The widest line, in characters.
 pub const WIDTH: usize = 100;
 
-// How many digits the lower part of a long number has.
+// The digits of the lower part of a long number.
 const LOW_DIGITS: usize = 9;
 
-/// How many columns a text takes: as many as it has characters.
+/// Returns the columns of a text: one for each character.
 pub fn columns(text: &[u8]) -> usize {
     let mut count = 0usize;
     for byte in text {
@@ -19,36 +19,35 @@ pub fn columns(text: &[u8]) -> usize {
     count
 }
 
-// Whether the byte goes on with a character of UTF-8.
+// Whether the byte continues a character of UTF-8.
 fn is_further(byte: u8) -> bool {
     matches!(byte, 0x80..=0xbf)
 }
 
-/// So many spaces.
+/// Writes spaces.
 pub fn push_spaces(out: &mut Words, count: usize) {
     push_times(out, b' ', count)
 }
 
-/// The byte so many times.
+/// Writes the byte several times.
 pub fn push_times(out: &mut Words, byte: u8, count: usize) {
     for place in 0..count {
         out.byte(byte);
     }
 }
 
-/// The text, and spaces behind it up to the width.
+/// Writes the text, padded on the right.
 pub fn push_left(out: &mut Words, text: &[u8], width: usize) {
     out.text(text);
     push_spaces(out, width.saturating_sub(columns(text)))
 }
 
-/// The text, and spaces in front of it up to the width.
+/// Writes the text, padded on the left.
 pub fn push_right(out: &mut Words, text: &[u8], width: usize) {
     push_spaces(out, width.saturating_sub(columns(text)));
     out.text(text);
 }
 
-// How many digits the number has.
 fn count_digits(number: u32) -> usize {
     let mut count = 1usize;
     let mut rest = number / 10;
@@ -61,19 +60,18 @@ fn count_digits(number: u32) -> usize {
     count
 }
 
-/// The number, and spaces in front of it up to the width.
+/// Writes the number, padded on the left.
 pub fn push_number_right(out: &mut Words, number: u32, width: usize) {
     push_spaces(out, width.saturating_sub(count_digits(number)));
     out.number(number);
 }
 
-/// The number, and spaces behind it up to the width.
+/// Writes the number, padded on the right.
 pub fn push_number_left(out: &mut Words, number: u32, width: usize) {
     out.number(number);
     push_spaces(out, width.saturating_sub(count_digits(number)))
 }
 
-// How many digits the number has.
 fn count_long_digits(number: u64) -> usize {
     let (high, low) = halves(number);
     if high == 0 {
@@ -82,14 +80,14 @@ fn count_long_digits(number: u64) -> usize {
     count_digits(high).saturating_add(LOW_DIGITS)
 }
 
-// The number without its last nine digits, and these.
+// Splits off the last nine digits.
 fn halves(number: u64) -> (u32, u32) {
     let high = u32::try_from(number / 1_000_000_000).unwrap_or(u32::MAX);
     let low = u32::try_from(number % 1_000_000_000).unwrap_or(0);
     (high, low)
 }
 
-/// The number, which is less than 4,294,967,295 times 1,000,000,000.
+/// Writes the number, which is below 4,294,967,295 times 1,000,000,000.
 pub fn push_long(out: &mut Words, number: u64) {
     let (high, low) = halves(number);
     if high > 0 {
@@ -99,7 +97,7 @@ pub fn push_long(out: &mut Words, number: u64) {
     out.number(low);
 }
 
-// The number below 100 with two digits: `05`.
+// Writes a number below 100 with two digits: `05`.
 fn push_two_digits(out: &mut Words, number: u64) {
     if number < 10 {
         out.byte(b'0');
@@ -107,7 +105,7 @@ fn push_two_digits(out: &mut Words, number: u64) {
     push_long(out, number);
 }
 
-/// So many seconds in words: `90 s`, `3 min 56 s` from two minutes on, and `2 h 05 min`, rounded down, from an hour on.
+/// Writes a time: `90 s`, from two minutes on `3 min 56 s`, from an hour on `2 h 05 min`, rounded down.
 pub fn push_time(out: &mut Words, seconds: u64) {
     if seconds < 120 {
         push_long(out, seconds);
@@ -130,7 +128,7 @@ pub fn push_time(out: &mut Words, seconds: u64) {
 // The letters of thousands, millions and so on.
 const LETTERS: [&[u8]; 6] = [b" k", b" M", b" G", b" T", b" P", b" E"];
 
-/// A number in few digits, rounded down: `9999`, `12.3 k`, `8.5 G`. Each letter stands for a thousand times the one before.
+/// Writes a number in few digits, rounded down: `9999`, `12.3 k`, `8.5 G`. Each letter is a thousand times the last.
 pub fn push_short(out: &mut Words, number: u64) {
     if number < 10_000 {
         return push_long(out, number);
@@ -150,7 +148,7 @@ pub fn push_short(out: &mut Words, number: u64) {
     out.text(letter)
 }
 
-/// The number, or a point for none, and spaces before it up to the width.
+/// Writes the number, or a point for 0, padded on the left.
 pub fn push_long_right(out: &mut Words, number: u64, width: usize) {
     if number == 0 {
         return push_right(out, b".", width);
@@ -159,7 +157,7 @@ pub fn push_long_right(out: &mut Words, number: u64, width: usize) {
     push_long(out, number);
 }
 
-/// The width of a column of these numbers, and of so many bytes at least.
+/// Returns the width of a column of these numbers, at least `least`.
 pub fn width_of(numbers: &[u64], least: usize) -> usize {
     let mut width = least;
     for number in numbers {
@@ -168,14 +166,14 @@ pub fn width_of(numbers: &[u64], least: usize) -> usize {
     width
 }
 
-/// The number, and its tenths behind a point.
+/// Writes a number given in tenths.
 pub fn push_tenths(out: &mut Words, tenths: u32) {
     out.number(tenths / 10);
     out.byte(b'.');
     out.number(tenths % 10);
 }
 
-// Where the last space stands that has something in front of it and at most so many characters, if there is one.
+// The last space with something before it and at most `room` characters.
 fn last_space(line: &[u8], room: usize) -> Option<usize> {
     let mut found = None;
     let mut has_word = false;
@@ -194,7 +192,7 @@ fn last_space(line: &[u8], room: usize) -> Option<usize> {
     found
 }
 
-// A line, broken at spaces where it is too wide; what is broken off stands behind so many spaces.
+// Writes a line, broken at spaces if too wide. Further lines are indented.
 fn push_line(out: &mut Words, line: &[u8], indent: usize) {
     let mut rest = line;
     let mut room = WIDTH;
@@ -216,13 +214,12 @@ fn push_line(out: &mut Words, line: &[u8], indent: usize) {
     out.byte(b'\n');
 }
 
-/// Adds the line, broken at spaces where it is too wide, and empties it; what is broken off stands behind so many spaces.
+/// Writes and empties the line, broken at spaces if too wide. Further lines are indented.
 pub fn end_line(out: &mut Words, line: &mut Words, indent: usize) {
     push_line(out, line.as_slice(), indent);
     line.clear();
 }
 
-// What stands in front of the byte at the place, and what behind it.
 fn cut_at(line: &[u8], place: usize) -> (&[u8], &[u8]) {
     if place < line.len() {
         return (&line[..place], &line[place + 1..]);
@@ -230,7 +227,7 @@ fn cut_at(line: &[u8], place: usize) -> (&[u8], &[u8]) {
     (line, &[])
 }
 
-/// The line without the spaces at its end.
+/// Writes the line without the spaces at its end.
 pub fn push_trimmed(out: &mut Words, line: &[u8]) {
     let mut width = 0usize;
     let mut place = 0usize;

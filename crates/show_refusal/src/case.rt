@@ -1,4 +1,4 @@
-//! A bundle whose texts are in order, and whose plan is refused.
+//! A bundle whose texts are valid, and whose plan is refused.
 
 use crate::ends::Ends;
 use find_chains::slot_of;
@@ -11,7 +11,7 @@ use ring_table::Ring;
 use show_why::{Page, Said, place_of, span_of};
 use std::alloc::Global;
 
-/// A bundle, and what was read of it.
+/// A bundle, as bytes and as read.
 #[derive(Clone, Copy)]
 pub struct Case<'a> {
     pub alloc: Global,
@@ -22,7 +22,7 @@ pub struct Case<'a> {
     pub ends: &'a Ends,
 }
 
-// The line without the steps that it waits for.
+// The line without its dependencies.
 fn head(line: &[u8]) -> &[u8] {
     let Some(place) = place_of(line, b"after") else {
         return line;
@@ -34,47 +34,46 @@ fn head(line: &[u8]) -> &[u8] {
 }
 
 impl<'a> Case<'a> {
-    // The line `plan 1`.
     fn plan_line(&self) -> u32 {
         small(self.ring.nodes().len())
             .saturating_add(self.ring.q())
             .saturating_add(5)
     }
 
-    /// The line of a step.
+    /// Returns the line of a step.
     pub fn step_line(&self, step: u32) -> u32 {
         self.plan_line().saturating_add(1).saturating_add(step)
     }
 
-    /// The first line of the certificate.
+    /// Returns the first line of the certificate.
     pub fn cert_line(&self) -> u32 {
         self.plan_line()
             .saturating_add(self.plan.len())
             .saturating_add(2)
     }
 
-    /// The line of a fact.
+    /// Returns the line of a fact.
     pub fn fact_line(&self, fact: u32) -> u32 {
         self.cert_line().saturating_add(1).saturating_add(fact)
     }
 
-    /// The line of a chain.
+    /// Returns the line of a chain.
     pub fn chain_line(&self, chain: u32) -> u32 {
         self.fact_line(small(self.cert.facts.len()))
             .saturating_add(chain)
     }
 
-    /// The last line of the certificate.
+    /// Returns the last line of the certificate.
     pub fn cert_end(&self) -> u32 {
         self.chain_line(small(self.cert.chains.len()))
     }
 
-    /// The line of a node.
+    /// Returns the line of a node.
     pub fn node_line(&self, node: u32) -> u32 {
         node.saturating_add(4)
     }
 
-    /// The name of a node.
+    /// Returns the name of a node.
     pub fn name(&self, node: u32) -> &'a [u8] {
         match self.ring.nodes().get(node as usize) {
             Some(node) => node.name.as_slice(),
@@ -82,7 +81,7 @@ impl<'a> Case<'a> {
         }
     }
 
-    /// The step of that number, if the plan has it.
+    /// Returns the step, if the plan has it.
     pub fn step(&self, number: u32) -> Option<&'a Step> {
         if number < self.plan.len() {
             Some(self.plan.step(number))
@@ -91,12 +90,12 @@ impl<'a> Case<'a> {
         }
     }
 
-    /// The slot of a step, if it has one.
+    /// Returns the slot of a step, if it has one.
     pub fn slot(&self, number: u32) -> Option<Slot> {
         slot_of(self.step(number)?)
     }
 
-    // How many of the slot's steps stand in front of the step.
+    // How many of the slot's steps come before the step.
     fn place(&self, slot: Slot, number: u32) -> u32 {
         let mut count = 0u32;
         for other in self.plan.slot_steps(slot) {
@@ -107,7 +106,7 @@ impl<'a> Case<'a> {
         count
     }
 
-    /// The slot's last step in front of the step.
+    /// Returns the slot's last step before this one.
     pub fn before(&self, slot: Slot, number: u32) -> Option<u32> {
         let mut found = None;
         for other in self.plan.slot_steps(slot) {
@@ -118,7 +117,7 @@ impl<'a> Case<'a> {
         found
     }
 
-    /// The stage of the slot in front of the step.
+    /// Returns the slot's stage before the step.
     pub fn stage(&self, slot: Slot, number: u32) -> Result<Option<Stage>, Refusal> {
         if slot.partition >= self.ring.q() || slot.index >= self.ring.n() {
             return Ok(None);
@@ -128,7 +127,7 @@ impl<'a> Case<'a> {
         Ok(Some(stage))
     }
 
-    /// Whether the one step is known to come before the other: by a direct dependency, or by a fact.
+    /// Whether one step is known to come before the other, by a direct dependency or a fact.
     pub fn is_ordered(&self, first: u32, second: u32) -> bool {
         if second >= self.plan.len() {
             return false;
@@ -136,17 +135,17 @@ impl<'a> Case<'a> {
         self.plan.depends(first, second) || self.ends.has(first, second)
     }
 
-    /// Shows the line of a step that is at fault.
+    /// Marks the line of a faulty step.
     pub fn fault(&self, said: &mut Said, number: u32) {
         said.fault_with(self.step_line(number), b"step #", &[], &[number])
     }
 
-    /// Shows the line of a step that belongs to what is at fault.
+    /// Marks the line of a step that belongs to the fault.
     pub fn beside(&self, said: &mut Said, number: u32) {
         said.beside_with(self.step_line(number), b"step #", &[], &[number])
     }
 
-    /// The lines of a mend: the step waits for the other one too, which is in front of it.
+    /// Mends a step by another dependency, an earlier step.
     pub fn wait(&self, said: &mut Said, number: u32, more: u32) {
         let line = self.step_line(number);
         said.put(line);

@@ -7,7 +7,7 @@ use ring_names::{NodeId, Refusal};
 use ring_table::{Allowance, NodeSide, Side};
 use show_why::{Said, field};
 
-// The first two steps of a path, one behind the other, of which that is not known: their place, and they.
+// The first two adjacent steps of a path that are not known to be ordered, and their place.
 fn gap(case: Case, path: &[u32], is_fact: bool) -> Option<(usize, u32, u32)> {
     for place in 1..path.len() {
         let (first, second) = (path[place - 1], path[place]);
@@ -24,9 +24,9 @@ fn gap(case: Case, path: &[u32], is_fact: bool) -> Option<(usize, u32, u32)> {
     None
 }
 
-/// A fact is no path of dependencies.
+/// Reports a fact that is not a path of dependencies.
 pub fn bad_path(case: Case, said: &mut Said, number: u32) {
-    said.title_with(b"fact # is no path of the plan", &[], &[number]);
+    said.title_with(b"fact # is not a path of the plan", &[], &[number]);
     if number as usize >= case.cert.facts.len() {
         return;
     }
@@ -47,7 +47,6 @@ pub fn bad_path(case: Case, said: &mut Said, number: u32) {
     }
 }
 
-// The word of a chain for that part of the node.
 fn chain_word(case: Case, node: u32, role: Role) -> &'static [u8] {
     match case.ring.nodes().get(node as usize) {
         Some(declared) => match (declared.allowance, role) {
@@ -59,7 +58,7 @@ fn chain_word(case: Case, node: u32, role: Role) -> &'static [u8] {
     }
 }
 
-// Shows the first six chains of the node; where a side is named, of that side.
+// Marks the first six chains of the node, or of its side.
 fn show_chains(case: Case, said: &mut Said, node: u32, side: Option<Side>) {
     let mut count = 0u32;
     for place in 0..case.cert.chains.len() {
@@ -72,7 +71,7 @@ fn show_chains(case: Case, said: &mut Said, node: u32, side: Option<Side>) {
     }
 }
 
-/// A copy stands in no chain of a node that takes part in it.
+/// Reports a copy that is missing from the chains of one of its nodes.
 pub fn cover_missing(case: Case, said: &mut Said, node: u32, number: u32) -> Result<(), Refusal> {
     let name = case.name(node);
     said.title_with(b"no chain of @ has its copy, step #", &[name], &[number]);
@@ -92,7 +91,7 @@ pub fn cover_missing(case: Case, said: &mut Said, node: u32, number: u32) -> Res
     Ok(())
 }
 
-// Whether the side counts a step in which the node has that role.
+// Whether the side counts a step in which the node has the role.
 fn counts(side: Side, role: Option<Role>) -> bool {
     match side {
         Side::Both => role.is_some(),
@@ -101,7 +100,7 @@ fn counts(side: Side, role: Option<Role>) -> bool {
     }
 }
 
-// The first step of a chain that is none of the node's copies.
+// The first step of a chain that is not one of the node's copies.
 fn misfit(case: Case, of: NodeSide, steps: &[u32]) -> Result<Option<u32>, Refusal> {
     let roles = roles(case, of.node)?;
     for step in steps {
@@ -112,7 +111,7 @@ fn misfit(case: Case, of: NodeSide, steps: &[u32]) -> Result<Option<u32>, Refusa
     Ok(None)
 }
 
-/// A chain has a step that is none of the node's copies, or two that are not in order.
+/// Reports a chain with a step that is not one of the node's copies, or with two that are not in order.
 pub fn chain_broken(case: Case, said: &mut Said, number: u32) -> Result<(), Refusal> {
     said.title_with(b"chain # is not in order", &[], &[number]);
     if number as usize >= case.cert.chains.len() {
@@ -145,7 +144,7 @@ pub fn chain_broken(case: Case, said: &mut Said, number: u32) -> Result<(), Refu
     Ok(())
 }
 
-// The chain without the step; where that was all it had, no chain.
+// Mends the chain by removing the step, or the chain if it was the only one.
 fn shorten(case: Case, said: &mut Said, number: u32, step: u32) {
     if number as usize >= case.cert.chains.len() {
         return;
@@ -167,7 +166,7 @@ fn shorten(case: Case, said: &mut Said, number: u32, step: u32) {
     said.add(b"\n")
 }
 
-// Two steps of a chain that are not in order.
+// Reports two steps of a chain that are not in order.
 fn tell_link(case: Case, said: &mut Said, first: u32, second: u32) {
     case.beside(said, first);
     said.beside_with(
@@ -181,12 +180,9 @@ fn tell_link(case: Case, said: &mut Said, first: u32, second: u32) {
     }
     said.mend_with(b"let step # wait for step #", &[], &[second, first]);
     case.wait(said, second, first);
-    said.note(
-        b"Where it waits for it by way of others, a fact with the steps of that way shows it.",
-    )
+    said.note(b"If a step waits for another by way of others, a fact with these steps shows it.")
 }
 
-// The last two chains of that side of the node, if it has two.
 fn last_two(case: Case, of: NodeSide) -> Option<(usize, usize)> {
     let mut last: Option<usize> = None;
     let mut before: Option<usize> = None;
@@ -199,7 +195,6 @@ fn last_two(case: Case, of: NodeSide) -> Option<(usize, usize)> {
     Some((before?, last?))
 }
 
-// How many chains that side of the node has.
 fn count_chains(case: Case, of: NodeSide) -> u32 {
     let mut count = 0u32;
     for place in 0..case.cert.chains.len() {
@@ -210,7 +205,7 @@ fn count_chains(case: Case, of: NodeSide) -> u32 {
     count
 }
 
-// The side of the node that has more chains than it may, and how many it has and may have.
+// The node's side with too many chains, how many it has, and how many it may have.
 fn crowded(case: Case, node: u32) -> Option<(NodeSide, u32, u32)> {
     for side in [Side::Both, Side::Take, Side::Give] {
         let of = NodeSide {
@@ -227,18 +222,18 @@ fn crowded(case: Case, node: u32) -> Option<(NodeSide, u32, u32)> {
     None
 }
 
-/// What is known of a way to have fewer chains of a node.
+/// What may lower the number of a node's chains.
 #[derive(Clone, Copy, Debug, PartialEq, Eq)]
 pub enum Remedy {
-    /// Nothing: no other certificate was sought, or the search does not tell.
+    /// Unknown: no other certificate was sought, or the search does not tell.
     Unknown,
     /// Another certificate, which the search finds and the checker accepts.
     Certificate,
-    /// Another plan alone: no certificate has as few as the node bears.
+    /// Only another plan: no certificate has few enough.
     Plan,
 }
 
-/// Says that a certificate has more chains of a node than its allowance, and what may mend that.
+/// Reports a node with more chains than its allowance, and what may mend that.
 pub fn too_many_chains(case: Case, said: &mut Said, node: u32, remedy: Remedy) {
     let Some((of, count, most)) = crowded(case, node) else {
         return said.title(b"a node has more chains than its allowance");
@@ -269,7 +264,7 @@ pub fn too_many_chains(case: Case, said: &mut Said, node: u32, remedy: Remedy) {
     join_chains(case, said, of)
 }
 
-// Says that two chains of that side of the node may be joined, and joins the last two, where it has them.
+// Suggests to join two chains of the side. Joins the last two, if there are two.
 fn join_chains(case: Case, said: &mut Said, of: NodeSide) {
     said.note(
         b"Each chain is one transfer at a time. Join two: let the first copy of one wait for the last of the other.",
@@ -280,7 +275,7 @@ fn join_chains(case: Case, said: &mut Said, of: NodeSide) {
     }
 }
 
-// A mend: one chain behind the other, where they can be.
+// Mends by appending one chain to the other, if possible.
 fn put_behind(case: Case, said: &mut Said, first: usize, second: usize) {
     if first >= case.cert.chains.len() || second >= case.cert.chains.len() {
         return;

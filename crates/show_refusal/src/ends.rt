@@ -1,16 +1,16 @@
-//! The facts of a certificate, found by their ends.
+//! Finds facts by their ends.
 
 use ring_names::{Refusal, Rows};
 use std::alloc::Global;
 
-/// The first and the last step of each fact, in ascending order.
+/// The first and last steps of the facts, sorted.
 #[derive(Drop)]
 pub struct Ends {
     pairs: Vec<(u32, u32)>,
 }
 
 impl Ends {
-    /// The ends of these facts. Costs a sort of them.
+    /// Collects the ends of the facts. Costs a sort.
     pub fn of(alloc: Global, facts: &Rows) -> Result<Ends, Refusal> {
         let mut pairs = Vec::new(alloc);
         for place in 0..facts.len() {
@@ -23,7 +23,7 @@ impl Ends {
         Ok(Ends { pairs })
     }
 
-    /// Whether a fact begins with the one step and ends with the other. Costs a binary search.
+    /// Whether a fact has these ends. Costs a binary search.
     pub fn has(&self, first: u32, last: u32) -> bool {
         self.pairs.binary_search(&(first, last)).is_ok()
     }

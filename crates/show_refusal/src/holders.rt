@@ -1,4 +1,4 @@
-//! Nodes that hold slots when they must not, and nodes that are no members.
+//! Nodes that hold slots when they must not, and nodes that are not members.
 
 use crate::case::Case;
 use find_chains::{Stay, Stays};
@@ -6,7 +6,6 @@ use plan_text::Step;
 use ring_names::{NodeId, Refusal, Slot};
 use show_why::Said;
 
-// The stays of all nodes by the plan's end.
 fn all_stays(case: Case) -> Result<Stays, Refusal> {
     let mut stays = Stays::of(case.alloc, case.ring)?;
     for number in 0..case.plan.len() {
@@ -15,7 +14,7 @@ fn all_stays(case: Case) -> Result<Stays, Refusal> {
     Ok(stays)
 }
 
-// Whether the stay has begun before the step and is not over by then.
+// Whether the stay began before the step and is not over by then.
 fn lasts(case: Case, stay: Stay, number: u32) -> bool {
     let has_begun = match stay.begun {
         Some(begun) => begun < number,
@@ -28,7 +27,7 @@ fn lasts(case: Case, stay: Stay, number: u32) -> bool {
     has_begun && !is_over
 }
 
-// The first stay of the node at the slot that lasts at the step.
+// The node's first stay at the slot that lasts at the step.
 fn stay_with(case: Case, stays: &Stays, node: NodeId, slot: Slot, number: u32) -> Option<Stay> {
     let mut found = None;
     let mut next = stays.latest_at(slot, node.0);
@@ -44,7 +43,6 @@ fn stay_with(case: Case, stays: &Stays, node: NodeId, slot: Slot, number: u32) -
     found
 }
 
-// The stay with another slot of the partition.
 fn other_stay(case: Case, stays: &Stays, node: NodeId, slot: Slot, number: u32) -> Option<Stay> {
     for index in 0..case.ring.n() {
         if index != slot.index {
@@ -60,7 +58,7 @@ fn other_stay(case: Case, stays: &Stays, node: NodeId, slot: Slot, number: u32) 
     None
 }
 
-/// A mirror brings a node into a second slot of a partition.
+/// Reports a mirror that brings a node into a second slot of a partition.
 pub fn shared_in_plan(case: Case, said: &mut Said, number: u32) -> Result<(), Refusal> {
     let Some(Step::Mirror(slot, node)) = case.step(number) else {
         said.title(b"a mirror brings a node into a second slot of a partition");
@@ -86,7 +84,6 @@ pub fn shared_in_plan(case: Case, said: &mut Said, number: u32) -> Result<(), Re
     Ok(())
 }
 
-// When the node entered the other slot.
 fn tell_entry(case: Case, said: &mut Said, name: &[u8], found: Stay) {
     let Slot { partition, index } = found.slot;
     match found.begun {
@@ -102,7 +99,6 @@ fn tell_entry(case: Case, said: &mut Said, name: &[u8], found: Stay) {
     }
 }
 
-// When it leaves that slot.
 fn tell_exit(case: Case, said: &mut Said, name: &[u8], found: Stay, number: u32) {
     let Slot { partition, index } = found.slot;
     let Some(end) = found.left else {
@@ -119,7 +115,7 @@ fn tell_exit(case: Case, said: &mut Said, name: &[u8], found: Stay, number: u32)
     }
 }
 
-// When the node entered the other slot, and when it leaves it; what it must wait for.
+// Reports when the node enters and leaves the other slot, and what it must wait for.
 fn tell_stay(case: Case, said: &mut Said, name: &[u8], found: Stay, number: u32) {
     tell_entry(case, said, name, found);
     tell_exit(case, said, name, found, number);
@@ -134,7 +130,6 @@ fn tell_stay(case: Case, said: &mut Said, name: &[u8], found: Stay, number: u32)
     }
 }
 
-// The node that the step mirrors to or retires.
 fn used(case: Case, number: u32) -> Option<NodeId> {
     match case.step(number)? {
         Step::Mirror(_, node) => Some(*node),
@@ -143,13 +138,13 @@ fn used(case: Case, number: u32) -> Option<NodeId> {
     }
 }
 
-/// A node is no member when a step needs it to be one.
+/// Reports a step that needs a node to be a member when it is not.
 pub fn not_joined(case: Case, said: &mut Said, number: u32) {
     let Some(node) = used(case, number) else {
-        return said.title(b"a node is no member when a step needs it");
+        return said.title(b"a node is not a member when a step needs it");
     };
     let name = case.name(node.0);
-    said.title_with(b"@ is no member when step # comes", &[name], &[number]);
+    said.title_with(b"@ is not a member when step # comes", &[name], &[number]);
     case.fault(said, number);
     let Some(join) = case.plan.join_of(node) else {
         said.beside(case.node_line(node.0), b"declared `out`");
@@ -163,7 +158,7 @@ pub fn not_joined(case: Case, said: &mut Said, number: u32) {
     case.wait(said, number, join)
 }
 
-// What a node holds when it retires: slots without a drop, and drops for which the retirement does not wait.
+// What a node holds when it retires: slots without a drop, and drops that the retirement does not wait for.
 #[derive(Drop)]
 struct Left {
     slots: Vec<Slot>,
@@ -181,7 +176,7 @@ impl Left {
     }
 }
 
-// What the node has held by the plan's end without a drop before its retirement.
+// What the node holds without a drop before its retirement.
 fn find_left(case: Case, node: NodeId, number: u32) -> Result<Left, Refusal> {
     let stays = all_stays(case)?;
     let mut left = Left {
@@ -201,7 +196,7 @@ fn find_left(case: Case, node: NodeId, number: u32) -> Result<Left, Refusal> {
     Ok(left)
 }
 
-// Says which slots a node holds without a drop, as far as a few lines can.
+// Reports which slots a node holds without a drop, as far as a few lines can.
 fn tell_slots(said: &mut Said, slots: &[Slot]) {
     for slot in slots {
         said.note_with(
@@ -215,7 +210,7 @@ fn tell_slots(said: &mut Said, slots: &[Slot]) {
     }
 }
 
-// Shows the first six drops for which a retirement does not wait.
+// Marks the first six drops that a retirement does not wait for.
 fn tell_drops(case: Case, said: &mut Said, drops: &[u32]) {
     for drop in &drops[..drops.len().min(6)] {
         said.beside_with(
@@ -227,7 +222,6 @@ fn tell_drops(case: Case, said: &mut Said, drops: &[u32]) {
     }
 }
 
-// Says what a node holds when it retires.
 fn tell_left(case: Case, said: &mut Said, left: &Left, number: u32) {
     tell_slots(said, left.slots.as_slice());
     let drops = left.drops.as_slice();
@@ -247,7 +241,7 @@ fn tell_left(case: Case, said: &mut Said, left: &Left, number: u32) {
     case.wait(said, number, *drop)
 }
 
-/// A node retires with slots that it has not dropped.
+/// Reports a node that retires with slots that it has not dropped.
 pub fn retired_in_use(case: Case, said: &mut Said, number: u32) -> Result<(), Refusal> {
     let Some(Step::Retire(node)) = case.step(number) else {
         said.title(b"a node retires with slots that it has not dropped");

@@ -1,5 +1,5 @@
-//! Why the checker refuses a plan, in words: the steps and chains concerned, and lines that may mend them. Nothing is promised of the words; whether a mend mends,
-//! the checker is asked.
+//! Explains why the checker refuses a plan: the faulty steps and chains, and lines that may mend them. Nothing is
+//! proved of the words; the checker says whether a mend works.
 #![tactic(auto)]
 
 mod case;

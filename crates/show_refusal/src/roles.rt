@@ -5,14 +5,13 @@ use find_chains::Stays;
 use plan_text::{Source, Step};
 use ring_names::{NodeId, Refusal, Slot};
 
-/// How a node takes part in a copy: as the mirror that is given what is copied, or as an owner whose slot is read.
+/// A node's role in a copy: the mirror, or an owner that is read.
 #[derive(Clone, Copy, Debug, PartialEq, Eq)]
 pub enum Role {
     Takes,
     Gives,
 }
 
-// Whether the node owns one of the listed slots of the partition.
 fn is_read(stays: &Stays, node: NodeId, partition: u32, listed: &[u32]) -> bool {
     for index in listed {
         let index = *index;
@@ -23,7 +22,6 @@ fn is_read(stays: &Stays, node: NodeId, partition: u32, listed: &[u32]) -> bool 
     false
 }
 
-// How the node takes part in the step that comes next.
 fn role_in(stays: &Stays, node: NodeId, step: &Step) -> Option<Role> {
     let Step::Copy(slot, source) = step else {
         return None;
@@ -38,7 +36,7 @@ fn role_in(stays: &Stays, node: NodeId, step: &Step) -> Option<Role> {
     if gives { Some(Role::Gives) } else { None }
 }
 
-/// How the node takes part in each step of the plan, by number. Costs a walk over the plan.
+/// Returns the node's role in each step of the plan. Costs a walk over the plan.
 pub fn roles(case: Case, node: NodeId) -> Result<Vec<Option<Role>>, Refusal> {
     let mut stays = Stays::of(case.alloc, case.ring)?;
     let mut found = Vec::new(case.alloc);
@@ -50,7 +48,7 @@ pub fn roles(case: Case, node: NodeId) -> Result<Vec<Option<Role>>, Refusal> {
     Ok(found)
 }
 
-/// The role in the step of that number, if the plan has it.
+/// Returns the role in the step, if the plan has it.
 pub fn role_at(roles: &[Option<Role>], number: u32) -> Option<Role> {
     match roles.get(number as usize) {
         Some(role) => *role,

@@ -1,11 +1,10 @@
-//! Copies that read listed slots.
+//! Copies from listed slots.
 
 use crate::case::Case;
 use plan_text::{Source, Step};
 use ring_names::Slot;
 use show_why::Said;
 
-// How many of the indexes are different.
 fn different(indexes: &[u32]) -> u32 {
     let mut count = 0u32;
     for place in 0..indexes.len() {
@@ -16,13 +15,13 @@ fn different(indexes: &[u32]) -> u32 {
     count
 }
 
-/// A copy lists a slot twice, or too few.
+/// Reports a copy that lists a slot twice, or too few.
 pub fn bad_source(case: Case, said: &mut Said, number: u32) {
     said.title_with(b"step # reads too few slots, or one twice", &[], &[number]);
     if let Some(Step::Copy(_, Source::Slots(from))) = case.step(number) {
         said.fault_with(
             case.step_line(number),
-            b"# different, where a read asks for #, each once",
+            b"# different, but a read asks for #, each once",
             &[],
             &[different(from.as_slice()), case.ring.r()],
         );
@@ -50,7 +49,7 @@ fn moving(case: Case, slot: Slot, from: &[u32], number: u32) -> Option<(u32, u32
     None
 }
 
-/// A copy reads a slot whose owner may change under it.
+/// Reports a copy of a slot whose owner may change meanwhile.
 pub fn moving_source(case: Case, said: &mut Said, number: u32) {
     said.title_with(
         b"step # reads a slot whose owner may change under it",

@@ -31,7 +31,6 @@ fn cause(step: &Step, stage: &Stage) -> &'static [u8] {
     }
 }
 
-// The node of a step, if it has one.
 fn node_of(step: &Step) -> Option<NodeId> {
     match step {
         Step::Mirror(_, node) => Some(*node),
@@ -40,7 +39,7 @@ fn node_of(step: &Step) -> Option<NodeId> {
     }
 }
 
-// Who has what of the slot in the stage.
+// Reports who has what of the slot in the stage.
 fn tell_stage(case: Case, said: &mut Said, slot: Slot, stage: &Stage) {
     said.add_note_with(
         b"  In front of it slot #.# is owned by @",
@@ -63,7 +62,7 @@ fn tell_stage(case: Case, said: &mut Said, slot: Slot, stage: &Stage) {
     said.add_note(b".\n")
 }
 
-// That a copy is missing between the slot's mirror and the switch, which come behind that step.
+// Reports that a copy is missing between the slot's mirror and the switch.
 fn tell_copy(said: &mut Said, slot: Slot, before: u32) {
     let numbers = [slot.partition, slot.index, before];
     let note = b"A copy is missing in between, as `copy # # owner after #`;";
@@ -72,7 +71,6 @@ fn tell_copy(said: &mut Said, slot: Slot, before: u32) {
     said.note(note)
 }
 
-// The step does not fit the stage.
 fn tell_misfit(case: Case, said: &mut Said, slot: Slot, stage: &Stage, number: u32) {
     let Some(step) = case.step(number) else {
         return;
@@ -97,7 +95,7 @@ fn tell_misfit(case: Case, said: &mut Said, slot: Slot, stage: &Stage, number: u
     }
 }
 
-/// A step does not fit what the slot's steps in front of it leave.
+/// Reports a step that does not fit the slot's earlier steps.
 pub fn wrong_stage(case: Case, said: &mut Said, number: u32) -> Result<(), Refusal> {
     said.title(b"a step cannot come where it stands");
     let Some(slot) = case.slot(number) else {
@@ -109,7 +107,6 @@ pub fn wrong_stage(case: Case, said: &mut Said, number: u32) -> Result<(), Refus
     Ok(())
 }
 
-// That the step may run before the slot's step before it.
 fn tell_order(case: Case, said: &mut Said, slot: Slot, number: u32, before: u32) {
     let title = b"step # may run before step #, which must come first";
     said.title_with(title, &[], &[number, before]);
@@ -126,7 +123,7 @@ fn tell_order(case: Case, said: &mut Said, slot: Slot, number: u32, before: u32)
     case.wait(said, number, before)
 }
 
-/// A step does not wait for the slot's step before it.
+/// Reports a step that does not wait for the slot's step before it.
 pub fn unordered_slot(case: Case, said: &mut Said, number: u32) {
     let Some(slot) = case.slot(number) else {
         return said.title(b"a step does not wait for the slot's step before it");

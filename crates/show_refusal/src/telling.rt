@@ -13,18 +13,18 @@ use ring_table::Ring;
 use show_why::{Page, Said};
 use std::alloc::Global;
 
-/// A bundle's texts, with what was read of them.
+/// A bundle's texts, as bytes and as read.
 #[derive(Clone, Copy)]
 pub struct Read<'a> {
     pub bytes: &'a [u8],
     pub ring: &'a Ring,
     pub plan: &'a Plan,
     pub cert: &'a Cert,
-    /// What is known of fewer chains, where the certificate has too many.
+    /// What may lower the number of chains, if there are too many.
     pub remedy: Remedy,
 }
 
-/// Says why the plan of a bundle is refused, where the checker refuses it so, and whether it does.
+/// Reports why the checker refuses the plan. Returns whether that is known.
 pub fn tell_plan(
     alloc: Global,
     said: &mut Said,

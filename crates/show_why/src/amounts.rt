@@ -1,21 +1,21 @@
-//! Numbers as people write them: with a fraction, with a unit, or with their digits in groups.
+//! Numbers as people write them: with a fraction, a unit, or digits in groups.
 
 use crate::said::count_digits;
 use helpers::Words;
 
-/// How a number is written that a text does not take.
+/// How a number is written, if not as the texts want it.
 #[derive(Clone, Copy, Debug, PartialEq, Eq)]
 pub enum Manner {
-    /// With a unit: how many bytes that is.
+    /// With a unit. The number in bytes.
     Unit(u64),
-    /// With a point or a comma, and the rest after it.
+    /// With a point or comma and further digits.
     Fraction,
-    /// With its digits in groups of three.
+    /// With digits in groups of three.
     Groups,
     Other,
 }
 
-/// How the word writes a number.
+/// Returns how the word writes a number.
 pub fn manner_of(word: &[u8]) -> Manner {
     let (front, unit) = cut_unit(word);
     let Some(thousandths) = thousandths_of(front) else {
@@ -33,12 +33,11 @@ pub fn manner_of(word: &[u8]) -> Manner {
     }
 }
 
-// Whether the byte parts the digits of a number.
 fn is_parting(byte: u8) -> bool {
     byte == b'.' || byte == b',' || byte == b'_'
 }
 
-// The digits of a number with what parts them, and what follows.
+// Splits a word into its number, with separators, and its unit.
 fn cut_unit(word: &[u8]) -> (&[u8], &[u8]) {
     let end = word
         .iter()
@@ -49,7 +48,7 @@ fn cut_unit(word: &[u8]) -> (&[u8], &[u8]) {
     }
 }
 
-/// The value of at most 15 digits; none if they are no digits, or more.
+/// Returns the value of 1 to 15 digits. None for anything else.
 pub fn value_of(digits: &[u8]) -> Option<u64> {
     if digits.is_empty() || digits.len() > 15 {
         return None;
@@ -66,7 +65,7 @@ pub fn value_of(digits: &[u8]) -> Option<u64> {
     Some(value)
 }
 
-// How many thousandths a number has that is written with at most one point or comma. Digits after the third are left out.
+// The number in thousandths, rounded down, if it has at most one point or comma.
 fn thousandths_of(front: &[u8]) -> Option<u64> {
     let place = front.iter().position(|byte| is_parting(*byte));
     let (whole, rest) = match place {
@@ -85,7 +84,7 @@ fn thousandths_of(front: &[u8]) -> Option<u64> {
     whole.checked_add(value_of(digits)?.saturating_mul(scale))
 }
 
-// Whether the digits stand in groups of three, the first in one of one to three that is not zero.
+// Whether the digits form groups of three. The first group has one to three digits and is not zero.
 fn are_groups(front: &[u8]) -> bool {
     let mut groups = front.split(|byte| is_parting(*byte));
     let first = groups.next().unwrap_or(b"".as_slice());
@@ -100,10 +99,9 @@ fn are_groups(front: &[u8]) -> bool {
     is_begin && count > 0
 }
 
-// The units, by their first letters.
 const LETTERS: [u8; 5] = [b'k', b'm', b'g', b't', b'p'];
 
-/// How many bytes a unit has: `KiB`, `K` and `kb` are 1,024, 1,024 and 1,000 of them; no unit is one.
+/// Returns how many bytes a unit has: 1,024 for `KiB` and `K`, 1,000 for `kb`, 1 for no unit.
 pub fn factor_of(unit: &[u8]) -> Option<u64> {
     let (first, rest) = match unit.split_first() {
         None => return Some(1),
@@ -127,7 +125,7 @@ pub fn factor_of(unit: &[u8]) -> Option<u64> {
     None
 }
 
-/// Adds the number, which is less than 4,294,967,295 times 1,000,000,000.
+/// Adds the number, which is below 4,294,967,295 times 1,000,000,000.
 pub fn push_long(out: &mut Words, number: u64) {
     let high = u32::try_from(number / 1_000_000_000).unwrap_or(u32::MAX);
     let low = u32::try_from(number % 1_000_000_000).unwrap_or(0);

@@ -1,22 +1,20 @@
-//! Lines of a history that do not begin with an event.
+//! History lines that do not begin with an event.
 
 use crate::forms::Part;
 use crate::line::Line;
 use crate::said::Said;
 
-// The words with which events begin.
 const EVENTS: [&[u8]; 16] = [
     b"do", b"open", b"chunk", b"close", b"abort", b"put", b"write", b"hint", b"ack", b"get",
     b"read", b"endget", b"down", b"up", b"handoff", b"lose",
 ];
 
-// The place of the first field that is the word of an event.
 fn event_at(text: &[u8]) -> Option<usize> {
     text.split(|byte| *byte == b' ')
         .position(|field| EVENTS.contains(&field))
 }
 
-/// Says that something stands before the event of a history's line, as the time of it, and whether that is so.
+/// Reports a word before the event of a history line, such as a time. Returns whether there was one.
 pub fn tell_event(line: Line, said: &mut Said) -> bool {
     let first = line.page.text(line.start);
     let is_history = line.part == Part::Behind && first == b"history 1".as_slice();
@@ -27,7 +25,7 @@ pub fn tell_event(line: Line, said: &mut Said) -> bool {
     if !is_history || line.number == line.start {
         return false;
     }
-    said.title_with(b"line # is no line of a history", &[], &[line.number]);
+    said.title_with(b"line # is not a line of a history", &[], &[line.number]);
     said.fault_at(
         line.page.at(line.number, 0, last),
         b"an entry begins with its event",

@@ -1,4 +1,4 @@
-//! Lines that are in the grammar and still refused.
+//! Lines that fit the grammar but are refused.
 
 use crate::forms::Part;
 use crate::line::{Line, line_of};
@@ -7,12 +7,11 @@ use crate::page::{Page, count_fields, field, number, place_of};
 use crate::said::Said;
 use texts::Lines;
 
-// The last field of a line.
 fn last_field(text: &[u8]) -> &[u8] {
     field(text, count_fields(text).saturating_sub(1))
 }
 
-/// Says that a node is named twice, or joins though it is a member, and which line names it first.
+/// Reports a node that is named twice, or joins as a member, and shows the first line that names it.
 pub fn repeated(said: &mut Said, page: Page, number: u32) {
     let line = line_of(page, number);
     let name = field(line.text, 1);
@@ -35,10 +34,9 @@ pub fn repeated(said: &mut Said, page: Page, number: u32) {
     tell_once(said, line)
 }
 
-// Says that a node that shall join is a member already.
 fn tell_member(said: &mut Said, line: Line, node: u32) {
     said.title_with(
-        b"`@` shall join and is a member already",
+        b"`@` should join and is a member already",
         &[field(line.text, 1)],
         &[],
     );
@@ -49,7 +47,6 @@ fn tell_member(said: &mut Said, line: Line, node: u32) {
     }
 }
 
-// Says that a plan or a change names a node once.
 fn tell_once(said: &mut Said, line: Line) {
     if line.part == Part::Change {
         said.note(b"A change names a node once.");
@@ -60,14 +57,13 @@ fn tell_once(said: &mut Said, line: Line) {
     )
 }
 
-// Shows the line that names the node first, if it is known.
 fn tell_first(said: &mut Said, first: Option<u32>) {
     if let Some(first) = first {
         said.beside(first, b"the first time");
     }
 }
 
-// The first line of the part that says the same of the node, or in a change names it.
+// The first line of the part that repeats this one, or in a change names the node.
 fn earlier(page: Page, line: u32, start: u32) -> Option<u32> {
     let text = page.text(line);
     let (word, node) = (field(text, 0), field(text, 1));
@@ -85,7 +81,6 @@ fn earlier(page: Page, line: u32, start: u32) -> Option<u32> {
     None
 }
 
-// The first field that names the owner of a slot in front, if one does.
 fn owner_again(text: &[u8]) -> Option<usize> {
     for place in 3..count_fields(text) {
         for before in 2..place {
@@ -97,7 +92,7 @@ fn owner_again(text: &[u8]) -> Option<usize> {
     None
 }
 
-/// One owner stands twice in a partition.
+/// Reports a node that owns two slots of a partition.
 pub fn shared_node(said: &mut Said, page: Page, line: u32) {
     let text = page.text(line);
     let Some(place) = owner_again(text) else {
@@ -128,17 +123,17 @@ fn outsider(page: Page, text: &[u8]) -> Option<(usize, u32)> {
     None
 }
 
-/// A node that is no member owns a slot, or shall leave.
+/// Reports a node that owns a slot or leaves, and is not a member.
 pub fn not_member(said: &mut Said, page: Page, line: u32) {
     let text = page.text(line);
     let Some((place, node)) = outsider(page, text) else {
-        said.title(b"a node that is no member is named as one");
+        said.title(b"a node that is not a member is named as one");
         return said.fault(line, b"");
     };
     let what: &[u8] = if field(text, 0) == b"leave".as_slice() {
-        b"`@` shall leave and is no member"
+        b"`@` should leave and is not a member"
     } else {
-        b"`@` owns a slot and is no member"
+        b"`@` owns a slot and is not a member"
     };
     said.title_with(what, &[field(text, place)], &[]);
     said.beside(node, b"declared `out`");
@@ -148,7 +143,7 @@ pub fn not_member(said: &mut Said, page: Page, line: u32) {
     )
 }
 
-// The first field behind `after` that names a step not in front of that one.
+// The first field after `after` that names this step or a later one.
 fn later(text: &[u8], step: u32) -> Option<usize> {
     let first = place_of(text, b"after").unwrap_or(0).saturating_add(1);
     let fields = text.split(|byte| *byte == b' ').enumerate();
@@ -162,7 +157,7 @@ fn later(text: &[u8], step: u32) -> Option<usize> {
     None
 }
 
-/// A step waits for one that is not in front of it.
+/// Reports a step that waits for itself or a later one.
 pub fn later_dependency(said: &mut Said, page: Page, line: u32) {
     let text = page.text(line);
     let start = page.section(line).start;

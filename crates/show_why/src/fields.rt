@@ -1,4 +1,4 @@
-//! Lines of a known word whose fields are wrong.
+//! Lines with a known word and wrong fields.
 
 use crate::forms::Part;
 use crate::line::{Line, move_up};
@@ -12,7 +12,7 @@ use ring_names::Refusal;
 use std::alloc::Global;
 use texts::{are_name_bytes, is_name};
 
-/// Says which field of the line departs from its form.
+/// Reports which field departs from the line's form.
 pub fn tell_fields(alloc: Global, line: Line, said: &mut Said, form: &[u8]) -> Result<(), Refusal> {
     if tell_name(line, said) {
         return Ok(());
@@ -34,7 +34,7 @@ pub fn tell_fields(alloc: Global, line: Line, said: &mut Said, form: &[u8]) -> R
     Ok(())
 }
 
-/// Says what is wrong with a field; mends a number with zeros in front.
+/// Reports a fault in a field. Mends a number with leading zeros.
 pub fn tell_fault(line: Line, said: &mut Said, place: usize, fault: &[u8]) {
     line.part(said, place, fault);
     let word = field(line.text, place);
@@ -45,7 +45,6 @@ pub fn tell_fault(line: Line, said: &mut Said, place: usize, fault: &[u8]) {
     }
 }
 
-// Says what is wrong with a line beyond its fields' forms, and whether something is.
 fn tell_of_part(line: Line, said: &mut Said) -> bool {
     match line.part {
         Part::Ring => tell_space(line, said) || tell_loss(line, said) || tell_row(line, said),
@@ -55,7 +54,7 @@ fn tell_of_part(line: Line, said: &mut Said) -> bool {
     }
 }
 
-// Mends the field by the nearest of the words, if one is near and another than it.
+// Mends the field by the nearest of the words, if one is near and differs.
 fn guess(
     alloc: Global,
     line: Line,
@@ -75,7 +74,7 @@ fn guess(
     Ok(())
 }
 
-/// What is wrong with a number where one is wanted.
+/// Returns what is wrong with a number.
 pub fn number_fault(word: &[u8]) -> Option<&'static [u8]> {
     if word.is_empty() || !word.iter().all(|byte| byte.is_ascii_digit()) {
         return Some(b"no number");
@@ -86,7 +85,7 @@ pub fn number_fault(word: &[u8]) -> Option<&'static [u8]> {
     None
 }
 
-/// What is wrong with a name where one is wanted.
+/// Returns what is wrong with a name.
 pub fn name_fault(word: &[u8]) -> Option<&'static [u8]> {
     if is_name(word) {
         return None;
@@ -97,7 +96,6 @@ pub fn name_fault(word: &[u8]) -> Option<&'static [u8]> {
     Some(b"no name: 1 to 32 of a-z 0-9 _ . : -")
 }
 
-// Says that a ring declares a node by what is no name, and whether that is so.
 fn tell_name(line: Line, said: &mut Said) -> bool {
     let word = field(line.text, 1);
     let is_node = line.part == Part::Ring && line.word() == b"node".as_slice();
@@ -112,7 +110,6 @@ fn tell_name(line: Line, said: &mut Said) -> bool {
     true
 }
 
-// What is wrong with a field where the form has that.
 fn field_fault(word: &[u8], wanted: &[u8]) -> Option<&'static [u8]> {
     let is_name_wanted = wanted == b"<node>".as_slice() || wanted == b"<name>".as_slice();
     if is_name_wanted || wanted == b"<owner>".as_slice() {
@@ -130,7 +127,7 @@ fn field_fault(word: &[u8], wanted: &[u8]) -> Option<&'static [u8]> {
     None
 }
 
-// The first field in which the line departs from the form, and what is wrong with it.
+// The first field that departs from the form, and its fault.
 fn wrong_field(text: &[u8], form: &[u8]) -> Option<(usize, &'static [u8])> {
     let is_row = field(form, 0) == b"slots".as_slice();
     let mut last: &[u8] = b"";
@@ -151,7 +148,6 @@ fn wrong_field(text: &[u8], form: &[u8]) -> Option<(usize, &'static [u8])> {
     None
 }
 
-// Says that the line has more or fewer fields than the form.
 fn tell_count(alloc: Global, line: Line, said: &mut Said, form: &[u8]) -> Result<(), Refusal> {
     let wanted = count_fields(form);
     let after = place_of(line.text, b"after").unwrap_or(usize::MAX);
@@ -169,7 +165,7 @@ fn tell_count(alloc: Global, line: Line, said: &mut Said, form: &[u8]) -> Result
     Ok(())
 }
 
-// What is wrong with the steps in the fields after `after`, which stands at that place.
+// What is wrong with the steps after `after`, which is at this place.
 fn after_fault(text: &[u8], after: usize) -> Option<(usize, &'static [u8])> {
     let mut last: Option<u32> = None;
     let steps = text.split(|byte| *byte == b' ').enumerate();
@@ -190,7 +186,6 @@ fn after_fault(text: &[u8], after: usize) -> Option<(usize, &'static [u8])> {
     None
 }
 
-// Says what is wrong with the steps for which a step waits, and whether something is.
 fn tell_after(line: Line, said: &mut Said) -> bool {
     let Some(after) = place_of(line.text, b"after") else {
         return false;
@@ -203,7 +198,7 @@ fn tell_after(line: Line, said: &mut Said) -> bool {
     true
 }
 
-// Says that a number of partitions is none that a ring may have, and whether that is so.
+// Reports a number of partitions that a ring cannot have.
 fn tell_space(line: Line, said: &mut Said) -> bool {
     let is_number = number(field(line.text, 1)).is_some() && count_fields(line.text) == 2;
     if line.word() != b"space".as_slice() || !is_number {
@@ -215,7 +210,7 @@ fn tell_space(line: Line, said: &mut Said) -> bool {
     true
 }
 
-// Says that a quorum says how many stores may be lost in a ring whose format does not, and whether that is so.
+// Reports a fourth quorum number in a ring of format 1 or 2.
 fn tell_loss(line: Line, said: &mut Said) -> bool {
     let is_format_3 = line.page.line(1) == Some(b"ring 3".as_slice());
     if line.word() != b"quorum".as_slice() || count_fields(line.text) != 5 || is_format_3 {
@@ -230,7 +225,16 @@ fn tell_loss(line: Line, said: &mut Said) -> bool {
     true
 }
 
-// Says that a line `slots` is of another partition than the next, or has not one owner a slot, and whether that is so.
+// Reports a line `slots` that is not for the next partition, and moves that one up.
+fn tell_other_row(line: Line, said: &mut Said, next: u32) {
+    let at = line.page.at(line.number, 1, 1);
+    said.fault_at_with(at, b"the next one is partition #", &[], &[next]);
+    if let Some(row) = row_after(line, next) {
+        move_up(line.page, said, row, line.number);
+    }
+}
+
+// Reports a line `slots` for the wrong partition, or without one owner a slot.
 fn tell_row(line: Line, said: &mut Said) -> bool {
     if line.word() != b"slots".as_slice() {
         return false;
@@ -243,11 +247,7 @@ fn tell_row(line: Line, said: &mut Said) -> bool {
             return true;
         }
         _ => {
-            let at = line.page.at(line.number, 1, 1);
-            said.fault_at_with(at, b"the next one is partition #", &[], &[next]);
-            if let Some(row) = row_after(line, next) {
-                move_up(line.page, said, row, line.number);
-            }
+            tell_other_row(line, said, next);
             return true;
         }
     }
@@ -267,7 +267,8 @@ fn tell_row(line: Line, said: &mut Said) -> bool {
     true
 }
 
-// Says that a partition has a line `slots` already. If the next partition has one below, this one goes; if none does, this one is meant for it.
+// Reports a second line `slots` of a partition. The line goes if the next partition has one below; otherwise it becomes
+// that partition's line.
 fn tell_row_again(line: Line, said: &mut Said, partition: u32, next: u32) {
     let first = line.number.saturating_sub(next.saturating_sub(partition));
     said.beside_with(first, b"partition #", &[], &[partition]);
@@ -282,7 +283,7 @@ fn tell_row_again(line: Line, said: &mut Said, partition: u32, next: u32) {
     said.add_with(b"@#@\n", &[front, rest], &[next])
 }
 
-// How many owners each line `slots` of the ring has, if all have as many.
+// How many owners each line `slots` has, if all have the same number.
 fn owners_of_all(line: Line) -> Option<usize> {
     let count = count_fields(line.text).saturating_sub(2);
     let rest = line.page.after(line.number.saturating_sub(1));
@@ -297,7 +298,7 @@ fn owners_of_all(line: Line) -> Option<usize> {
     Some(count)
 }
 
-// Says that the line `quorum` has another number of slots than each line `slots` has owners, from the first of these on, and whether that is so.
+// Reports a line `quorum` whose slots differ from the owners in every line `slots`.
 fn tell_rows(line: Line, said: &mut Said, wanted: u32) -> bool {
     let count = match owners_of_all(line) {
         Some(count) if 1 <= count && count <= 7 => helpers::small(count),
@@ -319,7 +320,7 @@ fn tell_rows(line: Line, said: &mut Said, wanted: u32) -> bool {
     true
 }
 
-/// Says how a name that a node cannot have is kept.
+/// Notes how to keep a name that a node cannot have.
 pub fn tell_alias(said: &mut Said, word: &[u8]) {
     said.note(b"A name has 1 to 32 of a-z 0-9 _ . : - and stands so wherever the node is named.");
     said.note_with(
@@ -329,7 +330,6 @@ pub fn tell_alias(said: &mut Said, word: &[u8]) {
     );
 }
 
-// The line `slots` of the partition after this line, if there is one.
 fn row_after(line: Line, partition: u32) -> Option<u32> {
     let mut found = line.number;
     let rest = line.page.after(line.number.saturating_sub(1));
@@ -345,7 +345,7 @@ fn row_after(line: Line, partition: u32) -> Option<u32> {
     None
 }
 
-// Says what is wrong with the allowances of a node or with what follows them, and whether something is.
+// Reports a wrong allowance of a node, or a fault after it.
 fn tell_node(alloc: Global, line: Line, said: &mut Said) -> Result<bool, Refusal> {
     if line.part != Part::Ring || line.word() != b"node".as_slice() {
         return Ok(false);
@@ -372,7 +372,7 @@ fn tell_node(alloc: Global, line: Line, said: &mut Said) -> Result<bool, Refusal
     tell_membership(alloc, line, said, last)
 }
 
-// Says that a node of a ring of format 1 has a second allowance.
+// Reports a second allowance in a ring of format 1.
 fn tell_second(line: Line, said: &mut Said) {
     line.part(
         said,
@@ -382,7 +382,7 @@ fn tell_second(line: Line, said: &mut Said) {
     said.note(b"Write `ring 2` in line 1 and `cert 2` in the certificate, or take the number out.")
 }
 
-// What is wrong with an allowance, if it is not above its limit.
+// What is wrong with an allowance that is not above its limit.
 fn allowance_fault(word: &[u8]) -> Option<&'static [u8]> {
     if word == b"0".as_slice() {
         return Some(b"an allowance is 1 to 64");
@@ -390,7 +390,7 @@ fn allowance_fault(word: &[u8]) -> Option<&'static [u8]> {
     number_fault(word)
 }
 
-// Says that the field is neither `in` nor `out`, and whether that is so.
+// Reports a field that is neither `in` nor `out`.
 fn tell_membership(
     alloc: Global,
     line: Line,
@@ -410,7 +410,7 @@ fn tell_membership(
     Ok(true)
 }
 
-// Says that a chain is of another kind than its node, and whether that is so.
+// Reports a chain that is split when its node is not, or the reverse.
 fn tell_side(line: Line, said: &mut Said) -> bool {
     let Some(node) = declared(line.page, field(line.text, 1)) else {
         return false;

@@ -1,9 +1,9 @@
-//! Inputs that are not texts of this program, known by their first bytes.
+//! Inputs of other kinds, known by their first bytes.
 
 use crate::page::{Page, field, number};
 use crate::said::Said;
 
-// Packed files: how they begin, what they are, and a command that unpacks them.
+// Packed files: first bytes, kind, and a command that unpacks them.
 const PACKED: [(&[u8], &[u8], &[u8]); 5] = [
     (
         b"\x1f\x8b",
@@ -27,17 +27,16 @@ const PACKED: [(&[u8], &[u8], &[u8]); 5] = [
 // How many bytes are looked at.
 const FRONT: usize = 512;
 
-/// Says that the input is of another kind than a text of this program, or of a later format, and whether that is so.
+/// Reports an input of another kind or of a later format. Returns whether it is one.
 pub fn tell_foreign(page: Page, said: &mut Said) -> bool {
     tell_coded(page, said, b"the input") || tell_binary(page, said) || tell_format(page, said)
 }
 
-/// Says that what is called so is packed, or has two bytes a letter, and whether that is so.
+/// Reports packed bytes, or text with two bytes a letter, under the given name. Returns whether it is so.
 pub fn tell_coded(page: Page, said: &mut Said, called: &[u8]) -> bool {
     tell_packed(page, said, called) || tell_wide(page, said, called)
 }
 
-// Says that the input is packed, and whether it is.
 fn tell_packed(page: Page, said: &mut Said, called: &[u8]) -> bool {
     for (begin, kind, command) in PACKED {
         if page.bytes.starts_with(begin) {
@@ -49,7 +48,6 @@ fn tell_packed(page: Page, said: &mut Said, called: &[u8]) -> bool {
     false
 }
 
-// The name of an encoding with two bytes a letter, if the bytes are of one.
 fn wide_name(bytes: &[u8]) -> Option<&'static [u8]> {
     match bytes {
         [0xff, 0xfe, ..] | [0xfe, 0xff, ..] => Some(b"UTF-16"),
@@ -59,7 +57,6 @@ fn wide_name(bytes: &[u8]) -> Option<&'static [u8]> {
     }
 }
 
-// The title of what has two bytes a letter.
 fn title_wide<'a>(said: &mut Said, called: &'a [u8], name: &'a [u8]) {
     said.title_with(
         b"@ is @, and a text here has one byte a letter",
@@ -68,7 +65,6 @@ fn title_wide<'a>(said: &mut Said, called: &'a [u8], name: &'a [u8]) {
     );
 }
 
-// Says that what is called so has two bytes a letter, and whether it has.
 fn tell_wide(page: Page, said: &mut Said, called: &[u8]) -> bool {
     let Some(name) = wide_name(page.bytes) else {
         return false;
@@ -82,12 +78,11 @@ fn tell_wide(page: Page, said: &mut Said, called: &[u8]) -> bool {
     true
 }
 
-// Whether a byte stands in a text.
 fn is_of_text(byte: u8) -> bool {
     matches!(byte, b' '..=b'~' | b'\n' | b'\r' | b'\t')
 }
 
-/// Whether more than an eighth of the first bytes stand in no text.
+/// Whether more than an eighth of the first bytes cannot be in a text.
 pub fn is_binary(page: Page) -> bool {
     let front = &page.bytes[..page.bytes.len().min(FRONT)];
     let mut others = 0usize;
@@ -99,7 +94,6 @@ pub fn is_binary(page: Page) -> bool {
     others > front.len() / 8
 }
 
-// Says that the input is not a text, and whether that is so.
 fn tell_binary(page: Page, said: &mut Said) -> bool {
     if page.bytes.starts_with(b"\xef\xbb\xbf") || !is_binary(page) {
         return false;
@@ -109,7 +103,6 @@ fn tell_binary(page: Page, said: &mut Said) -> bool {
     true
 }
 
-// Says that the ring is of a later format, and whether it is.
 fn tell_format(page: Page, said: &mut Said) -> bool {
     let first = page.text(1);
     let format = number(field(first, 1)).unwrap_or(0);

@@ -1,4 +1,4 @@
-//! What the lines of each part of a bundle may be.
+//! The lines that each part of a bundle may have.
 
 use crate::page::{Page, field};
 
@@ -9,13 +9,13 @@ pub enum Part {
     Change,
     Plan,
     Cert,
-    /// What stands behind a certificate, or behind a change.
+    /// What comes after a certificate or a change.
     Behind,
-    /// All of a layout, which is not in a bundle.
+    /// A whole layout, which is not part of a bundle.
     Layout,
 }
 
-/// The part in which the line stands, and its first line.
+/// Returns the part of the line, and the part's first line.
 pub fn part_of(page: Page, line: u32) -> (Part, u32) {
     let section = page.section(line);
     let second = field(page.behind_ring().unwrap_or(b"".as_slice()), 0);
@@ -30,7 +30,7 @@ pub fn part_of(page: Page, line: u32) -> (Part, u32) {
     (part, section.start)
 }
 
-/// What a part is called.
+/// Returns the name of a part.
 pub fn called(part: Part) -> &'static [u8] {
     match part {
         Part::Ring => b"ring",
@@ -42,7 +42,7 @@ pub fn called(part: Part) -> &'static [u8] {
     }
 }
 
-/// The forms of a part's lines, behind its first.
+/// Returns the forms of a part's lines after its first.
 pub fn forms(part: Part) -> &'static [&'static [u8]] {
     match part {
         Part::Ring => &[
@@ -82,7 +82,7 @@ pub fn forms(part: Part) -> &'static [&'static [u8]] {
     }
 }
 
-/// The first form that begins with the word, if there is one.
+/// Returns the first form that begins with the word.
 pub fn form_of(part: Part, word: &[u8]) -> Option<&'static [u8]> {
     for form in forms(part) {
         if field(form, 0) == word {
@@ -92,7 +92,7 @@ pub fn form_of(part: Part, word: &[u8]) -> Option<&'static [u8]> {
     None
 }
 
-/// The line with which a part begins.
+/// Returns the first line of a part.
 pub fn first_line(page: Page, part: Part) -> &'static [u8] {
     match part {
         Part::Ring => b"ring 1",

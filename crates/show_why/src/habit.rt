@@ -1,4 +1,4 @@
-//! Ways of writing that no text may have, and that mostly many lines of one share.
+//! Ways of writing that no text may have, and that many lines of a file mostly share.
 
 use crate::page::{Page, cut_line};
 use helpers::Words;
@@ -8,14 +8,13 @@ use helpers::Words;
 pub enum Habit {
     /// The line ends of Windows.
     CarriageReturn,
-    /// A line of nothing but blanks.
+    /// A line of blanks only.
     Empty,
     Comment,
     /// Blanks before the first field.
     Indent,
-    /// Blanks after the last one.
+    /// Blanks after the last field.
     Tail,
-    /// Letters of upper case.
     Capitals,
 }
 
@@ -24,7 +23,6 @@ pub fn is_blank(byte: u8) -> bool {
     byte == b' ' || byte == b'\t'
 }
 
-// The bytes from the first that is no blank on.
 fn unindented(line: &[u8]) -> &[u8] {
     match line.iter().position(|byte| !is_blank(*byte)) {
         Some(first) if first <= line.len() => &line[first..],
@@ -32,7 +30,6 @@ fn unindented(line: &[u8]) -> &[u8] {
     }
 }
 
-// The bytes up to the last that is no blank.
 fn without_tail(line: &[u8]) -> &[u8] {
     match line.iter().rposition(|byte| !is_blank(*byte)) {
         Some(last) if last < line.len() => &line[..last + 1],
@@ -41,7 +38,7 @@ fn without_tail(line: &[u8]) -> &[u8] {
 }
 
 impl Habit {
-    /// Whether a line, given without its newline, has the habit.
+    /// Whether the line, without its newline, has the habit.
     pub fn is_in(self, line: &[u8]) -> bool {
         match self {
             Habit::CarriageReturn => line.contains(&b'\r'),
@@ -53,7 +50,7 @@ impl Habit {
         }
     }
 
-    /// What is said of a line that has the habit.
+    /// Describes the habit in a line.
     pub fn words(self) -> &'static [u8] {
         match self {
             Habit::CarriageReturn => b"it has a carriage return, as texts of Windows do",
@@ -61,11 +58,11 @@ impl Habit {
             Habit::Comment => b"a comment: texts have none",
             Habit::Indent => b"it begins with a blank",
             Habit::Tail => b"it ends in a blank",
-            Habit::Capitals => b"upper case: texts have lower-case letters alone",
+            Habit::Capitals => b"upper case: texts have only lower-case letters",
         }
     }
 
-    /// A command that writes the text without the habit.
+    /// Returns a command that removes the habit.
     pub fn command(self) -> &'static [u8] {
         match self {
             Habit::CarriageReturn => b"tr -d '\\r' < FILE > MENDED",
@@ -77,7 +74,7 @@ impl Habit {
         }
     }
 
-    /// How many lines of the page have the habit, and how many it has.
+    /// Returns how many lines of the page have the habit, and how many lines there are.
     pub fn count(self, page: Page) -> (u32, u32) {
         let (mut count, mut lines) = (0u32, 0u32);
         let mut rest = page.bytes;
@@ -108,7 +105,6 @@ impl Habit {
         }
     }
 
-    // Adds a line, which is given with its newline, without the habit.
     fn push_line(self, out: &mut Words, line: &[u8]) {
         let (text, end) = split_line(line);
         match self {
@@ -127,7 +123,6 @@ impl Habit {
     }
 }
 
-// A line without its newline, and the newline, where it has one.
 fn split_line(line: &[u8]) -> (&[u8], &[u8]) {
     match line.split_last() {
         Some((b'\n', text)) => (text, b"\n"),

@@ -1,4 +1,4 @@
-//! Faults of a layout's lines.
+//! Faults in the lines of a layout.
 
 use crate::amounts::{Manner, manner_of, push_digits, push_long, value_of};
 use crate::fields::{name_fault, number_fault, tell_fault};
@@ -21,7 +21,7 @@ const MOST: u64 = 281_474_976_710_655;
 
 const LONGEST: usize = 255;
 
-/// Says why the text of a layout is refused. The title goes on after the line's number and the file.
+/// Reports why a layout is refused. The title continues after the file and the line's number.
 pub fn tell_layout(
     alloc: Global,
     said: &mut Said,
@@ -39,7 +39,6 @@ pub fn tell_layout(
     Ok(())
 }
 
-// The line of that number.
 fn line_of(page: Page, number: u32) -> Line {
     Line {
         page,
@@ -50,7 +49,6 @@ fn line_of(page: Page, number: u32) -> Line {
     }
 }
 
-// Says why the line is not one of a layout.
 fn bad_line(alloc: Global, said: &mut Said, line: Line) -> Result<(), Refusal> {
     let is_told = line.number == 1 && tell_other_kind(line, said)
         || tell_end_of_text(line, said)
@@ -72,7 +70,6 @@ fn bad_line(alloc: Global, said: &mut Said, line: Line) -> Result<(), Refusal> {
     }
 }
 
-// Says that the file is no text, and whether that is so.
 fn tell_other_kind(line: Line, said: &mut Said) -> bool {
     if tell_coded(line.page, said, b"it") {
         return true;
@@ -84,7 +81,6 @@ fn tell_other_kind(line: Line, said: &mut Said) -> bool {
     !is_text
 }
 
-// Says that the text is over before the line, or in it, and whether that is so.
 fn tell_end_of_text(line: Line, said: &mut Said) -> bool {
     if line.page.line(line.number).is_some() {
         let is_unfinished = line.page.is_unfinished(line.number);
@@ -107,7 +103,6 @@ fn tell_end_of_text(line: Line, said: &mut Said) -> bool {
     true
 }
 
-// Says that the layout ends before the line, and whether it does.
 fn tell_more(line: Line, said: &mut Said) -> bool {
     if line.page.section(line.number).number == 0 {
         return false;
@@ -117,7 +112,6 @@ fn tell_more(line: Line, said: &mut Said) -> bool {
     true
 }
 
-// Says how a layout begins, and whether the first line is another.
 fn tell_head(line: Line, said: &mut Said) -> bool {
     said.title(b"a layout begins with `layout 1`");
     let word = line.word();
@@ -149,7 +143,7 @@ fn tell_head(line: Line, said: &mut Said) -> bool {
     true
 }
 
-// Whether another text of this program begins with the word.
+// Whether the word begins another text of this program.
 fn is_head(word: &[u8]) -> bool {
     matches!(
         word,
@@ -157,7 +151,6 @@ fn is_head(word: &[u8]) -> bool {
     )
 }
 
-// Says which field of the line departs from its form.
 fn tell_fields(alloc: Global, line: Line, said: &mut Said, form: &[u8]) {
     let (count, wanted) = (count_fields(line.text), count_fields(form));
     let mut is_told = false;
@@ -175,7 +168,6 @@ fn tell_fields(alloc: Global, line: Line, said: &mut Said, form: &[u8]) {
     said.note_with(b"It is written `@`.", &[form], &[]);
 }
 
-// Says that more stands in the line than its form has, from the field of that place on.
 fn tell_others(alloc: Global, line: Line, said: &mut Said, place: usize) {
     let last = count_fields(line.text).saturating_sub(1);
     let at = line.page.at(line.number, place, last);
@@ -196,7 +188,7 @@ fn tell_others(alloc: Global, line: Line, said: &mut Said, place: usize) {
     }
 }
 
-// Says what is wrong with a field by what the form has in its place, and whether something is.
+// Reports a fault in a field, by what the form wants there.
 fn tell_field(alloc: Global, line: Line, said: &mut Said, place: usize, wanted: &[u8]) -> bool {
     match wanted {
         b"<node>" | b"<name>" => tell_name(line, said, place),
@@ -210,7 +202,6 @@ fn tell_field(alloc: Global, line: Line, said: &mut Said, place: usize, wanted: 
     }
 }
 
-// Says what is wrong with a name, and whether something is.
 fn tell_name(line: Line, said: &mut Said, place: usize) -> bool {
     let word = field(line.text, place);
     let Some(fault) = name_fault(word) else {
@@ -232,7 +223,6 @@ fn tell_name(line: Line, said: &mut Said, place: usize) -> bool {
     true
 }
 
-// Says what is wrong with an alias, and whether something is.
 fn tell_alias(line: Line, said: &mut Said, place: usize) -> bool {
     let word = field(line.text, place);
     if word.len() > LONGEST {
@@ -258,18 +248,16 @@ fn tell_alias(line: Line, said: &mut Said, place: usize) -> bool {
     is_controlling
 }
 
-// Says that a weight is zero, and whether it is.
 fn tell_zero(line: Line, said: &mut Said, place: usize) -> bool {
     let is_zero = field(line.text, place) == b"0".as_slice();
     if is_zero {
         said.title(b"a weight is 1 to 1,000");
         line.part(said, place, b"too small");
-        said.note(b"A node without slots is one that is no member: let the change leave it out.");
+        said.note(b"A node without slots is not a member: let the change leave it out.");
     }
     is_zero
 }
 
-// Says what is wrong with a number, and whether something is.
 fn tell_number(alloc: Global, line: Line, said: &mut Said, place: usize, title: &[u8]) -> bool {
     let word = field(line.text, place);
     let Some(fault) = number_fault(word) else {
@@ -296,7 +284,7 @@ fn tell_number(alloc: Global, line: Line, said: &mut Said, place: usize, title: 
     true
 }
 
-// Says how many bytes a size is that has a unit.
+// Writes a size with a unit as bytes.
 fn tell_bytes(alloc: Global, said: &mut Said, bytes: u64) -> Option<Words> {
     if bytes > MOST {
         return None;
@@ -312,14 +300,13 @@ fn tell_bytes(alloc: Global, said: &mut Said, bytes: u64) -> Option<Words> {
     Some(words)
 }
 
-// Says which limit the line passes.
 fn too_large(said: &mut Said, line: Line) {
     let second = value_of(field(line.text, 2)).unwrap_or(u64::MAX);
     if line.word() == b"weight".as_slice() && second > 1000 {
         said.title(b"a weight is 1 to 1,000");
         line.part(said, 2, b"too large");
         said.note(
-            b"Weights are shares: a node of weight 2 has twice the slots of one of weight 1.",
+            b"A weight is a share: a node with weight 2 has twice the slots of a node with weight 1.",
         );
     } else if line.word() == b"size".as_slice() && is_above(field(line.text, 1), 4095) {
         said.title(b"partitions are 0 to 4,095");
@@ -334,7 +321,6 @@ fn too_large(said: &mut Said, line: Line) {
     }
 }
 
-// Says that an earlier line is about the same, and which.
 fn repeated(said: &mut Said, line: Line) {
     let (word, about) = (line.word(), field(line.text, 1));
     said.title_with(b"`@ @` stands a second time", &[word, about], &[]);

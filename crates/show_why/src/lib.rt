@@ -1,5 +1,6 @@
-//! Why a bundle's text is refused, in words: the lines concerned, what is at fault in them and what belongs to it, and
-//! lines that mend it, or a command. Nothing is promised of the words; whether a mend mends, the checker is asked.
+//! Explains why a bundle is refused: the faulty lines, what they conflict with, and lines or a command that mend them.
+//! Nothing is proved of the words; the checker says whether a mend works. A function `tell_..` that returns a `bool`
+//! reports a fault if there is one, and returns whether there was.
 #![tactic(auto)]
 
 mod amounts;

@@ -14,7 +14,7 @@ struct Excess {
     number: u32,
 }
 
-/// Says which limit the line passes.
+/// Reports which limit the line exceeds.
 pub fn too_large(said: &mut Said, page: Page, number: u32) {
     if number == 0 {
         return said.title(b"the bundle is larger than 67,108,864 bytes");
@@ -51,7 +51,6 @@ pub fn is_above(word: &[u8], limit: u32) -> bool {
     }
 }
 
-// The field of that place, if it is a number above the limit.
 fn above(line: Line, place: usize, limit: u32, words: &'static [u8]) -> Option<Excess> {
     if is_above(field(line.text, place), limit) {
         let number = limit;
@@ -64,7 +63,7 @@ fn above(line: Line, place: usize, limit: u32, words: &'static [u8]) -> Option<E
     None
 }
 
-// The first field from the place on that is above each limit of a number.
+// The first field from the place on that is too large for any number.
 fn large_number(line: Line, first: usize) -> Option<Excess> {
     for (place, word) in line.text.split(|byte| *byte == b' ').enumerate() {
         if place >= first && number(word).is_none() && is_above(word, 0) {
@@ -96,7 +95,7 @@ fn in_ring(line: Line) -> Option<Excess> {
     above(line, 2, 64, words).or(above(line, 3, 64, words))
 }
 
-// A field of a step: the partition, the slot, a listed slot, or a step behind `after`.
+// An excess in a step: its partition, slot, listed slots, or steps after `after`.
 fn in_plan(line: Line) -> Option<Excess> {
     let word = line.word();
     if word == b"join".as_slice() || word == b"retire".as_slice() {
@@ -117,7 +116,7 @@ fn in_plan(line: Line) -> Option<Excess> {
     .or(large_number(line, 3))
 }
 
-// A slot that a copy lists and the ring has not, or the eighth of them.
+// A listed slot that the ring does not have, or the eighth listed slot.
 fn listed(line: Line, last: u32, words: &'static [u8]) -> Option<Excess> {
     if field(line.text, 3) != b"slots".as_slice() {
         return None;
@@ -157,7 +156,7 @@ fn in_cert(line: Line) -> Option<Excess> {
     large_number(line, first)
 }
 
-// Which count passes its limit in a line whose numbers do not.
+// Which count is exceeded, if no number of the line is.
 fn crowd(line: Line) -> &'static [u8] {
     let before = line.number.saturating_sub(line.start).saturating_sub(1);
     match line.part {

@@ -1,10 +1,10 @@
-//! A line at fault, and where it stands in its part.
+//! A faulty line and its part.
 
 use crate::forms::{Part, part_of};
 use crate::page::{Page, field};
 use crate::said::Said;
 
-/// A line of a page, and the part that it stands in.
+/// A line of a page, and its part.
 #[derive(Clone, Copy)]
 pub struct Line<'a> {
     pub page: Page<'a>,
@@ -15,7 +15,7 @@ pub struct Line<'a> {
     pub start: u32,
 }
 
-/// The line of that number.
+/// Returns the line with the number.
 pub fn line_of(page: Page, number: u32) -> Line {
     let (part, start) = part_of(page, number);
     Line {
@@ -33,7 +33,7 @@ impl<'a> Line<'a> {
         field(self.text, 0)
     }
 
-    /// The first line of the part, from that number on, that begins with the word; its line `end` is the last.
+    /// Finds the part's first line that begins with the word, from a line on and up to `end`.
     pub fn find(&self, word: &[u8], from: u32) -> Option<u32> {
         let mut number = from;
         let rest = self.page.after(from.saturating_sub(1));
@@ -49,7 +49,7 @@ impl<'a> Line<'a> {
         None
     }
 
-    /// How many lines of the part begin with the word, among those from its first line up to the last that is asked for.
+    /// Counts the part's lines up to `last` that begin with the word.
     pub fn count(&self, word: &[u8], last: u32) -> u32 {
         let (mut number, mut count) = (self.start, 0u32);
         let rest = self.page.after(self.start.saturating_sub(1));
@@ -65,7 +65,7 @@ impl<'a> Line<'a> {
         count
     }
 
-    /// Whether a line of the part before this one begins with the word.
+    /// Whether an earlier line of the part begins with the word.
     pub fn is_after(&self, word: &[u8]) -> bool {
         match self.find(word, self.start) {
             Some(first) => first < self.number,
@@ -73,17 +73,17 @@ impl<'a> Line<'a> {
         }
     }
 
-    /// Says that the whole line is at fault.
+    /// Marks the whole line as faulty.
     pub fn whole(&self, said: &mut Said, words: &[u8]) {
         said.fault(self.number, words)
     }
 
-    /// Says that the field of that place is at fault.
+    /// Marks a field as faulty.
     pub fn part(&self, said: &mut Said, place: usize, words: &[u8]) {
         said.fault_at(self.page.at(self.number, place, place), words)
     }
 
-    /// Mends the line by another word in the place of a field.
+    /// Mends the line by another word for a field.
     pub fn replace(&self, said: &mut Said, place: usize, word: &[u8]) {
         let (front, rest) = self.page.around(self.number, place);
         said.put(self.number);
@@ -96,14 +96,14 @@ impl<'a> Line<'a> {
         said.add_with(b"@\n@\n", &[new, self.text], &[]);
     }
 
-    /// Mends the text by taking the line out.
+    /// Mends the text by removing the line.
     pub fn take_out(&self, said: &mut Said) {
         said.mend_with(b"line # goes", &[], &[self.number]);
         said.put(self.number);
     }
 }
 
-/// Mends the text by moving the one line to stand before the other, which is above it.
+/// Mends the text by moving the line up, before the other one.
 pub fn move_up(page: Page, said: &mut Said, line: u32, before: u32) {
     said.mend_with(
         b"move line # before line #; line # goes",

@@ -1,4 +1,4 @@
-//! Lines that are not in the grammar.
+//! Lines that do not fit the grammar.
 
 use crate::events::tell_event;
 use crate::fields::tell_fields;
@@ -13,7 +13,7 @@ use crate::spacing::tell_spacing;
 use ring_names::Refusal;
 use std::alloc::Global;
 
-/// Says why the line is no line of its part.
+/// Reports why the line does not belong to its part.
 pub fn bad_line(alloc: Global, said: &mut Said, page: Page, number: u32) -> Result<(), Refusal> {
     let line = line_of(page, number);
     if number == 1 && tell_foreign(page, said) {
@@ -22,7 +22,11 @@ pub fn bad_line(alloc: Global, said: &mut Said, page: Page, number: u32) -> Resu
     if tell_end_of_text(line, said) || tell_event(line, said) {
         return Ok(());
     }
-    said.title_with(b"line # is no line of a @", &[called(line.part)], &[number]);
+    said.title_with(
+        b"line # is not a line of a @",
+        &[called(line.part)],
+        &[number],
+    );
     if tell_spacing(line, said) {
         return Ok(());
     }
@@ -45,7 +49,6 @@ pub fn bad_line(alloc: Global, said: &mut Said, page: Page, number: u32) -> Resu
     }
 }
 
-// Says that the text is over before the line, or in it, and whether that is so.
 fn tell_end_of_text(line: Line, said: &mut Said) -> bool {
     if line.page.line(line.number).is_none() {
         tell_missing(line, said);
@@ -58,7 +61,6 @@ fn tell_end_of_text(line: Line, said: &mut Said) -> bool {
     false
 }
 
-// Says that the text is over before the line.
 fn tell_missing(line: Line, said: &mut Said) {
     if line.number <= 1 {
         said.title(b"the input is empty");
@@ -88,7 +90,6 @@ fn tell_missing(line: Line, said: &mut Said) {
     }
 }
 
-// Says that the text is over before the certificate.
 fn tell_no_cert(line: Line, said: &mut Said) {
     let first = first_line(line.page, line.part);
     said.title(b"the bundle has no certificate");
@@ -100,7 +101,6 @@ fn tell_no_cert(line: Line, said: &mut Said) {
     )
 }
 
-// Says that the text is over before the `end` of a part.
 fn tell_stop(line: Line, said: &mut Said) {
     said.title_with(
         b"the bundle stops before its @ does",
@@ -121,7 +121,7 @@ fn tell_stop(line: Line, said: &mut Said) {
     said.add_with(b"@\nend\n", &[line.page.text(last)], &[])
 }
 
-/// Says that the text is over in the middle of the line, or behind it without a newline.
+/// Reports a text that ends in the middle of the line, or without a newline after it.
 pub fn tell_unfinished(line: Line, said: &mut Said) {
     if line.text == b"end".as_slice() {
         said.title(b"the text ends without a newline after `end`");
@@ -139,19 +139,19 @@ pub fn tell_unfinished(line: Line, said: &mut Said) {
     said.add_with(b"@\n", &[line.text], &[])
 }
 
-// Says that a line after the certificate, or after a change, is none of a history.
+// Reports a line that does not belong to a history, after the certificate or a change.
 fn tell_more(line: Line, said: &mut Said) {
     line.whole(said, b"no line of a history");
     if line.number != line.start && line.page.text(line.start) == b"history 1".as_slice() {
-        return said.title_with(b"line # is no line of a history", &[], &[line.number]);
+        return said.title_with(b"line # is not a line of a history", &[], &[line.number]);
     }
-    said.title(b"there is more than a plan and its certificate, and it is no history");
+    said.title(b"there is more than a plan and its certificate, and it is not a history");
     said.note(
         b"After a certificate may stand a history: `history 1`, a line for each event with its reply, `end`.",
     )
 }
 
-// Says how the part begins.
+// Reports how the part must begin.
 fn tell_first(alloc: Global, line: Line, said: &mut Said) -> Result<(), Refusal> {
     if line.part == Part::Plan {
         said.title_with(b"line # begins no change and no plan", &[], &[line.number]);
@@ -179,7 +179,7 @@ fn tell_first(alloc: Global, line: Line, said: &mut Said) -> Result<(), Refusal>
     Ok(())
 }
 
-// Says that the ring begins below this line, and whether that is so.
+// Reports a ring that begins below this line.
 fn tell_late_ring(line: Line, said: &mut Said) -> bool {
     if line.part != Part::Ring {
         return false;
@@ -205,21 +205,21 @@ fn tell_late_ring(line: Line, said: &mut Said) -> bool {
     true
 }
 
-// Whether the first line of a part is rather one of its other lines.
+// Whether the part's first line looks like one of its other lines.
 fn is_headless(line: Line) -> bool {
     let word = line.word();
     let is_leave = line.part == Part::Plan && word == b"leave".as_slice();
     is_leave || form_of(line.part, word).is_some()
 }
 
-// Whether the word begins another part than the one that is called so.
+// Whether the word begins another part than this one.
 fn is_other_head(word: &[u8], part: &[u8]) -> bool {
     let is_cert = part == b"certificate".as_slice();
     word != part && [b"change".as_slice(), b"plan", b"history", b"script"].contains(&word)
         || word == b"cert".as_slice() && !is_cert
 }
 
-// Whether what stands where a plan should is meant as a change.
+// Whether a line in place of a plan is meant as a change.
 fn is_change(alloc: Global, line: Line) -> Result<bool, Refusal> {
     let word = line.word();
     let mut nearest = Nearest::new(word);
@@ -229,7 +229,7 @@ fn is_change(alloc: Global, line: Line) -> Result<bool, Refusal> {
     Ok(!nearest.word.is_empty() || is_one && !has_steps)
 }
 
-/// Says that no line of the part begins so, and which word was meant, where one is near.
+/// Reports an unknown first word, and the word that was meant, if one is near.
 pub fn tell_unknown(alloc: Global, line: Line, said: &mut Said) -> Result<(), Refusal> {
     let word = line.word();
     let at = line.page.at(line.number, 0, 0);

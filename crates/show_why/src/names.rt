@@ -9,7 +9,7 @@ use ring_names::Refusal;
 use std::alloc::Global;
 use texts::Lines;
 
-/// The line of the ring that declares the name, if one does.
+/// Returns the line of the ring that declares the name.
 pub fn declared(page: Page, name: &[u8]) -> Option<u32> {
     let mut lines = Lines::of(page.after(3));
     for line in 4..1029u32 {
@@ -26,7 +26,7 @@ pub fn declared(page: Page, name: &[u8]) -> Option<u32> {
     None
 }
 
-/// The place of the first node in a line.
+/// Returns the place of the first node in a line.
 pub fn first_node(text: &[u8]) -> usize {
     let word = field(text, 0);
     let is_slot = word == b"mirror".as_slice() || word == b"drop".as_slice();
@@ -39,7 +39,6 @@ pub fn first_node(text: &[u8]) -> usize {
     1
 }
 
-// The place of the first node in the line that is not declared.
 fn undeclared(page: Page, text: &[u8]) -> Option<usize> {
     let fields = text.split(|byte| *byte == b' ').enumerate();
     for (place, name) in fields.skip(first_node(text)) {
@@ -59,7 +58,6 @@ enum Wanted {
 }
 
 impl Wanted {
-    // The nodes that a line of that word may name.
     fn by(word: &[u8]) -> Wanted {
         if word == b"join".as_slice() {
             return Wanted::Out;
@@ -70,7 +68,7 @@ impl Wanted {
         Wanted::Any
     }
 
-    // Whether a node whose line ends in that field is one.
+    // Whether a node line with this last field declares such a node.
     fn is_met(self, last: &[u8]) -> bool {
         match self {
             Wanted::In => last == b"in".as_slice(),
@@ -80,7 +78,7 @@ impl Wanted {
     }
 }
 
-// The line of a node: its name, and its last field.
+// The name and the last field of a node line.
 fn node_line(text: &[u8]) -> Option<(&[u8], &[u8])> {
     if field(text, 0) != b"node".as_slice() {
         return None;
@@ -92,7 +90,6 @@ fn node_line(text: &[u8]) -> Option<(&[u8], &[u8])> {
     Some((field(text, 1), last))
 }
 
-// The name of such a node that is nearest to another, or nothing.
 fn nearest_name<'a>(
     alloc: Global,
     page: Page<'a>,
@@ -111,7 +108,7 @@ fn nearest_name<'a>(
     Ok(nearest.word)
 }
 
-/// Says that a name is not declared, and which name was meant, where one is near.
+/// Reports an undeclared name, and the name that was meant, if one is near.
 pub fn unknown_node(
     alloc: Global,
     said: &mut Said,
@@ -139,7 +136,7 @@ pub fn unknown_node(
     Ok(())
 }
 
-// The line of a ring after this one that declares the name, where this one is of the ring too.
+// The later line of the ring that declares the name, if this line is in the ring too.
 fn declared_late(page: Page, number: u32, name: &[u8]) -> Option<u32> {
     if part_of(page, number).0 != Part::Ring {
         return None;
@@ -161,12 +158,11 @@ fn declared_late(page: Page, number: u32, name: &[u8]) -> Option<u32> {
     None
 }
 
-// The first line `slots` of the ring, of which the line is one.
 fn first_row(page: Page, number: u32) -> u32 {
     line_of(page, number).find(b"slots", 1).unwrap_or(number)
 }
 
-// Says which nodes may stand in the place of one that none is near to. Where one alone may join, it was meant.
+// Notes which nodes can be named, if none is near. If only one can join, it was meant.
 fn tell_choice(line: Line, said: &mut Said, place: usize, wanted: Wanted) {
     let (count, name) = push_choice(line.page, said, wanted);
     if count == 0 {
@@ -181,7 +177,7 @@ fn tell_choice(line: Line, said: &mut Said, place: usize, wanted: Wanted) {
     }
 }
 
-// Adds a note of the nodes that are wanted, as far as a line can have them; how many these are, and the last.
+// Notes the wanted nodes, as many as fit a line. Returns how many there are, and the last.
 fn push_choice<'a>(page: Page<'a>, said: &mut Said, wanted: Wanted) -> (u32, &'a [u8]) {
     let mut words: &[u8] = match wanted {
         Wanted::In => b"  Members are `@`",

@@ -1,4 +1,4 @@
-//! Words that are near to one another.
+//! Finds similar words.
 
 use ring_names::Refusal;
 use std::alloc::Global;
@@ -8,7 +8,7 @@ use strsim::osa_distance;
 // The longest word that is compared.
 const LONGEST: usize = 32;
 
-// How many letters must be changed, left out, put in or exchanged with their neighbours; None of words that are too long, or no text.
+// How many letters must be changed, removed, added or swapped. None if a word is too long or not UTF-8.
 fn distance(alloc: Global, one: &[u8], other: &[u8]) -> Result<Option<usize>, Refusal> {
     if one.len() > LONGEST || other.len() > LONGEST {
         return Ok(None);
@@ -22,7 +22,7 @@ fn distance(alloc: Global, one: &[u8], other: &[u8]) -> Result<Option<usize>, Re
     }
 }
 
-/// The nearest word that was seen, and how far it is.
+/// The nearest word so far, and its distance.
 #[derive(Clone, Copy)]
 pub struct Nearest<'a> {
     pub word: &'a [u8],
@@ -30,7 +30,7 @@ pub struct Nearest<'a> {
 }
 
 impl<'a> Nearest<'a> {
-    /// None is near enough to that word yet: at most two letters, and fewer than half of the word's, may differ.
+    /// Starts without a word. A near one differs in at most two letters, and in fewer than half.
     pub fn new(word: &[u8]) -> Nearest<'a> {
         Nearest {
             word: b"",

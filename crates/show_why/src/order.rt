@@ -1,21 +1,20 @@
-//! Lines that stand where another must: too early, too late, or twice.
+//! Lines in the wrong place: too early, too late, or repeated.
 
 use crate::forms::{Part, called, form_of, forms};
 use crate::line::{Line, move_up};
 use crate::page::{field, number};
 use crate::said::Said;
 
-// How many partitions the ring has.
 fn partitions(line: Line) -> u32 {
     number(field(line.page.text(2), 1)).unwrap_or(0)
 }
 
-/// How many partitions have their owners before the line of a ring.
+/// Counts the lines `slots` before this line of a ring.
 pub fn rows_before(line: Line) -> u32 {
     line.count(b"slots", line.number.saturating_sub(1))
 }
 
-// The first words of which a ring wants one at the line, by the lines before it: mostly one alone.
+// The first words that the ring allows at this line, given those before: mostly only one.
 fn due_in_ring(line: Line) -> [&'static [u8]; 2] {
     match line.number {
         0 | 1 => [b"ring", b"ring"],
@@ -35,7 +34,7 @@ fn due_in_ring(line: Line) -> [&'static [u8]; 2] {
     }
 }
 
-// Whether a line of a certificate that begins so may stand there.
+// Whether a certificate allows a line with this word here.
 fn is_due_in_cert(line: Line, word: &[u8]) -> bool {
     if word == b"fact".as_slice() {
         return !is_after_chains(line);
@@ -44,7 +43,6 @@ fn is_due_in_cert(line: Line, word: &[u8]) -> bool {
     !is_split || line.page.line(1) != Some(b"ring 1".as_slice())
 }
 
-// Whether a chain of some kind stands before the line.
 fn is_after_chains(line: Line) -> bool {
     first_chain(line) < line.number
 }
@@ -58,7 +56,7 @@ fn first_chain(line: Line) -> u32 {
     first
 }
 
-/// Whether a line that begins with the word may stand in the place of this one, by the lines before it.
+/// Whether a line with this word may be in the place of this one.
 pub fn is_due(line: Line, word: &[u8]) -> bool {
     match line.part {
         Part::Ring => due_in_ring(line).contains(&word),
@@ -68,7 +66,7 @@ pub fn is_due(line: Line, word: &[u8]) -> bool {
     }
 }
 
-/// Says that a line of a known word stands where it may not, and whether that is so.
+/// Reports a known line in the wrong place. Returns whether it is one.
 pub fn tell_order(line: Line, said: &mut Said) -> bool {
     if is_due(line, line.word()) {
         return false;
@@ -86,7 +84,7 @@ pub fn tell_order(line: Line, said: &mut Said) -> bool {
             move_up(line.page, said, line.number, first_chain(line));
         }
         _ => {
-            line.part(said, 0, b"a ring of format 1 has chains alone");
+            line.part(said, 0, b"a ring of format 1 has only chains");
             said.mend(b"`chain` here");
             line.replace(said, 0, b"chain");
         }
@@ -94,7 +92,6 @@ pub fn tell_order(line: Line, said: &mut Said) -> bool {
     true
 }
 
-// Says where a line of a ring should stand.
 fn tell_in_ring(line: Line, said: &mut Said) {
     let (word, due) = (line.word(), due_in_ring(line)[0]);
     if word == b"node".as_slice() && line.number > 4 {
@@ -116,14 +113,14 @@ fn tell_in_ring(line: Line, said: &mut Said) {
     tell_early(line, said, due)
 }
 
-// Says that the ring has such a line already.
+// Reports a second line of its kind in the ring.
 fn tell_second(line: Line, said: &mut Said, first: u32) {
     said.beside(first, b"the first");
     line.whole(said, b"a second one");
     line.take_out(said)
 }
 
-// Says that a line of another word comes before this one, and moves it there, if there is one.
+// Reports a line that must come after another. Moves that one up, if there is one.
 fn tell_early(line: Line, said: &mut Said, due: &[u8]) {
     said.fault_with(
         line.number,
@@ -151,7 +148,6 @@ fn tell_early(line: Line, said: &mut Said, due: &[u8]) {
     }
 }
 
-// Says that the ring has more or fewer lines `slots` than partitions.
 fn tell_count(line: Line, said: &mut Said) {
     let (seen, wanted) = (rows_before(line), partitions(line));
     said.beside_with(2, b"# partitions", &[], &[wanted]);
@@ -163,7 +159,7 @@ fn tell_count(line: Line, said: &mut Said) {
     mend_space(line, said)
 }
 
-/// Mends the number of partitions of a ring by that of its lines `slots`, where a ring may have so many.
+/// Mends the ring's number of partitions to the number of its lines `slots`, if a ring can have so many.
 pub fn mend_space(line: Line, said: &mut Said) {
     if let Some(rows) = count_rows(line) {
         said.mend_with(b"# partitions, as there are lines `slots`", &[], &[rows]);
@@ -172,7 +168,7 @@ pub fn mend_space(line: Line, said: &mut Said) {
     }
 }
 
-// How many lines `slots` the ring has, where that is a number of partitions.
+// How many lines `slots` the ring has, if that can be a number of partitions.
 fn count_rows(line: Line) -> Option<u32> {
     let rows = line.count(b"slots", u32::MAX);
     match rows {
@@ -181,7 +177,7 @@ fn count_rows(line: Line) -> Option<u32> {
     }
 }
 
-/// Says what may stand in the place of the line, and mends it where that is `end` alone.
+/// Reports what may be in the line's place. Mends it if only `end` may.
 pub fn tell_due(line: Line, said: &mut Said) {
     if line.part == Part::Ring && due_in_ring(line)[0] == b"end".as_slice() {
         return tell_end(line, said);
@@ -196,7 +192,7 @@ pub fn tell_due(line: Line, said: &mut Said) {
     said.add_note(b"\n")
 }
 
-/// Says that the part's line `end` is missing before the line.
+/// Reports that the part's `end` is missing before the line.
 pub fn tell_end(line: Line, said: &mut Said) {
     said.note_with(
         b"The @ has no line `end` before it.",
@@ -207,7 +203,7 @@ pub fn tell_end(line: Line, said: &mut Said) {
     line.insert(said, b"end")
 }
 
-/// Whether the line begins the next part, in the middle of its own, so that the line `end` between them is missing.
+/// Whether the line begins the next part, so that the `end` between them is missing.
 pub fn begins_next(line: Line) -> bool {
     match line.part {
         Part::Ring => is_due(line, b"end") && is_head(line.text, b"change 1", b"plan 1"),
@@ -217,7 +213,6 @@ pub fn begins_next(line: Line) -> bool {
     }
 }
 
-// Whether the text is one of the two.
 fn is_head(text: &[u8], one: &[u8], other: &[u8]) -> bool {
     text == one || text == other
 }

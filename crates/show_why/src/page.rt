@@ -1,22 +1,22 @@
-//! The lines of a bundle, by their numbers.
+//! The lines of a bundle, by number.
 
 use memchr::memchr;
 use texts::Fields;
 
-/// The text of a bundle. Its lines count from 1.
+/// The text of a bundle. Lines count from 1.
 #[derive(Clone, Copy)]
 pub struct Page<'a> {
     pub bytes: &'a [u8],
 }
 
-/// Which part of a bundle a line stands in: how many lines `end` are in front of it, and the part's first line.
+/// A part of a bundle: how many lines `end` come before it, and its first line.
 #[derive(Clone, Copy, Debug)]
 pub struct Section {
     pub number: u32,
     pub start: u32,
 }
 
-// The first line of a text, without its line feed, and what follows it, if it is ended.
+// Splits off the first line, without its newline. None if it has no newline.
 fn cut(text: &[u8]) -> (&[u8], Option<&[u8]>) {
     match memchr(b'\n', text) {
         Some(at) if at < text.len() => (&text[..at], Some(&text[at + 1..])),
@@ -24,7 +24,7 @@ fn cut(text: &[u8]) -> (&[u8], Option<&[u8]>) {
     }
 }
 
-/// The first line of a text with its line feed, and what follows it.
+/// Splits off the first line, with its newline.
 pub fn cut_line(text: &[u8]) -> (&[u8], &[u8]) {
     match memchr(b'\n', text) {
         Some(at) if at < text.len() => (&text[..at + 1], &text[at + 1..]),
@@ -33,7 +33,7 @@ pub fn cut_line(text: &[u8]) -> (&[u8], &[u8]) {
 }
 
 impl<'a> Page<'a> {
-    /// What follows the first so many lines; nothing where the text is over before.
+    /// Returns what follows the first lines.
     pub fn after(&self, lines: u32) -> &'a [u8] {
         let mut rest = self.bytes;
         for turn in 0..lines {
@@ -45,7 +45,7 @@ impl<'a> Page<'a> {
         rest
     }
 
-    /// The line of that number, without its line feed. None where the text is over before it.
+    /// Returns the line, without its newline. None if the text ends before it.
     pub fn line(&self, number: u32) -> Option<&'a [u8]> {
         let rest = self.after(number.checked_sub(1)?);
         if rest.is_empty() {
@@ -54,18 +54,18 @@ impl<'a> Page<'a> {
         Some(cut(rest).0)
     }
 
-    /// The line of that number, or nothing.
+    /// Returns the line, or nothing.
     pub fn text(&self, number: u32) -> &'a [u8] {
         self.line(number).unwrap_or(b"".as_slice())
     }
 
-    /// Whether the text is over at the end of the line of that number, and there is no newline behind it.
+    /// Whether the line is the last and has no newline.
     pub fn is_unfinished(&self, number: u32) -> bool {
         let rest = self.after(number.saturating_sub(1));
         !rest.is_empty() && memchr(b'\n', rest).is_none()
     }
 
-    /// Where the fields from one place up to another stand in the line; all of it where it has no such.
+    /// Returns the place of the fields from `first` to `last`, or the whole line if it lacks them.
     pub fn at(&self, line: u32, first: usize, last: usize) -> Place {
         let text = self.text(line);
         match (span_of(text, first), span_of(text, last)) {
@@ -78,7 +78,7 @@ impl<'a> Page<'a> {
         }
     }
 
-    /// What stands in the line in front of the field of that place, and what stands behind it; all in front where it has no such field.
+    /// Returns the line before and after a field. Without such a field, all is before.
     pub fn around(&self, line: u32, place: usize) -> (&'a [u8], &'a [u8]) {
         let text = self.text(line);
         match span_of(text, place) {
@@ -89,7 +89,7 @@ impl<'a> Page<'a> {
         }
     }
 
-    /// The part in which the line stands.
+    /// Returns the part of the line.
     pub fn section(&self, number: u32) -> Section {
         let mut found = Section {
             number: 0,
@@ -110,7 +110,7 @@ impl<'a> Page<'a> {
         found
     }
 
-    /// The first line behind the ring, if there is one.
+    /// Returns the first line after the ring.
     pub fn behind_ring(&self) -> Option<&'a [u8]> {
         let mut rest = self.bytes;
         for turn in 0..self.bytes.len() {
@@ -124,7 +124,7 @@ impl<'a> Page<'a> {
         None
     }
 
-    /// How many lines the text has; an unfinished last one counts.
+    /// Counts the lines, with an unfinished last one.
     pub fn count(&self) -> u32 {
         let mut rest = self.bytes;
         let mut count = 0u32;
@@ -142,14 +142,14 @@ impl<'a> Page<'a> {
     }
 }
 
-/// Where a field stands in its line.
+/// The bytes of a field in its line.
 #[derive(Clone, Copy, Debug)]
 pub struct Span {
     pub from: usize,
     pub to: usize,
 }
 
-/// Where the field of that place stands, if the line has it. Fields are parted by single spaces.
+/// Returns the bytes of a field. Fields are separated by single spaces.
 pub fn span_of(line: &[u8], place: usize) -> Option<Span> {
     let mut from = 0usize;
     let mut left = place;
@@ -171,7 +171,7 @@ pub fn span_of(line: &[u8], place: usize) -> Option<Span> {
     None
 }
 
-/// A part of a line of a page: all of it where the first byte is not in front of the last.
+/// Some bytes of a line. The whole line if `from` is not below `to`.
 #[derive(Clone, Copy, Debug)]
 pub struct Place {
     pub line: u32,
@@ -180,7 +180,7 @@ pub struct Place {
 }
 
 impl Place {
-    /// The whole line.
+    /// Returns the place of a whole line.
     pub fn whole(line: u32) -> Place {
         Place {
             line,
@@ -190,7 +190,7 @@ impl Place {
     }
 }
 
-/// The field of that place, or nothing.
+/// Returns a field, or nothing.
 pub fn field(line: &[u8], place: usize) -> &[u8] {
     match span_of(line, place) {
         Some(Span { from, to }) if from <= to && to <= line.len() => &line[from..to],
@@ -198,7 +198,7 @@ pub fn field(line: &[u8], place: usize) -> &[u8] {
     }
 }
 
-/// How many fields the line has.
+/// Counts the fields of the line.
 pub fn count_fields(line: &[u8]) -> usize {
     let mut count = 1usize;
     for byte in line {
@@ -209,13 +209,13 @@ pub fn count_fields(line: &[u8]) -> usize {
     count
 }
 
-/// The place of the first field that is this word.
+/// Returns the place of the first field that equals the word.
 pub fn place_of(line: &[u8], word: &[u8]) -> Option<usize> {
     line.split(|byte| *byte == b' ')
         .position(|field| field == word)
 }
 
-/// The number that a field spells, if it is one.
+/// Returns the number that a field spells.
 pub fn number(word: &[u8]) -> Option<u32> {
     let mut fields = Fields::of(0, word);
     let value = fields.value()?;

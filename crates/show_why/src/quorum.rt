@@ -3,7 +3,7 @@
 use crate::page::{Page, count_fields, field, number};
 use crate::said::Said;
 
-// What a line `quorum` asks for.
+// The numbers of a line `quorum`.
 #[derive(Clone, Copy)]
 struct Asked {
     slots: u32,
@@ -23,7 +23,6 @@ impl Asked {
         }
     }
 
-    // Whether a read or a write asks for no slot, or for more than there are.
     fn is_out(&self) -> bool {
         let Asked {
             slots,
@@ -55,12 +54,11 @@ impl Asked {
         said.fault_with(line, b"# + # is not above #", &[], &[read, write, slots])
     }
 
-    // The fewest slots that both may ask for, so that a read and a write meet: a majority, where no store may be lost.
+    // The fewest slots for both reads and writes that make them meet: a majority, if no node may lose its data.
     fn majority(&self) -> u32 {
         (self.slots.saturating_add(self.loss) / 2).saturating_add(1)
     }
 
-    // Mends the line by that many slots for both.
     fn mend(&self, said: &mut Said, page: Page, line: u32) {
         let count = self.majority();
         said.mend_with(
@@ -77,7 +75,6 @@ impl Asked {
         wanted.push_line(said, page, line)
     }
 
-    // Puts it in the place of the line.
     fn push_line(&self, said: &mut Said, page: Page, line: u32) {
         said.put(line);
         said.add_with(b"quorum # # #", &[], &[self.slots, self.read, self.write]);
@@ -88,8 +85,8 @@ impl Asked {
     }
 }
 
-/// Mends the line `quorum` of a ring for partitions of so many slots: reads and writes ask for as many as before if they may, and otherwise for a majority. A majority
-/// stays one.
+/// Mends the line `quorum` for another number of slots. Reads and writes keep their numbers if they may; otherwise, or
+/// if both were majorities, they become majorities.
 pub fn mend_slots(page: Page, said: &mut Said, slots: u32) {
     let mut asked = Asked::of(page.text(3));
     let half = asked.majority();
@@ -105,7 +102,7 @@ pub fn mend_slots(page: Page, said: &mut Said, slots: u32) {
     }
 }
 
-/// Says why reads and writes need not meet.
+/// Reports why reads and writes need not meet.
 pub fn quorum(said: &mut Said, page: Page, line: u32) {
     let asked = Asked::of(page.text(line));
     let slots = asked.slots;

@@ -1,4 +1,4 @@
-//! Lines at fault for how they are written, whatever they say.
+//! Lines with faulty spacing or letters, whatever they say.
 
 use crate::fields::tell_alias;
 use crate::forms::Part;
@@ -7,10 +7,10 @@ use crate::line::Line;
 use crate::page::{Place, field};
 use crate::said::Said;
 
-// The byte order mark of a text in UTF-8.
+// The byte order mark of UTF-8.
 const MARK: &[u8; 3] = b"\xEF\xBB\xBF";
 
-/// Says what is wrong with how the line is written, if something is, and whether that is so.
+/// Reports how the line is wrongly written. Returns whether it is.
 pub fn tell_spacing(line: Line, said: &mut Said) -> bool {
     if line.number == 1 && line.text.starts_with(MARK) {
         tell_mark(line, said);
@@ -32,7 +32,7 @@ pub fn tell_spacing(line: Line, said: &mut Said) -> bool {
     false
 }
 
-/// Says what is wrong with the blanks or the end of a layout's line, if something is, and whether that is so.
+/// Reports wrong blanks or ends in a line of a layout. Returns whether there are any.
 pub fn tell_blanks(line: Line, said: &mut Said) -> bool {
     if line.number == 1 && line.text.starts_with(MARK) {
         tell_mark(line, said);
@@ -62,12 +62,10 @@ pub fn tell_blanks(line: Line, said: &mut Said) -> bool {
     true
 }
 
-// Whether no space parts the line.
 fn is_unparted(text: &[u8]) -> bool {
     !text.contains(&b' ')
 }
 
-// What is wrong with what stands between the fields of a line, if something is.
 fn parting_fault(text: &[u8]) -> Option<&'static [u8]> {
     if text.contains(&b',') && !text.contains(&b'\t') {
         return Some(b"it has a comma");
@@ -75,7 +73,6 @@ fn parting_fault(text: &[u8]) -> Option<&'static [u8]> {
     blank_fault(text)
 }
 
-// What is wrong with the blanks between the fields of a line, if something is.
 fn blank_fault(text: &[u8]) -> Option<&'static [u8]> {
     if text.contains(&b'\t') {
         return Some(b"it has a tab");
@@ -89,7 +86,7 @@ fn blank_fault(text: &[u8]) -> Option<&'static [u8]> {
     None
 }
 
-// The first habit of the line that concerns its blanks, if it has one.
+// The first habit of the line's blanks.
 fn habit_of(text: &[u8]) -> Option<Habit> {
     let habits = [
         Habit::CarriageReturn,
@@ -106,7 +103,6 @@ fn habit_of(text: &[u8]) -> Option<Habit> {
     None
 }
 
-// Says that the text begins with a byte order mark.
 fn tell_mark(line: Line, said: &mut Said) {
     let place = Place {
         line: 1,
@@ -120,7 +116,7 @@ fn tell_mark(line: Line, said: &mut Said) {
     respace(line, said, rest, b"without the mark");
 }
 
-// Says that the line has the habit, and how many others have it; mends the line, or where there are others all of them.
+// Reports the line's habit, and how many others share it. Mends the line, or all such lines.
 fn tell_habit(line: Line, said: &mut Said, habit: Habit) {
     if habit == Habit::Capitals {
         let place = first_capital(line.text);
@@ -148,7 +144,6 @@ fn tell_habit(line: Line, said: &mut Said, habit: Habit) {
     said.rewrite(habit, b"all of them, by that command")
 }
 
-// The place of the first field with a letter of upper case.
 fn first_capital(text: &[u8]) -> usize {
     for (place, word) in text.split(|byte| *byte == b' ').enumerate() {
         if Habit::Capitals.is_in(word) {
@@ -158,7 +153,6 @@ fn first_capital(text: &[u8]) -> usize {
     0
 }
 
-// Mends a line, the only one that has the habit.
 fn mend_one(line: Line, said: &mut Said, habit: Habit) {
     match habit {
         Habit::Empty | Habit::Comment => line.take_out(said),
@@ -173,7 +167,7 @@ fn mend_one(line: Line, said: &mut Said, habit: Habit) {
     }
 }
 
-// Mends the line by the text with its fields between single spaces.
+// Mends the line by the text, with single spaces between its fields.
 fn respace(line: Line, said: &mut Said, text: &[u8], words: &[u8]) {
     said.mend(words);
     said.put(line.number);
@@ -191,7 +185,6 @@ fn respace(line: Line, said: &mut Said, text: &[u8], words: &[u8]) {
     said.add(b"\n")
 }
 
-// Mends the line by letters of lower case.
 fn lower(line: Line, said: &mut Said) {
     said.mend(b"in lower case");
     said.put(line.number);

@@ -10,7 +10,7 @@ use crate::said::Said;
 use ring_names::Refusal;
 use std::alloc::Global;
 
-/// Says why the texts of a bundle are refused, where it is a fault of theirs, and whether it is.
+/// Reports why the texts of a bundle are refused, if they are at fault. Returns whether they are.
 pub fn tell_text(
     alloc: Global,
     said: &mut Said,

@@ -1,5 +1,5 @@
-//! What a replay says of the history of a play, and of that history with a fault. What it should say is read off a play of the same events. And
-//! whether it says yes to what a drive printed.
+//! What a replay says of a play's history, and of that history with a fault. What it should say is read off a
+//! play of the same events. Also whether a replay says yes to what a drive printed.
 
 use ringplan_jobs::{play_bundle, replay_bundle};
 use std::alloc::{AllocError, Global};
@@ -134,7 +134,8 @@ fn other(reply: &str) -> &'static str {
     if reply == "ok" { "put 0" } else { "ok" }
 }
 
-// The history with the entry at the place changed: with another reply, left out, after the next one, or once more at the end.
+// The history with a change at the place. The entry has another reply, is left out, comes after the next, or
+// again at the end.
 fn changed<'t>(
     alloc: Global,
     told: &[Told<'t>],
@@ -166,8 +167,10 @@ fn changed<'t>(
     Ok(changed)
 }
 
-/// Of how many histories a replay says otherwise than it should: that of the play, whose bundle and output these are, and that with one fault: another reply, an
-/// entry left out, two exchanged, or one once more behind the last.
+/// Counts the histories of which a replay does not say what it should. They are the play's, by this bundle and
+/// output, and that with one fault.
+///
+/// A fault is another reply, an entry left out, two exchanged, or an entry a second time at the end.
 pub fn others(alloc: Global, bundle: &str, output: &str) -> Result<u32, AllocError> {
     let Some((front, events)) = bundle.split_once("script 1\n") else {
         return Ok(1);

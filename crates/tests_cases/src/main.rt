@@ -1,10 +1,13 @@
-//! Runs the program on the bundles that its arguments name, and prints the name, the answer and the exit status of each. The words
-//! `check`, `migrate`, `play`, `plan`, `drive` and `replay` among them say which subcommand is meant from there on, at first `check`; `report` means a drive
-//! whose report is printed, and `race` one by three workers, of which the first line is printed, since the others are left to chance. Of a bundle that is
-//! accepted, no first part may be: how many are is printed if it is not none. A check is also made by 1, 3 and 64 workers: how many of them
-//! say otherwise is printed if it is not none. Of each play the history of its answered events is replayed, and that history with a fault at
-//! each place: of how many a replay says otherwise than the play does is printed if it is not none. Of each drive the history that it prints is
-//! replayed, and it is said where a replay does not say yes to it. The words of `people.rt` ask for what is printed for people.
+//! Runs the program on the bundles that its arguments name, and prints the name, the answer and the exit status
+//! of each. The words `check`, `migrate`, `play`, `plan`, `drive` and `replay` among them say which subcommand
+//! is meant from there on. At first it is `check`. `report` means a drive whose report is printed. `race` means
+//! a drive by three workers: its first line is printed, since the others are left to chance.
+//!
+//! No first part of an accepted bundle may be accepted: how many are is printed if it is not 0. A check is also
+//! made by 1, 3 and 64 workers: how many of them say otherwise is printed if it is not 0. Each play's history
+//! of answered events is replayed, and that history with a fault at each place. It is printed how many replays
+//! do not say what the play does, if it is not 0. Each drive's printed history is replayed, and a line says so
+//! if a replay does not say yes. The words of `people.rt` ask for what is printed for people.
 #![tactic(auto)]
 
 mod histories;
@@ -52,7 +55,7 @@ fn main(rt: HostRuntime) -> io::Result<()> {
     Ok(())
 }
 
-// What the word asks for, if it is no bundle's name.
+// What the word asks for, if it is not a bundle's name.
 fn wanted_of(word: &str) -> Option<Wanted> {
     let asked = match word {
         "check" => Asked::Check,
@@ -150,8 +153,8 @@ fn subcommand(asked: Asked) -> &'static str {
     }
 }
 
-// Whether a first part of a bundle is accepted. A migration accepts none, since it asks for no plan that is; of a drive's bundle a first part with
-// fewer scripts may be, so it is not asked.
+// Whether a first part of a bundle is accepted. A migration accepts none, since it asks for no accepted plan. A
+// drive's bundle is not asked: its first part with fewer scripts may be accepted.
 fn accepts(alloc: Global, asked: Asked, front: &[u8]) -> bool {
     match asked {
         Asked::Check => check_bundle(alloc, front).is_ok(),

@@ -6,7 +6,7 @@ use std::alloc::Global;
 use std::rt::Runtime;
 use std::{fs, io, str};
 
-/// The words of the command line that the word stands for, if it is no bundle's name.
+/// The words of the command line that the word stands for, if it is not a bundle's name.
 pub fn words_of(word: &str) -> Option<&'static [&'static str]> {
     let words: &'static [&'static str] = match word {
         "why" => &["ringplan", "why"],
@@ -28,7 +28,7 @@ pub fn words_of(word: &str) -> Option<&'static [&'static str]> {
     Some(words)
 }
 
-// What is printed of the bundle, where memory is there and the words ask for a command for people.
+// What is printed of the bundle, if memory is there and the words ask for a command for people.
 fn report_of(alloc: Global, words: &[&str], bundle: &[u8]) -> Option<Report> {
     let CommandLine { request, .. } = parse(alloc, words);
     match request {
