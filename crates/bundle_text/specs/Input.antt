@@ -1,7 +1,7 @@
 -- What is known of an input.
 use Rattle.std.specs.Prelude.{◌≡◌, ℕ, List, Option, IfSome}
 
--- the most bytes of a bundle, and of a line of a history of any length
+-- the most bytes that a bundle may have, and a line of a history of any length
 abbrev pub max_input : ℕ
 max_input = 67108864
 

@@ -39,7 +39,8 @@ fn read_claims(alloc: Global, ring: &Ring, lines: &mut Lines) -> Result<Claims, 
     Ok(Claims { plan, cert })
 }
 
-/// Reads the lines of a ring, of a plan of it and of the plan's certificate, and leaves what follows them. The first line at fault decides.
+/// Reads the lines of a ring, a plan and the plan's certificate, and leaves what follows them. The first line
+/// at fault decides.
 #[tactic(auto, unfolding(crate::specs::Front::front_at))]
 pub fn read_front_section(alloc: Global, lines: &mut Lines) -> Result<Front, Refusal>
     ensures read { Reads result lines.new (front_at lines.old) }

@@ -1,4 +1,4 @@
-//! The front of a bundle: the texts of a ring, of a plan of it, and of the plan's certificate.
+//! The front of a bundle: the texts of a ring, a plan and the plan's certificate.
 #![tactic(auto)]
 
 mod front;

@@ -17,6 +17,6 @@ different-next P new seen (x ∷ xs) e next =
     let more : all_different (numbers (seen ++ x ∷ [])) ≡ true = ap all_different (map_push (λ (y : NodeId). y.0) seen x) ∙ different_more (numbers seen) x.0 e (new seen x next.0) in
     ap (λ (l : List NodeId). all_different (numbers l)) (sym (append_assoc seen (x ∷ []) xs)) ∙ different-next P new (seen ++ x ∷ []) xs more next.1
 
--- one of different nodes is new after those before it
+-- a node in a list of different nodes is new after the nodes before it
 pub new-there : (seen : List NodeId) (x : NodeId) (xs : List NodeId) → all_different (numbers (seen ++ x ∷ xs)) ≡ true → has x.0 (numbers seen) ≡ false
 new-there seen x xs e = different_apart (numbers seen) x.0 (numbers xs) (ap all_different (sym (map-append (λ (y : NodeId). y.0) seen (x ∷ xs))) ∙ e)

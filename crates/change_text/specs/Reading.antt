@@ -11,7 +11,7 @@ use Rattle.ring_table.specs.Value.{RingValue, is_member}
 use Rattle.ring_table.specs.Reading.{declared_at}
 use Rattle.change_text.specs.declared.change.Change.{Change}
 
--- a node that is no member, and is not named yet
+-- a node that is not a member, and is not named yet
 unfoldable pub joining_at : RingValue → List NodeId → ℕ → Item NodeId
 joining_at ring seen k fields = (
   ((declared_at ring k fields).0 >>= λ x. unless ((is_member ring.nodes x || has x.0 (map (λ y. y.0) seen), Repeated k) ∷ []) x),

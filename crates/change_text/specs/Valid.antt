@@ -10,7 +10,7 @@ use Rattle.change_text.specs.declared.change.Change.{Change}
 abbrev pub is_declared : RingValue → NodeId → Bool
 is_declared ring x = nat_lt x.0 (length ring.nodes)
 
--- a declared node that is no member
+-- a declared node that is not a member
 abbrev pub may_join : RingValue → NodeId → Bool
 may_join ring x = is_declared ring x && not (is_member ring.nodes x)
 
@@ -18,7 +18,7 @@ may_join ring x = is_declared ring x && not (is_member ring.nodes x)
 abbrev pub may_leave : RingValue → NodeId → Bool
 may_leave ring x = is_declared ring x && is_member ring.nodes x
 
--- nodes that are no members join, members leave, and none is named twice
+-- nodes that are not members join, members leave, and none is named twice
 pub record IsChange (ring : RingValue) (v : Change) : Type 0 where
   pub joins : list_all (may_join ring) v.joins ≡ true
   pub leaves : list_all (may_leave ring) v.leaves ≡ true

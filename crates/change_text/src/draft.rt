@@ -1,4 +1,4 @@
-//! The change that was read so far.
+//! A change being read.
 
 ghost use Rattle.std.specs.Prelude.{◌≡◌, ◌<◌, ◌++◌, ◌∷◌, [], OnOk, IfErr};
 ghost use Rattle.ring_names.specs.declared.refusal.Refusal.TheVariants.{OutOfMemory};
@@ -10,7 +10,7 @@ use ring_names::{Listed, NodeId, Refusal};
 use std::alloc::Global;
 use std::marker::Model;
 
-/// The joins and the leaves that were read, and marks of the nodes that they name.
+/// The joins and leaves so far, and marks of their nodes.
 #[derive(Drop)]
 pub struct Draft {
     joins: Vec<NodeId>,
@@ -31,7 +31,7 @@ impl Model for Draft {
 }
 
 impl Draft {
-    /// Nothing was read.
+    /// An empty draft.
     pub fn new(alloc: Global) -> Draft
         ensures { result ≡ record { joins = []; leaves = [] } }
     {
@@ -49,7 +49,7 @@ impl Draft {
         self.named.has(node)
     }
 
-    /// Adds a join behind the others.
+    /// Adds a join.
     pub fn join(&mut self, node: NodeId) -> Result<(), Refusal>
         requires { node.0 < 1024 }
         ensures joins { OnOk result (self.new.joins ≡ self.old.joins ++ node ∷ []) }
@@ -61,7 +61,7 @@ impl Draft {
         Ok(())
     }
 
-    /// Adds a leave behind the others.
+    /// Adds a leave.
     pub fn leave(&mut self, node: NodeId) -> Result<(), Refusal>
         requires { node.0 < 1024 }
         ensures joins { self.new.joins ≡ self.old.joins }
@@ -73,7 +73,7 @@ impl Draft {
         Ok(())
     }
 
-    /// What was read, which takes no memory.
+    /// Returns the change. Takes no memory.
     pub fn into_change(self) -> Change
         ensures { result ≡ self }
     {

@@ -1,4 +1,4 @@
-//! Changes of a ring's members: which nodes shall join, and which shall leave.
+//! Changes of a ring's members: which nodes join, and which leave.
 #![tactic(auto)]
 
 mod change;

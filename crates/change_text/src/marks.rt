@@ -1,4 +1,4 @@
-//! A flag for each node, so that a node that was named is not looked for in a list.
+//! A flag for each node, for fast look-ups.
 
 ghost use Rattle.std.specs.Prelude.{◌≡◌, ◌<◌, ◌||◌, ◌==◌, ℕ, false};
 ghost use Rattle.change_text.specs.Marks.{is_marked};
@@ -13,7 +13,7 @@ pub struct Marks {
 }
 
 impl Marks {
-    /// No node is marked.
+    /// No marks.
     pub fn new() -> Marks
         ensures { (x : ℕ) → is_marked result x ≡ false }
     {
@@ -32,7 +32,7 @@ impl Marks {
         }
     }
 
-    /// Marks the node too.
+    /// Marks the node.
     pub fn add(&mut self, node: NodeId)
         requires { node.0 < 1024 }
         ensures { (x : ℕ) → is_marked self.new x ≡ ((x == node.0) || is_marked self.old x) }

@@ -7,15 +7,15 @@ use std::alloc::Global;
 /// How the racks of nodes are known.
 #[derive(Clone, Copy, Debug, PartialEq, Eq)]
 pub enum RackRule {
-    /// By the layout if it names racks, and otherwise by the names of nodes if these show racks.
+    /// From the layout if it names racks, otherwise from node names if they show racks.
     Auto,
     /// Not at all.
     Off,
-    /// By what stands behind the last such byte of a node's name.
+    /// From what follows the last such byte in a node's name.
     Behind(u8),
 }
 
-/// What becomes of partitions that have fewer than R live owners.
+/// What becomes of partitions with fewer than R live owners.
 #[derive(Clone, Copy, Debug, PartialEq, Eq)]
 pub enum Unreadable {
     /// No plan is made.
@@ -24,14 +24,14 @@ pub enum Unreadable {
     Left,
 }
 
-/// What planners and summaries are told of nodes and partitions.
+/// What planners and summaries know of nodes and partitions.
 #[derive(Debug, Drop)]
 pub struct Options {
-    /// The names of nodes that are dead for good, beside those of the layout.
+    /// The names of dead nodes, besides those of the layout.
     pub dead: Vec<Vec<u8>>,
     pub racks: RackRule,
     pub layout: Layout,
-    /// The file that has the layout, before it is read.
+    /// The layout's file, before it is read.
     pub layout_file: Option<String>,
     pub unreadable: Unreadable,
     /// Slots that stay with their owners.
@@ -39,7 +39,7 @@ pub struct Options {
 }
 
 impl Options {
-    /// Nothing is known.
+    /// Nothing known.
     pub fn new(alloc: Global) -> Options {
         Options {
             dead: Vec::new(alloc),

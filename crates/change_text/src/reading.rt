@@ -1,4 +1,4 @@
-//! Reading a change.
+//! Reads changes.
 
 ghost use Rattle.std.specs.Prelude.{◌≡◌, [], Ok, IfOk, IfErr, OnOk};
 ghost use Rattle.ring_names.specs.declared.refusal.Refusal.TheVariants.{OutOfMemory};
@@ -18,7 +18,6 @@ use ring_table::Ring;
 use std::alloc::Global;
 use texts::{Lines, end, header};
 
-// Reads joins, as long as lines begin so.
 fn read_joins(ring: &Ring, draft: &mut Draft, lines: &mut Lines) -> Result<(), Refusal>
     requires { draft.old.leaves ≡ [] }
     ensures read { Reads (map_ok (λ _. draft.new.joins) result) lines.new
@@ -34,7 +33,6 @@ fn read_joins(ring: &Ring, draft: &mut Draft, lines: &mut Lines) -> Result<(), R
     Ok(())
 }
 
-// Reads leaves behind the joins, as long as lines begin so.
 fn read_leaves(ring: &Ring, draft: &mut Draft, lines: &mut Lines) -> Result<(), Refusal>
     ensures read { Reads (map_ok (λ _. draft.new.leaves) result) lines.new
         (leaves_from ring.now draft.old.joins draft.old.leaves lines.old) }
@@ -49,7 +47,6 @@ fn read_leaves(ring: &Ring, draft: &mut Draft, lines: &mut Lines) -> Result<(), 
     Ok(())
 }
 
-// Reads the lines of a change.
 #[tactic(auto, unfolding(crate::specs::Reading::change_at))]
 fn read_parts(alloc: Global, ring: &Ring, lines: &mut Lines) -> Result<Change, Refusal>
     ensures read { Reads result lines.new (change_at ring.now lines.old) }
@@ -63,21 +60,20 @@ fn read_parts(alloc: Global, ring: &Ring, lines: &mut Lines) -> Result<Change, R
     Ok(draft.into_change())
 }
 
-/// Reads the lines of a change, up to its line `end`, and leaves what follows them. Refused as `read_change` is.
+/// Reads the lines of a change, up to its `end`, and leaves what follows. Fails as `read_change` does.
 pub fn read_change_section(alloc: Global, ring: &Ring, lines: &mut Lines) -> Result<Change, Refusal>
     ensures read { Reads result lines.new (change_at ring.now lines.old) }
-    // What is read is a change of the ring.
+    // The result is a change of the ring.
     ensures found { IfOk result (IsChange ring.now) }
-    // Memory may run out behind its first two lines, if these have no fault, and later only behind lines that have none.
+    // Memory may run out only after lines without faults, and after at least the first two.
     ensures late { Late 2 result lines.old lines.new (change_at ring.now lines.old) }
 {
-    // A ring is valid, which the prover knows once a number of it is read.
+    // Shows the prover that the ring is valid.
     let slots = ring.n();
     prove!(slots <= 7);
     read_parts(alloc, ring, lines)
 }
 
-// Reads a change from its whole text.
 fn read_whole(alloc: Global, ring: &Ring, text: &[u8]) -> Result<Change, Refusal>
     ensures exact { Gives result (change_reading ring.now text.now) }
     ensures late { IfErr result (λ e. e ≡ OutOfMemory → NoFaultBefore 3 (change_reading ring.now text.now)) }
@@ -88,20 +84,23 @@ fn read_whole(alloc: Global, ring: &Ring, text: &[u8]) -> Result<Change, Refusal
     Ok(change)
 }
 
-/// Reads a change of the ring from its whole text. The first line at fault decides, and in it the fault of the least
-/// number: 1 `BadLine`, 3 `UnknownNode`, 4 `Repeated` (a node named twice, or a join of a member), 12 `NotMember` (a leave of a
-/// node that is no member). `OutOfMemory` comes only where memory ran out, behind lines that have no fault.
+/// Reads a change of the ring from its whole text.
+///
+/// The first faulty line decides, and in it the fault of the least number: 1 `BadLine`, 3 `UnknownNode`, 4
+/// `Repeated`, 12 `NotMember`. `OutOfMemory` comes only after lines without faults.
+///
+/// `Repeated` is a node named twice, or a member that joins. `NotMember` is a node that leaves and is not a
+/// member.
 pub fn read_change(alloc: Global, ring: &Ring, text: &[u8]) -> Result<Change, Refusal>
-    // What is read is a change of the ring, and is spelled so.
+    // The result is a change of the ring with this text.
     ensures found { IfOk result (λ v. IsChange ring.now v × (text.now ≡ change_text ring.now v)) }
-    // What is spelled so is read, unless memory runs out.
+    // A change's text is read, unless memory runs out.
     ensures only { (v : Change) → IsChange ring.now v → text.now ≡ change_text ring.now v → Gives result (Ok v) }
     // Which fault it is.
     ensures exact { Gives result (change_reading ring.now text.now) }
-    // Memory may run out only if the first two lines have no fault.
     ensures late { IfErr result (λ e. e ≡ OutOfMemory → NoFaultBefore 3 (change_reading ring.now text.now)) }
 {
-    // A ring is valid, which the prover knows once a number of it is read.
+    // Shows the prover that the ring is valid.
     let slots = ring.n();
     prove!(slots <= 7);
     read_whole(alloc, ring, text)

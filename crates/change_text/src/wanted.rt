@@ -15,14 +15,13 @@ use ring_table::{Ring, read_ring_section};
 use std::alloc::Global;
 use texts::Lines;
 
-/// A ring, and the change of its members that is wanted.
+/// A ring, and a wanted change of its members.
 #[derive(Drop)]
 pub struct Wanted {
     pub ring: Ring,
     pub change: Change,
 }
 
-// The ring, and the change behind it. A ring's fault comes before a change's.
 #[tactic(auto, unfolding(crate::specs::Wanted::wanted_at))]
 fn read_both(alloc: Global, lines: &mut Lines) -> Result<Wanted, Refusal>
     ensures read { Reads result lines.new (wanted_at lines.old) }
@@ -34,13 +33,12 @@ fn read_both(alloc: Global, lines: &mut Lines) -> Result<Wanted, Refusal>
     Ok(Wanted { ring, change })
 }
 
-/// The ring and the change of a bundle, and nothing behind them. The first line at fault decides. `OutOfMemory` comes only where memory ran out,
-/// behind the first four lines of the ring.
+/// Reads the ring and the change of a bundle, which must end there. The first faulty line decides. `OutOfMemory` comes
+/// only after the ring's first four lines.
 pub fn read_wanted(alloc: Global, bytes: &[u8]) -> Result<Wanted, Refusal>
     // Which ring and change they are, or which fault.
     ensures read { Gives result (whole_text wanted_at bytes.now) }
     ensures found { IfOk result (λ w. IsChange w.ring w.change) }
-    // Memory may run out only if the first four lines have no fault.
     ensures late { IfErr result (λ e. e ≡ OutOfMemory → NoFaultBefore 5 (whole_text wanted_at bytes.now)) }
 {
     let mut lines = Lines::of(bytes);

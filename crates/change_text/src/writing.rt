@@ -1,4 +1,4 @@
-//! Writing a change.
+//! Writes changes.
 
 ghost use Rattle.std.specs.Prelude.{◌≡◌, ◌++◌, map, IfOk, IfErr, OnOk};
 ghost use Rattle.ring_names.specs.declared.refusal.Refusal.TheVariants.{OutOfMemory};
@@ -12,7 +12,6 @@ use ring_names::{NodeId, Refusal};
 use ring_table::{Ring, push_name};
 use std::alloc::{AllocError, Global};
 
-// The line of a word and a node.
 fn push_node(out: &mut Vec<u8>, ring: &Ring, word: &[u8], node: NodeId) -> Result<(), AllocError>
     ensures { OnOk result (out.new.items ≡ out.old.items ++ line_text (node_fields word.now (names_of ring.now) node)) }
 {
@@ -22,7 +21,6 @@ fn push_node(out: &mut Vec<u8>, ring: &Ring, word: &[u8], node: NodeId) -> Resul
     Ok(())
 }
 
-// The line of each node, behind the same word.
 fn push_nodes(
     out: &mut Vec<u8>,
     ring: &Ring,
@@ -38,7 +36,7 @@ fn push_nodes(
     Ok(())
 }
 
-/// The one text of a change of the ring. Its only refusal is `OutOfMemory`.
+/// Writes the change's only text. Fails only with `OutOfMemory`.
 pub fn write_change(alloc: Global, ring: &Ring, change: &Change) -> Result<Vec<u8>, Refusal>
     requires { IsChange ring.now change.now }
     ensures text { IfOk result (λ v. v.items ≡ change_text ring.now change.now) }

@@ -91,7 +91,7 @@ module _ (ring : RingValue) where
 
   -- ---- what they are
 
-  -- events of clients alone
+  -- only events of clients
   abbrev Clients : List Event → Type 0
   Clients s = list_all is_client_event s ≡ true
 

@@ -17,7 +17,7 @@ use script_text::Script;
 use std::alloc::Global;
 use texts::Lines;
 
-/// A ring, a plan of it, the plan's certificate, and the scripts of 1 to 8 clients with the names of their writers, by number.
+/// A ring, a plan, its certificate, and the scripts of 1 to 8 clients with the names of their writers, by number.
 #[derive(Drop)]
 pub struct DriveBundle {
     pub ring: Ring,
@@ -27,7 +27,6 @@ pub struct DriveBundle {
     pub scripts: Listed<Script>,
 }
 
-// Reads a bundle's front and its scripts. A fault of the front comes first.
 #[tactic(auto, unfolding(crate::specs::Drives::drive_at))]
 fn read_parts(alloc: Global, lines: &mut Lines) -> Result<DriveBundle, Refusal>
     ensures read { Reads result lines.new (drive_at lines.old) }
@@ -47,14 +46,15 @@ fn read_parts(alloc: Global, lines: &mut Lines) -> Result<DriveBundle, Refusal>
     })
 }
 
-/// The parts of a drive's bundle, and nothing behind them. In a script, a line that begins with another word than `put`, `get`, `down` and `up` is
-/// `BadLine`. Writers are numbered in order of first sight over all scripts. The first line at fault decides. `OutOfMemory` comes only where
-/// memory ran out, behind the first four lines of the ring.
+/// Reads the parts of a drive's bundle, which must end there. The first faulty line decides. `OutOfMemory`
+/// comes only after the ring's first four lines.
+///
+/// In scripts, lines begin with `put`, `get`, `down` or `up`; others are `BadLine`. Writers are numbered by
+/// first sight over all scripts.
 pub fn read_drive(alloc: Global, bytes: &[u8]) -> Result<DriveBundle, Refusal>
     // Which bundle it is, or which fault.
     ensures read { Gives result (whole_text drive_at bytes.now) }
     ensures parts { IfOk result IsDrive }
-    // Memory may run out only if the first four lines have no fault.
     ensures late { IfErr result (λ e. e ≡ OutOfMemory → NoFaultBefore 5 (whole_text drive_at bytes.now)) }
 {
     let mut lines = Lines::of(bytes);

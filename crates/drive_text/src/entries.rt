@@ -1,4 +1,4 @@
-//! The events of a history with their replies, and the finishers of steps, as lists of JSON.
+//! The entries of a history, and the finishers of steps, as JSON lists.
 
 ghost use Rattle.std.specs.Prelude.{◌≡◌, ◌++◌, ◌∷◌, [], map, IfOk, IfErr, OnOk};
 ghost use Rattle.serde_json.specs.View.{view};
@@ -15,7 +15,6 @@ use ring_table::Ring;
 use serde_json::{Value, json};
 use std::alloc::{AllocError, Global};
 
-// The pair of an event and its reply.
 fn entry_value(alloc: Global, ring: &Ring, writers: &Names, entry: &Entry) -> Result<Value, Refusal>
     ensures value { IfOk result (λ v. view v ≡ entry_data (names_of ring.now) writers.now entry.now) }
     ensures refused { IfErr result (IsRefusedWord (event_words (names_of ring.now) writers.now entry.now.event)) }
@@ -25,7 +24,7 @@ fn entry_value(alloc: Global, ring: &Ring, writers: &Names, entry: &Entry) -> Re
     Ok(json!(in alloc; [event, reply])?)
 }
 
-/// The pairs of a history, in order.
+/// Returns the pairs of a history, in order.
 pub(crate) fn entry_values(
     alloc: Global,
     ring: &Ring,
@@ -43,7 +42,6 @@ pub(crate) fn entry_values(
     Ok(out)
 }
 
-/// The finishers of steps, in order.
 pub(crate) fn step_values(alloc: Global, finishers: &[u32]) -> Result<Vec<Value>, AllocError>
     ensures { IfOk result (λ v. map view v.items ≡ map step_data finishers.now) }
 {

@@ -1,5 +1,4 @@
-//! The texts of drives: bundles of a ring, a plan of it, the plan's certificate and the scripts of clients; and reports of what happened and who finished
-//! each step, as one line of JSON.
+//! The texts of drives: bundles with clients' scripts, and reports of events and finishers in one line of JSON.
 #![tactic(auto)]
 
 mod bundle;

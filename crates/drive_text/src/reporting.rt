@@ -13,9 +13,10 @@ use ring_receipts::Outcome;
 use serde_json::{Value, json};
 use std::alloc::{AllocError, Global};
 
-/// The report's value: under `events` the pairs of an event's text and its reply's, in the history's order; under `steps` the worker that
-/// finished each step; under `workers` their number. Refused are only growths, and with `Disagree` a history with an event whose text is not
-/// UTF-8, as of a writer whose name is not.
+/// Returns the report's value. `events` has pairs of an event's text and its reply's, in order. `steps` has the
+/// worker that finished each step, and `workers` their number.
+///
+/// Fails if memory runs out, and with `Disagree` if an event's text is not UTF-8, such as a writer's name.
 pub fn report(
     alloc: Global,
     approved: &Approved,
@@ -32,7 +33,7 @@ pub fn report(
     Ok(json!(in alloc; {"events": events, "steps": steps, "workers": workers})?)
 }
 
-// The compact text of a value, and the byte 0A.
+// The compact text of a value, and a newline.
 fn line_of(alloc: Global, value: &Value) -> Result<Vec<u8>, AllocError>
     requires { has_float (view value.now) ≡ false }
     ensures { IfOk result (λ v. v.items ≡ compact_text (view value.now) ++ 10 ∷ []) }
@@ -42,7 +43,7 @@ fn line_of(alloc: Global, value: &Value) -> Result<Vec<u8>, AllocError>
     Ok(line)
 }
 
-/// The report as its one line: compact JSON and the byte 0A. Refused is what `report` refuses.
+/// Writes the report as one line of compact JSON. Fails as `report` does.
 pub fn write_report(
     alloc: Global,
     approved: &Approved,

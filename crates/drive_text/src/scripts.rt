@@ -1,4 +1,4 @@
-//! Reading the scripts of a drive's clients.
+//! Reads the scripts of a drive's clients.
 
 ghost use Rattle.std.specs.Prelude.{◌≡◌, [], IfOk};
 ghost use Rattle.texts.specs.Judging.{map_ok};
@@ -12,7 +12,6 @@ use script_text::{Script, read_client_section};
 use std::alloc::Global;
 use texts::Lines;
 
-// Reads one client's script, behind those seen.
 #[tactic(auto, unfolding(crate::specs::Drives::next_at))]
 fn read_next(
     alloc: Global,
@@ -30,7 +29,6 @@ fn read_next(
     Ok(())
 }
 
-// Reads up to seven more, while lines are left.
 fn read_more(
     alloc: Global,
     ring: &Ring,
@@ -54,7 +52,7 @@ fn read_more(
     Ok(())
 }
 
-/// Reads one client's script, and up to seven more while lines are left. Writers are numbered in order of first sight over all of them.
+/// Reads one client's script, and up to seven more while lines are left. Writers are numbered by first sight over all of them.
 #[tactic(auto, unfolding(crate::specs::Drives::scripts_at))]
 pub fn read_scripts(
     alloc: Global,
@@ -65,7 +63,7 @@ pub fn read_scripts(
     requires { writers.old ≡ [] }
     ensures read { Reads (map_ok (λ s. (s, writers.new)) result) lines.new (scripts_at ring.now lines.old) }
     ensures clients { IfOk result AreOfClients }
-    // Memory may run out only behind lines that have no fault.
+    // Memory may run out only after lines without faults.
     ensures late { Late 0 result lines.old lines.new (scripts_at ring.now lines.old) }
 {
     let mut scripts = Vec::new(alloc);

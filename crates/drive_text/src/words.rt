@@ -1,4 +1,4 @@
-//! The words of an event and of its reply, as texts of JSON.
+//! Events and replies as JSON texts.
 
 ghost use Rattle.std.specs.Prelude.{◌≡◌, IfOk, IfErr, IsUtf8};
 ghost use Rattle.serde_json.specs.Data.{string};
@@ -16,7 +16,6 @@ use script_text::push_event;
 use serde_json::Value;
 use std::alloc::Global;
 
-// The text of these bytes, if they are one. Takes no memory.
 fn text_value(bytes: Vec<u8>) -> Result<Value, Refusal>
     ensures value { IfOk result (λ v. view v ≡ string bytes.items) }
     ensures refused { IfErr result (IsRefusedWord bytes.items) }
@@ -27,7 +26,7 @@ fn text_value(bytes: Vec<u8>) -> Result<Value, Refusal>
     }
 }
 
-/// The text of an event, as its line of a script has it.
+/// Returns the text of an event, as in a script.
 pub(crate) fn event_value(
     alloc: Global,
     ring: &Ring,
@@ -42,7 +41,6 @@ pub(crate) fn event_value(
     text_value(out)
 }
 
-/// The text of a reply.
 pub(crate) fn reply_value(alloc: Global, reply: &Reply) -> Result<Value, Refusal>
     ensures value { IfOk result (λ v. view v ≡ string (reply_text reply.now)) }
     ensures memory { IfErr result (λ e. e ≡ OutOfMemory) }

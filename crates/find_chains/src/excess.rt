@@ -1,4 +1,4 @@
-//! Nodes that have more transfers open than they bear.
+//! Nodes with more open transfers than they bear.
 
 use crate::order::Order;
 use crate::sides::{Sides, sides_of};
@@ -7,17 +7,17 @@ use ring_names::{NodeId, Refusal};
 use ring_table::{Ring, Side};
 use std::alloc::Global;
 
-/// A side of a node of which more copies may run at once, in some order of the plan's, than it may have open.
+/// A side of a node on which some order of the plan runs more copies at once than allowed.
 #[derive(Clone, Copy, Debug)]
 pub struct Excess {
     pub side: Side,
     /// How many of its copies may run at once.
     pub fewest: u32,
-    /// The most that it may have open.
+    /// The most that may be open.
     pub most: u32,
 }
 
-/// The first side of the node that the plan's order does not keep within its number, whatever the certificate, where 100,000,000 looks suffice to tell.
+/// Returns the node's first side that exceeds its allowance under every certificate, if 100,000,000 looks show one.
 pub fn overload(
     alloc: Global,
     ring: &Ring,

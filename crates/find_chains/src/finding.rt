@@ -1,4 +1,4 @@
-//! A certificate for a plan.
+//! Finds a certificate for a plan.
 
 ghost use Rattle.std.specs.Prelude.{◌≡◌, [], IfErr, IfOk};
 ghost use Rattle.ring_names.specs.declared.refusal.Refusal.TheVariants.{OutOfMemory};
@@ -14,19 +14,21 @@ use ring_names::{NodeId, Refusal, Rows};
 use ring_table::{NodeSide, Ring};
 use std::alloc::Global;
 
-/// A certificate that was found, and what is known of nodes for which it has more chains than they may have transfers open.
+/// A certificate, and what is known of nodes with more chains than allowed.
 #[derive(Drop)]
 pub struct Outcome {
     pub cert: Cert,
-    /// The first node that needs more chains than that in every certificate.
+    /// The first node that has too many chains under every certificate.
     pub excess: Option<NodeId>,
-    /// Whether the looks ran out before it was known how few chains some node needs.
+    /// Whether the search hit its limit before some node's fewest chains were known.
     pub is_given_up: bool,
 }
 
 impl Outcome {
-    /// What is refused where the checker refuses the plan by this certificate. That a node has too many chains is said only of one that is known to need them. Where
-    /// the search for fewer was given up and no such node is known, it is `NoPlan`.
+    /// Returns what to refuse if the checker refuses this certificate.
+    ///
+    /// `TooManyChains` names only a node known to need them; if the search was given up and no such node is
+    /// known, it becomes `NoPlan`.
     pub fn refusal(&self, refusal: Refusal) -> Refusal {
         if !self.is_given_up || !matches!(refusal, Refusal::TooManyChains(_)) {
             return refusal;
@@ -38,13 +40,18 @@ impl Outcome {
     }
 }
 
-/// A certificate for the plan, of which the checker is to be asked: paths for what its clauses compare, where a step does not wait for the other directly, and chains
-/// that cover each node's copies. The chains of a node are the first of these that are no more than it may have transfers open: those of a first fit along direct
-/// dependencies, or one for each run of a slot's steps that wait directly for each other. Else they are the fewest that the plan's order allows, so that no other
-/// certificate has fewer, where 100,000,000 looks are enough for all nodes. Where they are not, the search is given up.
+/// Finds a certificate for the plan, which the checker must judge: paths that its clauses need, and chains that cover
+/// each node's copies.
 ///
-/// A path is a shortest one; one of more than 1,024 steps is left out, and so is what 100,000,000 looks do not find. Where more is found than a text can say, the
-/// certificate says nothing. For plans in which steps wait directly for what they need, the cost is about that of reading the plan.
+/// A node's chains are a first fit along direct dependencies, or one for each run of a slot's steps. Too many
+/// become the fewest that the plan's order allows.
+///
+/// The search for the fewest ends after 100,000,000 looks for all nodes.
+///
+/// Paths are shortest ones. Those over 1,024 steps, or not found in 100,000,000 looks, are left out. A
+/// certificate too large for its text is left empty.
+///
+/// If steps depend directly on what they need, the cost is about that of reading the plan.
 pub fn certificate(alloc: Global, ring: &Ring, plan: &Plan) -> Result<Outcome, Refusal>
     ensures suits { IfOk result (λ f. CertSuits ring.now f.cert) }
     ensures memory { IfErr result (λ e. e ≡ OutOfMemory) }
@@ -55,7 +62,7 @@ pub fn certificate(alloc: Global, ring: &Ring, plan: &Plan) -> Result<Outcome, R
     }
 }
 
-// What was found, without claims where a text cannot say them.
+// Empties the certificate if a text cannot say it.
 fn sayable(alloc: Global, ring: &Ring, found: Outcome) -> Outcome
     ensures { CertSuits ring.now result.cert }
 {
@@ -76,7 +83,6 @@ fn sayable(alloc: Global, ring: &Ring, found: Outcome) -> Outcome
     }
 }
 
-// A certificate without facts and chains.
 fn no_claims(alloc: Global) -> Cert
     ensures facts { result.facts ≡ [] }
     ensures chains { result.chains ≡ [] }
@@ -87,7 +93,6 @@ fn no_claims(alloc: Global) -> Cert
     }
 }
 
-// What is found, which may be too large.
 fn found(alloc: Global, ring: &Ring, plan: &Plan) -> Result<Outcome, Refusal> {
     let mut paths = Paths::of(alloc, plan)?;
     let mut needs = Needs::of(alloc, ring, plan)?;
@@ -115,7 +120,6 @@ fn found(alloc: Global, ring: &Ring, plan: &Plan) -> Result<Outcome, Refusal> {
     })
 }
 
-// A search for chains, and what is known of nodes for which it has too many.
 #[derive(Drop)]
 struct Seeking<'a> {
     order: Order<'a>,
@@ -124,7 +128,7 @@ struct Seeking<'a> {
 }
 
 impl<'a> Seeking<'a> {
-    // Chains of the node's copies: at most so many, or as few as can be.
+    // Returns chains of the node's copies: at most `most`, or as few as possible.
     fn few(
         &mut self,
         alloc: Global,
@@ -147,7 +151,6 @@ impl<'a> Seeking<'a> {
     }
 }
 
-// The chains of all nodes, and paths for their links.
 fn all_chains(
     alloc: Global,
     ring: &Ring,
@@ -168,7 +171,6 @@ fn all_chains(
     Ok(chains)
 }
 
-// Adds the chains of a side, and asks for a path for each of their links.
 fn push_chains(
     chains: &mut Chains,
     paths: &mut Paths,
@@ -183,7 +185,6 @@ fn push_chains(
     Ok(())
 }
 
-// Asks for a path from each step to the next.
 fn link(paths: &mut Paths, steps: &[u32]) -> Result<(), Refusal> {
     let mut last: Option<u32> = None;
     for step in steps {

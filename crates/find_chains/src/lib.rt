@@ -1,5 +1,5 @@
-//! Certificates for plans that have none: the fewest chains that a plan's order allows each node, and the paths that the checker asks for. Whether the plan is
-//! accepted by such a certificate is for the checker to say. `Stays` is the walk over the nodes of each slot by which also others look at a plan.
+//! Certificates for plans without one: the fewest chains that a plan's order allows each node, and the paths that the
+//! checker needs. The checker judges them. `Stays` walks over the nodes of each slot, also for other crates.
 #![tactic(auto)]
 
 mod excess;

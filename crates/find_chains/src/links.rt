@@ -4,16 +4,15 @@ use helpers::{at, set, small};
 use ring_names::{Refusal, Rows};
 use std::alloc::Global;
 
-/// Which copy follows which, by their places among the copies of a node: a copy follows at most one other, which comes before it, and is followed by at most one.
+/// By place among a node's copies, the copy that each follows, an earlier one. Each is followed by at most one.
 #[derive(Drop)]
 pub(crate) struct Links {
-    // by copy, 1 and the copy that it follows, and 1 and the copy that follows it; 0 for none
+    // by copy, 1 plus the copy that it follows, and 1 plus the copy that follows it; 0 for none
     follows: Vec<u32>,
     followed: Vec<u32>,
 }
 
 impl Links {
-    /// No copy follows another.
     pub(crate) fn of(alloc: Global, copies: usize) -> Result<Links, Refusal> {
         Ok(Links {
             follows: vec![in alloc; 0u32; copies]?,
@@ -21,17 +20,14 @@ impl Links {
         })
     }
 
-    /// 1 and the copy that this one follows, or 0.
     pub(crate) fn before(&self, copy: u32) -> u32 {
         at(self.follows.as_slice(), copy as usize)
     }
 
-    /// 1 and the copy that follows this one, or 0.
     pub(crate) fn after(&self, copy: u32) -> u32 {
         at(self.followed.as_slice(), copy as usize)
     }
 
-    /// Lets a copy follow another.
     pub(crate) fn join(&mut self, first: u32, second: u32) {
         set(
             self.follows.as_mut_slice(),
@@ -45,7 +41,6 @@ impl Links {
         );
     }
 
-    /// How many chains there are.
     pub(crate) fn count(&self) -> u32 {
         let mut count = 0u32;
         for before in self.follows.as_slice() {
@@ -56,7 +51,7 @@ impl Links {
         count
     }
 
-    /// The chains, by their first copies, each with the numbers of its steps.
+    /// Returns the chains, ordered by first copy, as step numbers.
     pub(crate) fn chains(&self, alloc: Global, copies: &[u32]) -> Result<Rows, Refusal> {
         let mut rows = Rows::new(alloc);
         let mut chain = Vec::new(alloc);
@@ -71,7 +66,6 @@ impl Links {
         Ok(rows)
     }
 
-    // The copies from this one on.
     fn walk(&self, chain: &mut Vec<u32>, copies: &[u32], first: u32) -> Result<(), Refusal> {
         let mut copy = first;
         for turn in 0..copies.len() {

@@ -1,11 +1,11 @@
-//! As many links as the order of copies allows.
+//! Makes as many links as the order of copies allows.
 
 use crate::links::Links;
 use helpers::{at, set, set_word, small, word};
 use ring_names::Refusal;
 use std::alloc::Global;
 
-/// Copies, and for each which of them come before it, in words of 64.
+/// Copies, and for each a bit set of those that come before it.
 #[derive(Drop)]
 pub(crate) struct Before<'a> {
     pub(crate) copies: &'a [u32],
@@ -13,11 +13,11 @@ pub(crate) struct Before<'a> {
     pub(crate) sets: Vec<u64>,
 }
 
-/// A matching that is made greater by alternating paths.
+/// A matching that grows by alternating paths.
 #[derive(Drop)]
 pub(crate) struct Matching {
     pub(crate) links: Links,
-    // of a search: by word the copies that were seen, by copy 1 and who asked for it, and who is to be asked
+    // of a search: the copies seen, by copy 1 plus the asking copy, and the copies to ask
     seen: Vec<u64>,
     asked_by: Vec<u32>,
     queue: Vec<u32>,
@@ -26,7 +26,6 @@ pub(crate) struct Matching {
 }
 
 impl Matching {
-    /// A matching that begins with these links.
     pub(crate) fn of(alloc: Global, before: &Before, links: Links) -> Result<Matching, Refusal> {
         let count = before.copies.len();
         Ok(Matching {
@@ -38,7 +37,7 @@ impl Matching {
         })
     }
 
-    /// Lets the copy follow one before it, if it can, where others may follow another than before.
+    /// Lets the copy follow an earlier one, if possible by relinking others.
     pub(crate) fn link(&mut self, before: &Before, copy: usize) -> Result<(), Refusal> {
         self.spent = 0;
         self.queue.clear();
@@ -62,7 +61,7 @@ impl Matching {
         Ok(())
     }
 
-    // Asks the copies of a word that come before the asking one and were not seen: the first that nobody follows, if there is one.
+    // Asks unseen earlier copies of a word. Returns the first that is free.
     fn ask(&mut self, before: &Before, asking: u32, number: usize) -> Result<Option<u32>, Refusal> {
         let cell = (asking as usize)
             .saturating_mul(before.words)
@@ -87,7 +86,7 @@ impl Matching {
         Ok(None)
     }
 
-    // Lets who asked for the copy follow it, and so on back to the first that asked.
+    // Links each asking copy to the one it asked for, back to the first.
     fn turn_over(&mut self, free: u32) {
         let mut copy = free;
         for turn in 0..self.asked_by.len() {

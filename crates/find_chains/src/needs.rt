@@ -8,18 +8,17 @@ use ring_names::{NodeId, Refusal, Slot};
 use ring_table::Ring;
 use std::alloc::Global;
 
-/// Who asks for paths, step by step: what the checker's clauses of slots and steps compare.
+/// Asks for the paths that the checker's clauses on slots and steps need.
 #[derive(Drop)]
 pub(crate) struct Needs<'a> {
     ring: &'a Ring,
     plan: &'a Plan,
     stays: Stays,
-    // by the place of a slot, 1 and its last step, or 0
+    // by the place of a slot, 1 plus its last step, or 0
     lasts: Vec<u32>,
 }
 
 impl<'a> Needs<'a> {
-    /// Before the first step.
     pub(crate) fn of(alloc: Global, ring: &'a Ring, plan: &'a Plan) -> Result<Needs<'a>, Refusal> {
         let slots = (ring.q() as usize).saturating_mul(7);
         Ok(Needs {
@@ -30,7 +29,6 @@ impl<'a> Needs<'a> {
         })
     }
 
-    /// Asks for what each step must come behind.
     pub(crate) fn ask_all(&mut self, paths: &mut Paths) -> Result<(), Refusal> {
         let plan = self.plan;
         for number in 0..plan.len() {
@@ -41,7 +39,6 @@ impl<'a> Needs<'a> {
         Ok(())
     }
 
-    // Asks for what a step must come behind.
     fn ask(&mut self, paths: &mut Paths, step: &Step, number: u32) -> Result<(), Refusal> {
         match step {
             Step::Join(_) => Ok(()),
@@ -58,7 +55,7 @@ impl<'a> Needs<'a> {
         }
     }
 
-    // A step of a slot comes behind the slot's step before it.
+    // A step follows the slot's step before it.
     fn follow(&mut self, paths: &mut Paths, slot: Slot, number: u32) -> Result<(), Refusal> {
         let place = place_of(slot);
         let last = at(self.lasts.as_slice(), place);
@@ -69,7 +66,7 @@ impl<'a> Needs<'a> {
         paths.need(last.saturating_sub(1), number)
     }
 
-    // A mirror comes behind the switches by which its node left other slots of the partition, and behind the node's join.
+    // A mirror follows the switches by which its node left other slots of the partition, and the node's join.
     fn mirror(
         &self,
         paths: &mut Paths,
@@ -86,7 +83,7 @@ impl<'a> Needs<'a> {
         self.join(paths, node, number)
     }
 
-    // A step comes behind the switches by which the node left the slot.
+    // A step follows the switches by which the node left the slot.
     fn leave(
         &self,
         paths: &mut Paths,
@@ -105,18 +102,17 @@ impl<'a> Needs<'a> {
         Ok(())
     }
 
-    // The stay, where there is one and a look is left.
+    // The stay, if there is one and a look is left.
     fn stay(&self, paths: &mut Paths, place: Option<usize>) -> Option<Stay> {
         let stay = self.stays.stay(place)?;
         if paths.look() { Some(stay) } else { None }
     }
 
-    // A step comes behind the node's join.
     fn join(&self, paths: &mut Paths, node: NodeId, number: u32) -> Result<(), Refusal> {
         need_some(paths, self.plan.join_of(node), number)
     }
 
-    // A copy from listed slots comes before or behind each switch of these.
+    // A copy from listed slots comes before or after each of their switches.
     fn copy(
         &self,
         paths: &mut Paths,
@@ -137,7 +133,7 @@ impl<'a> Needs<'a> {
         }
     }
 
-    // A step comes before or behind each switch of the slot.
+    // A step comes before or after each switch of the slot.
     fn switches(&self, paths: &mut Paths, slot: Slot, number: u32) -> Result<(), Refusal> {
         for step in self.plan.slot_steps(slot) {
             if !paths.look() {
@@ -150,7 +146,7 @@ impl<'a> Needs<'a> {
         Ok(())
     }
 
-    // A retirement comes behind the node's join, and behind each drop of what it held.
+    // A retirement follows the node's join, and each drop of what it held.
     fn retire(&self, paths: &mut Paths, node: NodeId, number: u32) -> Result<(), Refusal> {
         self.join(paths, node, number)?;
         let mut next = self.stays.latest_of(node.0);
@@ -165,7 +161,6 @@ impl<'a> Needs<'a> {
     }
 }
 
-// A step comes behind another, where there is that.
 fn need_some(paths: &mut Paths, first: Option<u32>, last: u32) -> Result<(), Refusal> {
     match first {
         Some(first) => paths.need(first, last),

@@ -9,26 +9,25 @@ use plan_text::Plan;
 use ring_names::{Refusal, Rows};
 use std::alloc::Global;
 
-// How many words the sets of copies that come before others may have together, which are 200 MB. The copies of a plan that the checker accepts need no more
-// where the looks suffice.
+// The most words of all bit sets, 200 MB. Plans that the checker accepts need no more if the looks suffice.
 const MOST_WORDS: usize = 25_000_000;
 
-/// A plan's order, and how many looks at it are left.
+/// A plan's order, and the looks that are left.
 #[derive(Drop)]
 pub struct Order<'a> {
     plan: &'a Plan,
     looks: Looks,
-    // by step, which copies of a word come before it, or are it
+    // by step, the copies of a word that come before it or are it
     masks: Vec<u64>,
     // by word of 64 steps, those whose dependencies are still to be followed
     marks: Vec<u64>,
-    // by step, 1 and its place among the copies where a chain ends with it, or 0
+    // by step, 1 plus its place among the copies if a chain ends with it, or 0
     lasts: Vec<u32>,
     // by step, the first step of its run
     runs: Vec<u32>,
 }
 
-// After which copy another is put: one for which it waits directly, or the last of its run.
+// Which copy precedes in a chain: a direct dependency, or the last of the run.
 #[derive(Clone, Copy)]
 enum Rule {
     Direct,
@@ -36,7 +35,7 @@ enum Rule {
 }
 
 impl<'a> Order<'a> {
-    /// The order of a plan. Costs one pass over the plan.
+    /// Prepares the order of a plan, in one pass.
     pub fn of(alloc: Global, plan: &'a Plan) -> Result<Order<'a>, Refusal> {
         Ok(Order {
             plan,
@@ -48,15 +47,18 @@ impl<'a> Order<'a> {
         })
     }
 
-    /// The fewest chains into which the copies can be put, each copy of a chain behind the one before it: as many transfers may be open at once in some
-    /// order of the plan's, and no more in any (Dilworth 1950). The copies ascend. None where the looks that are left are too few.
+    /// Returns the fewest chains of the copies, which ascend. None if the looks do not suffice.
+    ///
+    /// As many transfers may be open at once in some order of the plan, and no more in any (Dilworth 1950).
     pub fn fewest(&mut self, alloc: Global, copies: &[u32]) -> Result<Option<u32>, Refusal> {
         let links = self.links(alloc, copies, 1)?;
         Ok(links.map(|links| links.count()))
     }
 
-    /// Such chains: one for each run of a slot's copies where these are no more than `enough`; else as few as there can be, by a matching of copies with later ones
-    /// (Fulkerson 1956). They are in the order of their first copies. None where the looks that are left are too few.
+    /// Returns chains, ordered by first copy: one for each run of a slot's copies if at most `enough`. None if
+    /// the looks do not suffice.
+    ///
+    /// Otherwise returns the fewest, by a matching of copies with later ones (Fulkerson 1956).
     pub fn chains(
         &mut self,
         alloc: Global,
@@ -70,13 +72,13 @@ impl<'a> Order<'a> {
         })
     }
 
-    /// Chains by a first fit along direct dependencies: a copy goes behind one that ends a chain, where it waits for that directly. They may be more than the fewest. Costs
-    /// a look at each dependency of a copy.
+    /// Returns chains by a first fit along direct dependencies, maybe more than the fewest. Costs a look at each
+    /// dependency of a copy.
     pub fn direct(&mut self, alloc: Global, copies: &[u32]) -> Result<Rows, Refusal> {
         self.fit(alloc, copies, Rule::Direct)?.chains(alloc, copies)
     }
 
-    // Puts each copy behind the one that ends a chain and that the rule names, and else at the begin of a chain.
+    // Appends each copy to the chain that the rule names, or begins a chain.
     fn fit(&mut self, alloc: Global, copies: &[u32], rule: Rule) -> Result<Links, Refusal> {
         let mut links = Links::of(alloc, copies.len())?;
         for place in 0..copies.len() {
@@ -103,7 +105,7 @@ impl<'a> Order<'a> {
         set(self.lasts.as_mut_slice(), step as usize, last);
     }
 
-    // The first step that ends a chain of those for which the copy waits directly; the copy where there is none.
+    // The copy's first direct dependency that ends a chain, or the copy itself.
     fn end_before(&self, copy: u32) -> u32 {
         for dependency in self.deps(copy) {
             if at(self.lasts.as_slice(), *dependency as usize) != 0 {
@@ -113,7 +115,6 @@ impl<'a> Order<'a> {
         copy
     }
 
-    // What a step waits for directly.
     fn deps(&self, step: u32) -> &'a [u32] {
         if step >= self.plan.len() {
             return &[];
@@ -121,12 +122,11 @@ impl<'a> Order<'a> {
         self.plan.deps(step)
     }
 
-    // The first step of the step's run.
     fn run(&self, step: u32) -> u32 {
         at(self.runs.as_slice(), step as usize)
     }
 
-    // Links along runs where these make no more chains than `enough`; else as many links as can be, where the looks that are left suffice.
+    // Links along runs if these make at most `enough` chains; otherwise as many links as possible, if the looks suffice.
     fn links(
         &mut self,
         alloc: Global,
@@ -153,7 +153,7 @@ impl<'a> Order<'a> {
         self.linked(alloc, &before, links)
     }
 
-    // Takes the looks of a pass for each word, if they are left.
+    // Spends the looks of a pass for each word, if enough are left.
     fn can_pass(&mut self, copies: &[u32], words: usize) -> bool {
         let last = copies.last().copied().unwrap_or(0);
         let span = last
@@ -163,7 +163,7 @@ impl<'a> Order<'a> {
         copies.len().saturating_mul(words) <= MOST_WORDS && self.looks.spend(looks)
     }
 
-    // The copies and the steps from the first copy on for which they wait, directly or not, the last first.
+    // The copies and their dependencies from the first copy on, direct or not, the last first.
     fn awaited_steps(&mut self, alloc: Global, copies: &[u32]) -> Result<Vec<u32>, Refusal> {
         let mut steps = Vec::new(alloc);
         let (first, last) = (at(copies, 0), copies.last().copied().unwrap_or(0));
@@ -180,7 +180,6 @@ impl<'a> Order<'a> {
         Ok(steps)
     }
 
-    // Marks those of the steps that do not come before the first.
     fn mark(&mut self, steps: &[u32], first: u32) {
         for step in steps {
             if *step >= first {
@@ -191,7 +190,7 @@ impl<'a> Order<'a> {
         }
     }
 
-    // The last step of a word that is marked, which is marked no longer.
+    // Unmarks and returns the last marked step of a word.
     fn take_last(&mut self, number: usize) -> Option<u32> {
         let marks = word(self.marks.as_slice(), number);
         let bit = 63u32.checked_sub(marks.leading_zeros())?;
@@ -199,7 +198,7 @@ impl<'a> Order<'a> {
         Some(small(number).saturating_mul(64).saturating_add(bit))
     }
 
-    // Finds which copies of a word come before each copy, by one pass over the awaited steps.
+    // Finds the copies of a word that come before each copy, in one pass.
     fn pass(&mut self, before: &mut Before, steps: &[u32], number: usize) {
         let first = at(before.copies, 0);
         let (mut place, mut bit) = (0usize, 1u64);
@@ -218,7 +217,7 @@ impl<'a> Order<'a> {
         }
     }
 
-    // Which copies of the word come before the step.
+    // The copies of the word that come before the step.
     fn earlier(&self, step: u32, first: u32) -> u64 {
         let mut mask = 0u64;
         for dependency in self.deps(step) {
@@ -229,7 +228,7 @@ impl<'a> Order<'a> {
         mask
     }
 
-    // Makes the links as many as can be, by a search for each copy that follows none.
+    // Adds as many links as possible, by a search for each copy that follows none.
     fn linked(
         &mut self,
         alloc: Global,

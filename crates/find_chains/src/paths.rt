@@ -13,20 +13,18 @@ const MOST_FACTS: usize = 262_144;
 
 const MOST_STEPS: usize = 1024;
 
-// What a search costs before it begins, and what each step of a path costs beside the looks at it, so that what is kept of them is bounded.
+// What a search costs, and each step of a path besides looks. It bounds what is kept.
 const SEARCH: u64 = 64;
 
 const STEP: u64 = 4;
 
-/// Paths of a plan, each a shortest one between two steps, and how many looks are left.
 #[derive(Drop)]
 pub(crate) struct Paths<'a> {
     plan: &'a Plan,
     looks: Looks,
     pub(crate) found: Rows,
-    // the pairs that were asked for
     asked: BTreeSet<Ends>,
-    // by step, the last search that came to it, and the step behind it on the way to the end of that
+    // by step, the last search that reached it, and its successor on the path
     searches: Vec<u32>,
     behind: Vec<u32>,
     search: u32,
@@ -35,7 +33,6 @@ pub(crate) struct Paths<'a> {
 }
 
 impl<'a> Paths<'a> {
-    /// None yet.
     pub(crate) fn of(alloc: Global, plan: &'a Plan) -> Result<Paths<'a>, Refusal> {
         let steps = plan.len() as usize;
         Ok(Paths {
@@ -51,13 +48,12 @@ impl<'a> Paths<'a> {
         })
     }
 
-    /// Takes a look, if one is left.
     pub(crate) fn look(&mut self) -> bool {
         self.looks.spend(1)
     }
 
-    /// Finds a path from a step to a later one, unless the later one waits for the other directly, or the path was asked for before. One of more than 1,024 steps is left
-    /// out, and so is one for which the looks do not suffice.
+    /// Finds a path to a later step, unless it depends directly or was asked for before. Paths over 1,024 steps, or
+    /// beyond the looks, are left out.
     pub(crate) fn need(&mut self, first: u32, last: u32) -> Result<(), Refusal> {
         let plan = self.plan;
         if first >= last || last >= plan.len() || plan.depends(first, last) {
@@ -72,7 +68,7 @@ impl<'a> Paths<'a> {
         Ok(())
     }
 
-    // Whether there is a way from the one step to the other; it is searched backwards, never below the first step.
+    // Whether a path exists. Searches backwards, down to the first step.
     fn reach(&mut self, first: u32, last: u32) -> Result<bool, Refusal> {
         self.search = self.search.saturating_add(1);
         self.queue.clear();
@@ -89,7 +85,7 @@ impl<'a> Paths<'a> {
         Ok(false)
     }
 
-    // Comes from a step to those that it waits for: true where the first is one of them.
+    // Visits the step's dependencies. Returns whether the first step is one of them.
     fn ask(&mut self, step: u32, first: u32) -> Result<bool, Refusal> {
         let plan = self.plan;
         if step >= plan.len() {
@@ -112,7 +108,6 @@ impl<'a> Paths<'a> {
         Ok(false)
     }
 
-    // Keeps the way that was found.
     fn keep(&mut self, first: u32, last: u32) -> Result<(), Refusal> {
         self.path.clear();
         let mut step = first;

@@ -1,4 +1,4 @@
-//! Steps of one slot that a plan's direct dependencies put in a row.
+//! Steps of one slot that direct dependencies put in a row.
 
 ghost use Rattle.std.specs.Prelude.{◌<◌, length};
 
@@ -7,8 +7,9 @@ use plan_text::{Plan, Step};
 use ring_names::{Refusal, Slot};
 use std::alloc::Global;
 
-/// By step the first step of its run. A run is steps of one slot, each of which waits directly for the slot's step before it; a step of no slot is a run of its own.
-/// Costs for each step a binary search in its slot's steps and one in its dependencies.
+/// Returns, by step, the first step of its run. Costs two binary searches for each step.
+///
+/// In a run, each step of a slot depends directly on the slot's step before; other steps are runs of their own.
 pub(crate) fn runs_of(alloc: Global, plan: &Plan) -> Result<Vec<u32>, Refusal> {
     let mut runs = vec![in alloc; 0u32; plan.len() as usize]?;
     for number in 0..plan.len() {
@@ -21,7 +22,7 @@ pub(crate) fn runs_of(alloc: Global, plan: &Plan) -> Result<Vec<u32>, Refusal> {
     Ok(runs)
 }
 
-// The step before this one of its slot, where this one waits for that directly.
+// The slot's step before this one, if it is a direct dependency.
 fn awaited_of_slot(plan: &Plan, number: u32) -> Option<u32>
     requires { number < length plan.now }
 {
@@ -34,7 +35,7 @@ fn awaited_of_slot(plan: &Plan, number: u32) -> Option<u32>
     }
 }
 
-/// The slot of a step, if it has one.
+/// Returns the slot of a step, if it has one.
 pub fn slot_of(step: &Step) -> Option<Slot> {
     match step {
         Step::Mirror(slot, _) | Step::Copy(slot, _) | Step::Switch(slot) | Step::Drop(slot, _) =>
@@ -43,7 +44,6 @@ pub fn slot_of(step: &Step) -> Option<Slot> {
     }
 }
 
-// The number before this one, of ascending numbers.
 fn step_before(numbers: &[u32], number: u32) -> Option<u32> {
     let place = match numbers.binary_search(&number) {
         Ok(place) | Err(place) => place,

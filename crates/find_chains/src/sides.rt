@@ -10,14 +10,14 @@ use std::alloc::Global;
 /// The copies of each side, ascending, each once.
 #[derive(Drop)]
 pub struct Sides {
-    // by twice a node's number those that it takes, or all where it is joint; one place behind, those that read from a split node
+    // by twice the node's number, the copies to it, or all if joint; at the next place, the copies from a split node
     lists: Vec<Vec<u32>>,
-    // by node, whether it has two numbers
+    // by node, whether its allowance has two numbers
     split: Vec<bool>,
 }
 
 impl Sides {
-    /// Those of a plan of the ring. Costs one pass over the plan.
+    /// Collects the copies of a plan in one pass.
     pub fn of(alloc: Global, ring: &Ring, plan: &Plan) -> Result<Sides, Refusal> {
         let mut sides = Sides::empty(alloc, ring)?;
         let mut stays = Stays::of(alloc, ring)?;
@@ -45,7 +45,7 @@ impl Sides {
         Ok(sides)
     }
 
-    // A copy: the slot's mirror takes, and the owners of the slots that it reads give.
+    // The slot's mirror takes, and the owners of the slots read give.
     fn copy(
         &mut self,
         stays: &Stays,
@@ -69,7 +69,6 @@ impl Sides {
         }
     }
 
-    // The slot's owner gives.
     fn give(&mut self, stays: &Stays, slot: Slot, number: u32) -> Result<(), Refusal> {
         match stays.owner(slot) {
             Some(node) => self.add(node, Side::Give, number),
@@ -77,7 +76,6 @@ impl Sides {
         }
     }
 
-    // Where the copies of that side of the node are kept.
     fn place(&self, node: u32, side: Side) -> usize {
         let place = (node as usize).saturating_mul(2);
         let is_split = self.split.get(node as usize) == Some(&true);
@@ -98,7 +96,7 @@ impl Sides {
         Ok(())
     }
 
-    /// The copies of that side of the node.
+    /// Returns the copies of the node's side.
     pub fn copies(&self, of: NodeSide) -> &[u32] {
         match self.lists.get(self.place(of.node.0, of.side)) {
             Some(list) => list.as_slice(),
@@ -107,7 +105,7 @@ impl Sides {
     }
 }
 
-/// The sides of the node of that number, each with the most transfers that it may have open at once: one where it has one number, and else two.
+/// Returns the sides of a node, each with its most open transfers: one for a joint allowance, otherwise two.
 pub fn sides_of(ring: &Ring, number: usize) -> [Option<(NodeSide, u32)>; 2] {
     let node = NodeId(small(number));
     match ring.nodes().get(number) {

@@ -1,4 +1,4 @@
-//! Which nodes serve each slot, and from when to when, on the way through a plan.
+//! Which nodes serve each slot during a plan.
 
 use helpers::{at, place_of, set, small};
 use plan_text::Step;
@@ -7,28 +7,29 @@ use ring_table::Ring;
 use std::alloc::Global;
 use std::collections::BTreeMap;
 
-/// A stay of a node at a slot: from the start or a mirror on, up to the switch after which it no longer owns the slot, and the drop of what it has of it.
+/// A stay of a node at a slot: from the start or a mirror to the switch by which it leaves, and its drop.
 #[derive(Clone, Copy, Debug)]
 pub struct Stay {
     pub slot: Slot,
     pub node: u32,
-    /// The mirror with which it began; none where the node owned the slot before the first step.
+    /// The mirror of its beginning. None if the node owned the slot before the first step.
     pub begun: Option<u32>,
     /// The switch by which the node left.
     pub left: Option<u32>,
-    /// The first drop of the node at the slot after the stay began.
+    /// The node's first drop at the slot after the beginning.
     pub dropped: Option<u32>,
-    /// The place of the node's stay at the slot before this one.
+    /// The place of the node's previous stay at the slot.
     pub same_before: Option<usize>,
-    /// The place of the node's stay before this one, at any slot.
+    /// The place of the node's previous stay at any slot.
     pub node_before: Option<usize>,
 }
 
-/// All stays so far, in the order in which they began: those of the ring's owners by slot, then one for each mirror. A step costs a look-up among the nodes that mirrored its slot.
+/// All stays so far, in order: those of the ring's owners by slot, then one for each mirror. A step costs a look-up
+/// among the nodes that mirrored its slot.
 #[derive(Drop)]
 pub struct Stays {
     all: Vec<Stay>,
-    // by the place of a slot: 1 and the stays of its first owner, of its owner and of its mirror; by node 1 and the latest one; 0 for none
+    // 1 plus places of stays, or 0: by slot, of first owner, owner and mirror; by node, of the latest
     firsts: Vec<u32>,
     owners: Vec<u32>,
     mirrors: Vec<u32>,
@@ -37,7 +38,6 @@ pub struct Stays {
     latest: BTreeMap<(Slot, u32), usize>,
 }
 
-// The place that a number of 1 and it says.
 fn place(number: u32) -> Option<usize> {
     if number == 0 {
         return None;
@@ -46,7 +46,7 @@ fn place(number: u32) -> Option<usize> {
 }
 
 impl Stays {
-    /// Before the first step.
+    /// The state before the first step.
     pub fn of(alloc: Global, ring: &Ring) -> Result<Stays, Refusal> {
         let slots = (ring.q() as usize).saturating_mul(7);
         let mut stays = Stays {
@@ -61,7 +61,6 @@ impl Stays {
         Ok(stays)
     }
 
-    // The ring's owners begin.
     fn begin_all(&mut self, ring: &Ring) -> Result<(), Refusal> {
         let mut partition = 0u32;
         for row in ring.rows() {
@@ -78,7 +77,7 @@ impl Stays {
         Ok(())
     }
 
-    // A node begins to serve the slot, from the start or with a mirror: 1 and the place of its stay.
+    // Begins a stay, from the start or with a mirror. Returns 1 plus its place.
     fn begin(&mut self, slot: Slot, node: NodeId, begun: Option<u32>) -> Result<u32, Refusal> {
         let mut same_before = self.first_at(slot, node.0);
         if begun.is_some() {
@@ -100,7 +99,7 @@ impl Stays {
         Ok(number)
     }
 
-    /// Lets the step of that number act.
+    /// Applies the step.
     pub fn act(&mut self, step: &Step, number: u32) -> Result<(), Refusal> {
         match step {
             Step::Mirror(slot, node) => self.mirror_to(*slot, *node, number)?,
@@ -111,14 +110,12 @@ impl Stays {
         Ok(())
     }
 
-    // The node becomes the mirror of the slot.
     fn mirror_to(&mut self, slot: Slot, node: NodeId, number: u32) -> Result<(), Refusal> {
         let stay = self.begin(slot, node, Some(number))?;
         set(self.mirrors.as_mut_slice(), place_of(slot), stay);
         Ok(())
     }
 
-    // The mirror of the slot becomes its owner, if it has one.
     fn switch(&mut self, slot: usize, number: u32) {
         let mirror = at(self.mirrors.as_slice(), slot);
         let owner = at(self.owners.as_slice(), slot);
@@ -134,7 +131,6 @@ impl Stays {
         }
     }
 
-    // The node drops what it has of the slot.
     fn drop_held(&mut self, slot: Slot, node: u32, number: u32) {
         let mut next = self.latest_at(slot, node);
         for turn in 0..self.all.len() {
@@ -145,7 +141,7 @@ impl Stays {
         }
     }
 
-    // One stay is dropped. The one before it of the node at the slot, unless this one was dropped before: then so were all before it.
+    // Drops one stay. Returns the node's previous one at the slot, unless this one was dropped already: then all before were.
     fn drop_one(&mut self, place: usize, number: u32) -> Option<usize> {
         let stay = self.all.get_mut(place)?;
         if stay.dropped.is_some() {
@@ -155,23 +151,23 @@ impl Stays {
         stay.same_before
     }
 
-    /// How many there are so far.
+    /// Counts the stays so far.
     pub fn len(&self) -> usize {
         self.all.len()
     }
 
-    /// The stay of that place, if there is one.
+    /// Returns the stay at the place.
     pub fn stay(&self, place: Option<usize>) -> Option<Stay> {
         self.all.get(place?).copied()
     }
 
-    /// The place of the latest stay of the node at the slot.
+    /// Returns the place of the node's latest stay at the slot.
     pub fn latest_at(&self, slot: Slot, node: u32) -> Option<usize> {
         let latest = self.latest.get(&(slot, node)).copied();
         latest.or(self.first_at(slot, node))
     }
 
-    // The place of the slot's first stay, where it is the node's.
+    // The place of the slot's first stay, if it is the node's.
     fn first_at(&self, slot: Slot, node: u32) -> Option<usize> {
         let first = place(at(self.firsts.as_slice(), place_of(slot)));
         if self.stay(first)?.node == node {
@@ -181,23 +177,23 @@ impl Stays {
         }
     }
 
-    /// The place of the latest stay of the node.
+    /// Returns the place of the node's latest stay.
     pub fn latest_of(&self, node: u32) -> Option<usize> {
         place(at(self.by_node.as_slice(), node as usize))
     }
 
-    /// The place of the stay of the slot's mirror.
+    /// Returns the place of the stay of the slot's mirror.
     pub fn mirror_at(&self, slot: Slot) -> Option<usize> {
         place(at(self.mirrors.as_slice(), place_of(slot)))
     }
 
-    /// Who owns the slot.
+    /// Returns the owner of the slot.
     pub fn owner(&self, slot: Slot) -> Option<u32> {
         let place = place(at(self.owners.as_slice(), place_of(slot)));
         Some(self.stay(place)?.node)
     }
 
-    /// Who mirrors the slot.
+    /// Returns the mirror of the slot.
     pub fn mirror(&self, slot: Slot) -> Option<u32> {
         Some(self.stay(self.mirror_at(slot))?.node)
     }

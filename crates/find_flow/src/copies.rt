@@ -1,21 +1,20 @@
-//! The copies in which each node takes part, beside its allowance.
+//! The copies of each node, next to its allowance.
 
 use helpers::{at, lower, raise};
 use ring_names::Refusal;
 use ring_table::{Allowance, Ring};
 use std::alloc::Global;
 
-/// Two counts for each node: of copies that read from it, and of those that it receives. Where one number of its allowance counts both, all are in
-/// the first.
+/// Two counts for each node: copies read from the node, and copies that it receives. With one allowance, the first counts both.
 #[derive(Drop)]
 pub struct Copies {
-    // the most copies of each count at once; 0 for a second count that is not used
+    // the most copies of each count at once; 0 for an unused second count
     most: Vec<u32>,
     counts: Vec<u32>,
 }
 
 impl Copies {
-    /// No node is known yet.
+    /// Starts without nodes.
     pub fn new(alloc: Global) -> Copies {
         Copies {
             most: Vec::new(alloc),
@@ -23,7 +22,7 @@ impl Copies {
         }
     }
 
-    /// The nodes of a ring, without copies.
+    /// Adds the nodes of a ring, without copies.
     pub fn fill(&mut self, ring: &Ring) -> Result<(), Refusal> {
         for node in ring.nodes() {
             let (give, take) = match node.allowance {
@@ -52,31 +51,30 @@ impl Copies {
         }
     }
 
-    /// One copy more reads from the node.
+    /// Counts one more copy that reads from the node.
     pub fn give(&mut self, node: u32) {
         let place = self.giver(node);
         raise(&mut self.counts, place);
     }
 
-    /// One copy fewer does.
+    /// Counts one fewer copy that reads from the node.
     pub fn keep(&mut self, node: u32) {
         let place = self.giver(node);
         lower(&mut self.counts, place);
     }
 
-    /// The node receives one copy more.
+    /// Counts one more copy to the node.
     pub fn take(&mut self, node: u32) {
         let place = self.taker(node);
         raise(&mut self.counts, place);
     }
 
-    /// The node receives one copy fewer.
+    /// Counts one fewer copy to the node.
     pub fn leave(&mut self, node: u32) {
         let place = self.taker(node);
         lower(&mut self.counts, place);
     }
 
-    // How much of its allowance a node with one copy more uses, in parts of 64.
     fn crowd(&self, place: usize) -> u32 {
         let copies = at(&self.counts, place).saturating_add(1).saturating_mul(64);
         match copies.checked_div(at(&self.most, place)) {
@@ -85,12 +83,12 @@ impl Copies {
         }
     }
 
-    /// How much of its allowance the node uses once it receives one copy more, in parts of 64.
+    /// Returns how much of its allowance the node uses after receiving one more copy, in parts of 64.
     pub fn taking(&self, node: u32) -> u32 {
         self.crowd(self.taker(node))
     }
 
-    /// How much of its allowance the node uses once one copy more reads from it, in parts of 64.
+    /// Returns how much of its allowance the node uses after giving one more copy, in parts of 64.
     pub fn giving(&self, node: u32) -> u32 {
         self.crowd(self.giver(node))
     }

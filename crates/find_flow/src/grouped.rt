@@ -1,21 +1,21 @@
-//! Numbers in groups, one group behind the other.
+//! Numbers in groups, one group after the other.
 
 use helpers::{at, raise, set, small, swap};
 use ring_names::Refusal;
 use std::alloc::Global;
 
-/// Numbers in groups. All are counted first, then there is room for them, then each is put into its group.
+/// Numbers in groups: first they are counted, then room is made, then each is put into its group.
 #[derive(Drop)]
 pub struct Grouped {
-    // where each group begins, and one more behind the last
+    // the start of each group, and the end of the last
     starts: Vec<u32>,
-    // where what was put into each group ends
+    // the end of the numbers put into each group
     ends: Vec<u32>,
     items: Vec<u32>,
 }
 
 impl Grouped {
-    /// There is no group.
+    /// Starts without groups.
     pub fn new(alloc: Global) -> Grouped {
         Grouped {
             starts: Vec::new(alloc),
@@ -24,18 +24,18 @@ impl Grouped {
         }
     }
 
-    /// So many empty groups.
+    /// Starts with empty groups.
     pub fn begin(&mut self, alloc: Global, groups: usize) -> Result<(), Refusal> {
         self.starts = vec![in alloc; 0u32; groups.saturating_add(1)]?;
         Ok(())
     }
 
-    /// The group will have one number more.
+    /// Announces one more number of the group.
     pub fn count(&mut self, group: usize) {
         raise(&mut self.starts, group.saturating_add(1));
     }
 
-    /// Makes room for all that were counted.
+    /// Makes room for all announced numbers.
     pub fn make_room(&mut self, alloc: Global) -> Result<(), Refusal> {
         let mut total = 0u32;
         for group in 0..self.starts.len() {
@@ -54,17 +54,17 @@ impl Grouped {
         raise(&mut self.ends, group);
     }
 
-    /// Where the group begins.
+    /// Returns the group's first place.
     pub fn start(&self, group: usize) -> usize {
         at(&self.starts, group) as usize
     }
 
-    /// Where the group ends.
+    /// Returns the place after the group.
     pub fn end(&self, group: usize) -> usize {
         at(&self.ends, group) as usize
     }
 
-    /// The number at the place.
+    /// Returns the number at the place.
     pub fn item(&self, place: usize) -> u32 {
         at(&self.items, place)
     }
@@ -74,12 +74,12 @@ impl Grouped {
         swap(&mut self.items, one, other);
     }
 
-    /// The group ends before that place.
+    /// Ends the group before the place.
     pub fn cut(&mut self, group: usize, end: usize) {
         set(&mut self.ends, group, small(end));
     }
 
-    /// The group, into which all was put, is as long as before it was cut.
+    /// Undoes all cuts of a full group.
     pub fn restore(&mut self, group: usize) {
         let end = at(&self.starts, group.saturating_add(1));
         set(&mut self.ends, group, end);

@@ -1,4 +1,4 @@
-//! The levels of the members that join: 0 where one slot more of them needs no move more, 1 where it needs one, and 2 where they can have none.
+//! Levels of joining members: one slot more needs no further move (0), one (1), or is impossible (2).
 
 use crate::meeting::Aim;
 use crate::members::Role;
@@ -8,7 +8,6 @@ use helpers::{NONE, at, set};
 use ring_names::Refusal;
 use std::alloc::Global;
 
-// All on the path from a node to the first of the search are on that level, if they are on none yet.
 fn mark_path(search: &Search, levels: &mut [u32], from: u32, level: u32) {
     let mut node = from;
     for _ in 0..levels.len() {
@@ -22,7 +21,7 @@ fn mark_path(search: &Search, levels: &mut [u32], from: u32, level: u32) {
     }
 }
 
-// Finds which of those that join are on the level, of those that are on none yet.
+// Finds the joining members of the level among those without one.
 fn find_level(
     alloc: Global,
     seats: &Seats,
@@ -46,7 +45,7 @@ fn find_level(
     Ok(())
 }
 
-/// Finds the levels of all that join.
+/// Finds the levels of all joining members.
 pub fn find_levels(alloc: Global, seats: &Seats, search: &mut Search) -> Result<(), Refusal> {
     let mut levels = vec![in alloc; 0u32; seats.members.count() as usize]?;
     for node in 0..seats.members.count() {

@@ -1,5 +1,5 @@
-//! The search for owners of a ring's slots: who owns each slot before and now, what a wish makes of each node, and paths along which slots are handed on.
-//! Nothing is promised of it but that it answers.
+//! Searches owners for a ring's slots: paths along which slots are handed on, given owners and a wish. Only that it
+//! returns is proved.
 #![tactic(auto)]
 
 mod copies;

@@ -1,8 +1,9 @@
 //! The members that a search meets.
 //!
-//! A search goes back from a member that shall have one slot more: it meets those that could hand it a slot, those that could hand them one, and so on.
-//! Handing a slot on is free where both would own a slot of the partition by a move, or where both owned one before. Members that join stand on levels
-//! such that a slot is handed on from level to level alone: a slot that did not move is on level 1, and one that moved on that of its owner.
+//! A search goes backwards from a member that needs one slot more. It meets members that could hand over a slot, then
+//! members that could give one to these, and so on. A hand-over is free if both nodes would own a slot of the partition
+//! by a move, or if both owned one before. Joining members have levels, and slots are handed on only within a level. A
+//! slot that did not move is on level 1, a moved one on its owner's level.
 
 use crate::members::Role;
 use crate::seats::Seats;
@@ -13,16 +14,16 @@ use std::alloc::Global;
 // How many slots and partitions all searches together may look at.
 const LOOKS: u32 = 80_000_000;
 
-/// What a search is for.
+/// The purpose of a search.
 #[derive(Clone, Copy, PartialEq, Eq)]
 pub enum Aim {
-    /// That one that joins has its part.
+    /// To give a joining member its part.
     Part,
-    /// That the balance gets better, while no slot more moves and no part gets smaller.
+    /// To improve the balance, without further moves and without smaller parts.
     Balance,
 }
 
-/// To whom a member hands a slot, and in which partition.
+/// The member that receives a slot, and the partition.
 #[derive(Clone, Copy)]
 pub struct Link {
     pub to: u32,
@@ -33,25 +34,24 @@ pub struct Link {
 #[derive(Drop)]
 pub struct Meeting {
     aim: Aim,
-    /// The member that shall have one slot more.
+    /// The member that needs one slot more.
     pub first: u32,
-    /// The first that was met and can give one.
+    /// The first member met that can give a slot.
     pub found: Option<u32>,
-    /// All that were met, in order.
+    /// All members met, in order.
     pub met: Vec<u32>,
-    // of each that was met to whom it hands a slot, and in which partition
+    // by member met, who receives its slot, and in which partition
     to: Vec<u32>,
     partitions: Vec<u32>,
-    // of each node its level
+    // by node
     levels: Vec<u32>,
-    // of each node 1 where no search goes on
+    // by node, 1 if no search passes it
     frozen: Vec<u32>,
-    // how many looks are left
     looks: u32,
 }
 
 impl Meeting {
-    /// Nobody is met yet.
+    /// Starts before any search.
     pub fn new(alloc: Global) -> Meeting {
         Meeting {
             aim: Aim::Part,
@@ -66,7 +66,7 @@ impl Meeting {
         }
     }
 
-    /// All nodes that join are on that level, and all others on level 0; nobody is frozen.
+    /// Puts all joining nodes on the level and the others on level 0, and freezes none.
     pub fn set_levels(&mut self, alloc: Global, seats: &Seats, level: u32) -> Result<(), Refusal> {
         let count = seats.members.count() as usize;
         self.levels = vec![in alloc; 0u32; count]?;
@@ -80,23 +80,23 @@ impl Meeting {
         self.thaw(alloc, count)
     }
 
-    /// Nobody is frozen.
+    /// Freezes no node.
     pub fn thaw(&mut self, alloc: Global, count: usize) -> Result<(), Refusal> {
         self.frozen = vec![in alloc; 0u32; count]?;
         Ok(())
     }
 
-    /// The node's level.
+    /// Returns the node's level.
     pub fn level(&self, node: u32) -> u32 {
         at(&self.levels, node as usize)
     }
 
-    /// The node is on another level.
+    /// Sets the node's level.
     pub fn put_level(&mut self, node: u32, level: u32) {
         set(&mut self.levels, node as usize, level);
     }
 
-    /// The level of a slot.
+    /// Returns the level of a slot.
     pub fn level_at(&self, seats: &Seats, place: usize) -> u32 {
         let node = seats.now(place);
         if node == seats.first(place) {
@@ -105,19 +105,19 @@ impl Meeting {
         self.level(node)
     }
 
-    /// Whether no search goes on at the node.
+    /// Whether no search passes the node.
     pub fn is_frozen(&self, node: u32) -> bool {
         at(&self.frozen, node as usize) != 0
     }
 
-    /// No search goes on at those that were met.
+    /// Freezes the members met: no search passes them.
     pub fn freeze(&mut self) {
         for node in self.met.iter() {
             set(&mut self.frozen, *node as usize, 1);
         }
     }
 
-    /// A search begins at a member.
+    /// Begins a search at a member.
     pub fn begin(&mut self, first: u32, aim: Aim) -> Result<(), Refusal> {
         for node in self.met.iter() {
             set(&mut self.to, *node as usize, NONE);
@@ -130,18 +130,18 @@ impl Meeting {
         Ok(())
     }
 
-    /// Spends so many looks.
+    /// Spends looks.
     pub fn spend(&mut self, looks: u32) {
         self.looks = self.looks.saturating_sub(looks);
     }
 
-    /// Spends a look. Answers whether the search goes on.
+    /// Spends a look. Returns whether the search goes on.
     pub fn look(&mut self) -> bool {
         self.spend(1);
         !self.is_over()
     }
 
-    /// Whether the search is at its end: one is found that can give a slot, or no look is left.
+    /// Whether a giver is found or no look is left.
     pub fn is_over(&self) -> bool {
         self.found.is_some() || self.is_spent()
     }
@@ -151,7 +151,7 @@ impl Meeting {
         self.looks == 0
     }
 
-    // Whether a path may begin at the node, by what the search is for.
+    // Whether a path may begin at the node, given the search's purpose.
     fn can_give(&self, seats: &Seats, node: u32) -> bool {
         if self.aim == Aim::Part {
             return !seats.is_costly(node);
@@ -177,7 +177,7 @@ impl Meeting {
         Ok(())
     }
 
-    /// Meets those that own a slot of the partition on that level and could hand it to the node of the link.
+    /// Meets the owners in the partition, on the level, that could hand their slot to the link's node.
     pub fn meet_all(&mut self, seats: &Seats, link: Link, level: u32) -> Result<(), Refusal> {
         let rack = seats.members.racks.of(link.to);
         let has_room = seats.has_room(link.partition, rack);
@@ -196,7 +196,7 @@ impl Meeting {
         Ok(())
     }
 
-    /// To whom the node hands a slot.
+    /// Returns the node's receiver and partition.
     pub fn link(&self, node: u32) -> Link {
         Link {
             to: at(&self.to, node as usize),

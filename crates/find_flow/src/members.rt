@@ -1,4 +1,4 @@
-//! What a wish does to each node.
+//! What a wish means for each node.
 
 use crate::racks::Racks;
 use crate::wish::Wish;
@@ -7,16 +7,15 @@ use ring_names::{NodeId, Refusal};
 use ring_table::Ring;
 use std::alloc::Global;
 
-/// What becomes of a node.
+/// A node's role in a change.
 #[derive(Clone, Copy, PartialEq, Eq)]
 pub enum Role {
-    /// It is no member, and does not become one.
+    /// Is not a member and does not join.
     Absent,
-    /// It is a member and stays one.
+    /// Is a member and stays.
     Stays,
-    /// It becomes a member.
     Joins,
-    /// It is a member, and is none in the end.
+    /// Is a member and leaves.
     Leaves,
 }
 
@@ -26,17 +25,17 @@ pub struct Members {
     // by number
     roles: Vec<Role>,
     weights: Vec<u32>,
-    // the slots that each node that joins shall have, its part rounded down
+    // the slots that each joining node should get, rounded down
     parts: Vec<u32>,
-    // how many members there are in the end
+    // the number of members in the end
     after: u32,
-    /// The weights of the members in the end, all together.
+    /// The sum of the weights of the members in the end.
     pub weight: u32,
     pub racks: Racks,
 }
 
 impl Members {
-    /// No node is known yet.
+    /// Starts without nodes.
     pub fn new(alloc: Global) -> Members {
         Members {
             roles: Vec::new(alloc),
@@ -48,8 +47,10 @@ impl Members {
         }
     }
 
-    /// The roles of a wish. Refused as `NoPlan` are a join of a member or of a node that is not declared, a leave of another than a member,
-    /// and leaves after which there are fewer members than a partition has slots.
+    /// Sets the roles. Fails with `NoPlan` if a joining node is a member or not declared, or a leaving one is
+    /// not a member.
+    ///
+    /// Also fails so if too few members remain.
     pub fn begin(&mut self, alloc: Global, ring: &Ring, wish: &Wish) -> Result<(), Refusal> {
         for node in ring.nodes() {
             self.roles.push(if node.is_member {
@@ -72,7 +73,6 @@ impl Members {
         self.share(ring)
     }
 
-    // Who is a member in the end.
     fn count_after(&mut self) {
         for node in 0..self.count() {
             if self.is_after(node) {
@@ -83,7 +83,7 @@ impl Members {
         }
     }
 
-    // The parts of those that join: none has more than one slot of each partition.
+    // Sets the parts of joining nodes: at most one slot of each partition.
     fn share(&mut self, ring: &Ring) -> Result<(), Refusal> {
         let total = ring.q().saturating_mul(ring.n());
         for node in 0..self.count() {
@@ -97,7 +97,7 @@ impl Members {
         Ok(())
     }
 
-    /// What becomes of the node.
+    /// Returns the node's role.
     pub fn role(&self, node: u32) -> Role {
         match self.roles.get(node as usize) {
             Some(role) => *role,
@@ -111,23 +111,23 @@ impl Members {
         role == Role::Stays || role == Role::Joins
     }
 
-    /// The node's weight.
+    /// Returns the node's weight.
     pub fn weight(&self, node: u32) -> u32 {
         at(&self.weights, node as usize)
     }
 
-    /// How many slots the node shall have, if it joins; else 0.
+    /// Returns how many slots a joining node should get; 0 for others.
     pub fn part(&self, node: u32) -> u32 {
         at(&self.parts, node as usize)
     }
 
-    /// How many nodes there are.
+    /// Counts the nodes.
     pub fn count(&self) -> u32 {
         small(self.roles.len())
     }
 }
 
-// Gives each of the nodes a new role in place of the one that it has.
+// Gives each of the nodes the new role. Fails if its role is not the old one.
 fn turn_all(roles: &mut [Role], nodes: &[NodeId], old: Role, new: Role) -> Result<(), Refusal> {
     for node in nodes {
         match roles.get_mut(node.0 as usize) {

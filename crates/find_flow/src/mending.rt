@@ -1,7 +1,8 @@
-//! What is mended along paths: that those that join have their parts with as few moves as can be, and that the balance is the best that this allows.
+//! Mends owners along paths: joining members get their parts with the fewest moves, then the balance is made the best possible.
 //!
-//! Slots, partitions, racks and members make a network in which a choice of owners is a flow, the fewest moves are a least cost, and the balance a convex
-//! cost of each member. So each mending along a cheapest path keeps the cost least, and where no path is left the balance is the best of all.
+//! Slots, partitions, racks and members form a network. A choice of owners is a flow, each move is a cost, and the
+//! balance is a convex cost of each member. Mending along a cheapest path keeps the cost least; once no path is left,
+//! the balance is optimal.
 
 use crate::levels::find_levels;
 use crate::meeting::Aim;
@@ -11,7 +12,7 @@ use helpers::{set_word, word};
 use ring_names::Refusal;
 use std::alloc::Global;
 
-// Lets the node have slots more, as long as it has not its part and some path leads to it.
+// Gives the node slots while it is below its part and a path leads there.
 fn raise(alloc: Global, seats: &mut Seats, search: &mut Search, node: u32) -> Result<(), Refusal> {
     for _ in 0..seats.partitions {
         if !seats.wants(node) || search.meeting.is_frozen(node) || search.meeting.is_spent() {
@@ -25,7 +26,7 @@ fn raise(alloc: Global, seats: &mut Seats, search: &mut Search, node: u32) -> Re
     Ok(())
 }
 
-/// Lets those that join and have not their parts have slots more, by paths that need no move more on level 0, and one move on level 1.
+/// Gives joining members their parts, by paths that need no further move (level 0) or one (level 1).
 pub fn raise_all(
     alloc: Global,
     seats: &mut Seats,
@@ -39,12 +40,12 @@ pub fn raise_all(
     Ok(())
 }
 
-// Where the members of the level stand that would lack a slot of their part if they gave one, or the others.
+// The class of members by level, and by whether they would lack a slot of their part after giving one.
 fn class(level: u32, is_costly: bool) -> usize {
     level.saturating_mul(2).saturating_add(u32::from(is_costly)) as usize
 }
 
-// The greatest gain of a slot fewer among the members of each class.
+// The greatest gain from giving a slot, by class of members.
 fn gains(alloc: Global, seats: &Seats, search: &Search) -> Result<Vec<u64>, Refusal> {
     let mut gains = vec![in alloc; 0u64; 6]?;
     for node in 0..seats.members.count() {
@@ -57,7 +58,7 @@ fn gains(alloc: Global, seats: &Seats, search: &Search) -> Result<Vec<u64>, Refu
     Ok(gains)
 }
 
-// Whether the balance may be mended by a slot more of the node.
+// Whether the balance may improve by one slot more of the node.
 fn takes_part(seats: &Seats, search: &Search, node: u32) -> bool {
     if !seats.members.is_after(node) || search.meeting.is_frozen(node) {
         return false;
@@ -66,7 +67,7 @@ fn takes_part(seats: &Seats, search: &Search, node: u32) -> bool {
     level == 0 || (level == 2 && seats.wants(node))
 }
 
-// The member with the fewest slots for its weight of those that take part, and to which one with more for its weight could give.
+// The member with the fewest slots by weight that could receive one from a fuller member.
 fn poorest(seats: &Seats, search: &Search, gains: &[u64]) -> Option<u32> {
     let mut found: Option<u32> = None;
     for node in 0..seats.members.count() {
@@ -81,7 +82,6 @@ fn poorest(seats: &Seats, search: &Search, gains: &[u64]) -> Option<u32> {
     found
 }
 
-// Hands slots on as long as that makes the balance better.
 fn balance(alloc: Global, seats: &mut Seats, search: &mut Search) -> Result<(), Refusal> {
     let turns = seats.total().saturating_add(seats.members.count() as usize);
     for _ in 0..turns {
@@ -100,7 +100,7 @@ fn balance(alloc: Global, seats: &mut Seats, search: &mut Search) -> Result<(), 
     Ok(())
 }
 
-/// Mends the balance, where enough looks are left.
+/// Improves the balance, if enough looks are left.
 pub fn balance_all(alloc: Global, seats: &mut Seats, search: &mut Search) -> Result<(), Refusal> {
     if search.meeting.is_spent() {
         return Ok(());

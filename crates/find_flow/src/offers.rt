@@ -1,4 +1,4 @@
-//! The slots of one level that a search may yet use.
+//! The slots of one level that a search may still use.
 
 use crate::grouped::Grouped;
 use crate::meeting::{Link, Meeting};
@@ -7,30 +7,29 @@ use helpers::{at, set, small, swap};
 use ring_names::Refusal;
 use std::alloc::Global;
 
-/// The slots of one level, by rack and by partition. A search uses each of them once: whoever comes later could meet nobody new by it.
+/// The slots of one level, by rack and by partition. A search uses each once: a later visitor would meet no new member by it.
 #[derive(Drop)]
 pub struct Offers {
     level: u32,
-    // whether the lists are those of the seats and the levels as they are now
+    // whether the lists fit the current seats and levels
     is_known: bool,
-    // the places of the slots, but for those of owners at which no search goes on
+    // the places of the slots, without those of frozen owners
     places: Vec<u32>,
-    // the same by rack; a rack's group is cut before those that the search has used
+    // the same by rack; a rack's group is cut before the used ones
     by_rack: Grouped,
-    // the partitions of the slots; the first of them are not used by the search
+    // the partitions of the slots, the unused ones first
     partitions: Vec<u32>,
-    // how many partitions are not used
     unused: usize,
-    // of each rack 1 where the partitions were gone through
+    // by rack, 1 if the partitions were searched for it
     done: Vec<u32>,
-    // the racks whose slots or whose partitions were gone through
+    // the racks whose slots or partitions were searched
     touched: Vec<u32>,
-    // racks, and partitions with room for them that were not used as the one who asked has a slot there
+    // racks, and partitions with room for them that stayed unused because the node that asked has a slot there
     late: Vec<(u32, u32)>,
 }
 
 impl Offers {
-    /// The slots of that level.
+    /// The slots of the level.
     pub fn new(alloc: Global, level: u32) -> Offers {
         Offers {
             level,
@@ -45,12 +44,12 @@ impl Offers {
         }
     }
 
-    /// The seats or the levels change.
+    /// Notes that seats or levels change.
     pub fn forget(&mut self) {
         self.is_known = false;
     }
 
-    /// Another search begins: nothing is used yet.
+    /// Ends a search: all slots are unused again.
     pub fn close(&mut self) {
         for rack in self.touched.iter() {
             self.by_rack.restore(*rack as usize);
@@ -61,7 +60,6 @@ impl Offers {
         self.late.clear();
     }
 
-    // The slots of the level.
     fn gather(&mut self, seats: &Seats, meeting: &Meeting) -> Result<(), Refusal> {
         self.places.clear();
         for place in 0..seats.total() {
@@ -73,7 +71,6 @@ impl Offers {
         Ok(())
     }
 
-    // The partitions of the slots.
     fn list_partitions(&mut self, seats: &Seats) -> Result<(), Refusal> {
         self.partitions.clear();
         let mut last = None;
@@ -87,7 +84,6 @@ impl Offers {
         Ok(())
     }
 
-    // Puts the slots into the lists of their racks and partitions, of which none is used yet.
     fn sort(&mut self, alloc: Global, seats: &Seats) -> Result<(), Refusal> {
         self.list_partitions(seats)?;
         let racks = &seats.members.racks;
@@ -106,7 +102,7 @@ impl Offers {
         Ok(())
     }
 
-    /// Has the lists ready for the search.
+    /// Makes the lists ready for a search.
     pub fn open(
         &mut self,
         alloc: Global,
@@ -122,7 +118,7 @@ impl Offers {
         self.sort(alloc, seats)
     }
 
-    /// Drops the slots of owners at which no search goes on.
+    /// Removes the slots of frozen owners.
     pub fn prune(
         &mut self,
         alloc: Global,
@@ -149,7 +145,7 @@ impl Offers {
         Ok(())
     }
 
-    /// Meets those of the node's own rack that could hand it a slot.
+    /// Meets members of the node's own rack that could hand it a slot.
     pub fn in_rack(
         &mut self,
         seats: &Seats,
@@ -181,7 +177,7 @@ impl Offers {
         Ok(())
     }
 
-    // Meets those that own slots of the partition where it has room for the node's rack; answers whether it is used then.
+    // Meets owners in the partition, if it has room for the node's rack. Returns whether the partition is used then.
     fn use_partition(
         &mut self,
         seats: &Seats,
@@ -200,7 +196,7 @@ impl Offers {
         Ok(true)
     }
 
-    // The first of a rack goes through all partitions.
+    // Searches all partitions, for the first node of a rack.
     fn use_all(&mut self, seats: &Seats, meeting: &mut Meeting, node: u32) -> Result<(), Refusal> {
         let mut kept = 0usize;
         for turn in 0..self.unused {
@@ -218,7 +214,7 @@ impl Offers {
         Ok(())
     }
 
-    // The others of a rack go through those that were not used.
+    // Searches the late partitions, for further nodes of a rack.
     fn use_late(&mut self, seats: &Seats, meeting: &mut Meeting, node: u32) -> Result<(), Refusal> {
         let own = seats.members.racks.of(node);
         for (rack, number) in self.late.iter() {
@@ -234,14 +230,14 @@ impl Offers {
         Ok(())
     }
 
-    /// Meets those of any rack that could hand a slot to the node in partitions with room for its rack.
+    /// Meets members of any rack that could hand the node a slot, in partitions with room for its rack.
     pub fn across(
         &mut self,
         seats: &Seats,
         meeting: &mut Meeting,
         node: u32,
     ) -> Result<(), Refusal> {
-        // where no rack has more than it must, none can spare a slot for another
+        // If no rack has more than its minimum, none can spare a slot for another rack.
         if seats.members.racks.above == 0 {
             return Ok(());
         }

@@ -1,7 +1,7 @@
-//! Racks, and how many slots of a partition may be in each.
+//! Racks, and how many slots of a partition each may have.
 //!
-//! A partition has the fewest pairs of slots in one rack where its slots are spread as evenly as the racks' members allow: each rack has as many
-//! as the level says, or all its members if these are fewer, and some racks have one more.
+//! A partition has the fewest pairs of slots in one rack if its slots are spread evenly. Then each rack has `level`
+//! slots, or one for each member if there are fewer, and some racks have one more.
 
 use helpers::{at, raise, set, small};
 use ring_names::Refusal;
@@ -14,21 +14,21 @@ pub struct Racks {
     of: Vec<u32>,
     /// The nodes, rack by rack.
     pub order: Vec<u32>,
-    // of each node the place in that order
+    // by node, its place in that order
     turns: Vec<u32>,
-    // the place of each rack's first node, and one more behind the last
+    // the place of each rack's first node, and the end of the last rack
     firsts: Vec<u32>,
-    // how many members each rack has in the end
+    // by rack, its members in the end
     counts: Vec<u32>,
-    /// The racks that have members in the end. Where the level is not 0, these are at most as many as a partition has slots.
+    /// The racks with members in the end. If the level is not 0, they are at most as many as a partition has slots.
     pub with_members: Vec<u32>,
-    /// How many slots of a partition each rack has at least, if it has as many members.
+    /// The fewest slots of a partition in each rack, if it has so many members.
     pub level: u32,
-    /// How many racks have one slot more than that in each partition.
+    /// How many racks have one slot more in each partition.
     pub above: u32,
 }
 
-// The nodes behind what their racks are known by, ascending.
+// The nodes sorted by the names of their racks.
 fn keyed(alloc: Global, racks: &[u32], nodes: u32) -> Result<Vec<(u64, u32)>, Refusal> {
     let mut keyed = Vec::new(alloc);
     for node in 0..nodes {
@@ -43,7 +43,7 @@ fn keyed(alloc: Global, racks: &[u32], nodes: u32) -> Result<Vec<(u64, u32)>, Re
 }
 
 impl Racks {
-    /// No node is known yet.
+    /// Starts without nodes.
     pub fn new(alloc: Global) -> Racks {
         Racks {
             of: Vec::new(alloc),
@@ -57,7 +57,7 @@ impl Racks {
         }
     }
 
-    /// The racks of so many nodes, none of which is a member yet.
+    /// Sets the racks of the nodes, none of which is a member yet.
     pub fn fill(&mut self, alloc: Global, racks: &[u32], nodes: u32) -> Result<(), Refusal> {
         self.of = vec![in alloc; 0u32; nodes as usize]?;
         self.turns = vec![in alloc; 0u32; nodes as usize]?;
@@ -77,13 +77,13 @@ impl Racks {
         Ok(())
     }
 
-    /// The node is a member in the end.
+    /// Adds the node to the members in the end.
     pub fn add(&mut self, node: u32) {
         let rack = self.of(node);
         raise(&mut self.counts, rack);
     }
 
-    // How many slots of a partition the racks have together, each as many as that or as it has members.
+    // How many slots of a partition fit the racks at the level.
     fn sum(&self, level: u32) -> u32 {
         let mut sum = 0u32;
         for count in self.counts.iter() {
@@ -92,7 +92,7 @@ impl Racks {
         sum
     }
 
-    /// Finds the racks with members, and the level for partitions of so many slots, once all members are known.
+    /// Finds the racks with members, and the level, given the slots of a partition. All members must be known.
     pub fn set_level(&mut self, slots: u32) -> Result<(), Refusal> {
         for rack in 0..self.len() {
             if at(&self.counts, rack) > 0 {
@@ -108,33 +108,33 @@ impl Racks {
         Ok(())
     }
 
-    /// How many racks there are.
+    /// Counts the racks.
     pub fn len(&self) -> usize {
         self.counts.len()
     }
 
-    /// The rack of the node.
+    /// Returns the rack of the node.
     pub fn of(&self, node: u32) -> usize {
         at(&self.of, node as usize) as usize
     }
 
-    /// The place of the node in the order by racks.
+    /// Returns the place of the node in the order by racks.
     pub fn turn(&self, node: u32) -> u32 {
         at(&self.turns, node as usize)
     }
 
-    /// The place of the rack's first node in that order, and the place behind its last.
+    /// Returns the rack's first place and its end in the order by racks.
     pub fn span(&self, rack: usize) -> (u32, u32) {
         let first = at(&self.firsts, rack);
         (first, at(&self.firsts, rack.saturating_add(1)))
     }
 
-    /// The fewest slots of a partition that the rack has in the end.
+    /// Returns the fewest slots of a partition in the rack in the end.
     pub fn least(&self, rack: usize) -> u32 {
         at(&self.counts, rack).min(self.level)
     }
 
-    /// The most slots of a partition that the rack has in the end.
+    /// Returns the most slots of a partition in the rack in the end.
     pub fn most(&self, rack: usize) -> u32 {
         at(&self.counts, rack).min(self.level.saturating_add(1))
     }

@@ -1,4 +1,4 @@
-//! Searches for paths along which slots are handed on.
+//! Searches paths along which slots are handed on.
 
 use crate::meeting::{Aim, Link, Meeting};
 use crate::members::Role;
@@ -7,7 +7,7 @@ use crate::seats::Seats;
 use ring_names::Refusal;
 use std::alloc::Global;
 
-/// Searches, one behind the other.
+/// The state of consecutive searches.
 #[derive(Drop)]
 pub struct Search {
     pub meeting: Meeting,
@@ -16,7 +16,7 @@ pub struct Search {
 }
 
 impl Search {
-    /// No search has begun.
+    /// Starts without levels.
     pub fn new(alloc: Global) -> Search {
         Search {
             meeting: Meeting::new(alloc),
@@ -24,7 +24,7 @@ impl Search {
         }
     }
 
-    /// The three levels have their lists.
+    /// Makes the three levels.
     pub fn fill(&mut self, alloc: Global) -> Result<(), Refusal> {
         for level in 0..3 {
             self.offers.push(Offers::new(alloc, level))?;
@@ -32,7 +32,7 @@ impl Search {
         Ok(())
     }
 
-    /// The seats or the levels change.
+    /// Notes that seats or levels change.
     pub fn forget(&mut self) {
         for level in 0..self.offers.len() {
             if let Some(offers) = self.offers.get_mut(level) {
@@ -41,13 +41,13 @@ impl Search {
         }
     }
 
-    /// All nodes that join are on that level, and all others on level 0; nobody is frozen.
+    /// Puts all joining nodes on the level and the others on level 0, and freezes none.
     pub fn set_levels(&mut self, alloc: Global, seats: &Seats, level: u32) -> Result<(), Refusal> {
         self.forget();
         self.meeting.set_levels(alloc, seats, level)
     }
 
-    /// No search goes on at those that were met.
+    /// Freezes the members met: no search passes them.
     pub fn freeze(&mut self, alloc: Global, seats: &Seats) -> Result<(), Refusal> {
         self.meeting.freeze();
         for level in 0..self.offers.len() {
@@ -58,7 +58,7 @@ impl Search {
         Ok(())
     }
 
-    // Meets those that could have another slot move in place of one of the node's that moves, so that the node has that one again.
+    // Meets members that could move another slot instead of one that the node gave, so that the node keeps that one.
     fn meet_back(&mut self, seats: &Seats, node: u32) -> Result<(), Refusal> {
         if seats.members.role(node) != Role::Stays {
             return Ok(());
@@ -74,7 +74,7 @@ impl Search {
         Ok(())
     }
 
-    // Meets those that could hand a slot to the node.
+    // Meets members that could hand the node a slot.
     fn go_on(&mut self, alloc: Global, seats: &Seats, node: u32) -> Result<(), Refusal> {
         let level = self.meeting.level(node) as usize;
         if let Some(offers) = self.offers.get_mut(level) {
@@ -99,7 +99,7 @@ impl Search {
         self.meeting.begin(first, aim)
     }
 
-    /// The member from which a path leads to the first, by what it is for; none where there is none or no look is left.
+    /// Returns a member from which a path leads to the first, if there is one and enough looks are left.
     pub fn find(
         &mut self,
         alloc: Global,

@@ -1,4 +1,4 @@
-//! Who owns each slot: before, and as it is wished for.
+//! The owner of each slot, before and as wished for.
 
 use crate::copies::Copies;
 use crate::grouped::Grouped;
@@ -9,28 +9,28 @@ use ring_names::Refusal;
 use ring_table::Ring;
 use std::alloc::Global;
 
-/// Who owns each slot. A slot stands at a place: partition by partition, and in each by index.
+/// The owner of each slot. Slots have places: partition by partition, then by index.
 #[derive(Drop)]
 pub struct Seats<'a> {
     pub members: &'a Members,
-    /// How many partitions there are, and how many slots each of them has.
+    /// The number of partitions, and of slots in each.
     pub partitions: usize,
     pub slots: usize,
     // by place, the owner before
     first: Vec<u32>,
-    // by place, the owner that is wished for, or nobody
+    // by place, the new owner, or `NONE`
     now: Vec<u32>,
     // the places that each node owned before
     owned: Grouped,
-    // how many slots each node owns now
+    // by node, the slots that it owns now
     load: Vec<u32>,
     copies: Copies,
-    /// The sizes of the partitions, where they have some.
+    /// The sizes of partitions, if known.
     pub volumes: Volumes,
 }
 
 impl<'a> Seats<'a> {
-    /// No slot is known yet.
+    /// Starts without slots.
     pub fn new(alloc: Global, ring: &Ring, members: &'a Members) -> Seats<'a> {
         Seats {
             members,
@@ -45,13 +45,13 @@ impl<'a> Seats<'a> {
         }
     }
 
-    /// Partitions have sizes.
+    /// Sets the sizes of partitions.
     pub fn measure(&mut self, alloc: Global, sizes: &[u64]) -> Result<(), Refusal> {
         let nodes = self.members.count() as usize;
         self.volumes.fill(alloc, sizes, self.partitions, nodes)
     }
 
-    /// Each slot has its owner, but for those of nodes that leave: they have nobody.
+    /// Sets the owners of the ring. Slots of leaving nodes have none.
     pub fn begin(&mut self, alloc: Global, ring: &Ring) -> Result<(), Refusal> {
         for row in ring.rows() {
             for owner in row.as_slice() {
@@ -71,7 +71,6 @@ impl<'a> Seats<'a> {
         Ok(())
     }
 
-    // What each node owns.
     fn own(&mut self, alloc: Global) -> Result<(), Refusal> {
         self.owned.begin(alloc, self.load.len())?;
         for owner in self.first.iter() {
@@ -88,17 +87,17 @@ impl<'a> Seats<'a> {
         Ok(())
     }
 
-    /// How many slots there are.
+    /// Counts the slots.
     pub fn total(&self) -> usize {
         self.first.len()
     }
 
-    /// The place of a slot among all.
+    /// Returns the place of a slot.
     pub fn place(&self, partition: usize, index: usize) -> usize {
         partition.saturating_mul(self.slots).saturating_add(index)
     }
 
-    /// The partition of the slot at the place.
+    /// Returns the partition of the place.
     pub fn partition(&self, place: usize) -> usize {
         match place.checked_div(self.slots) {
             Some(partition) => partition,
@@ -106,29 +105,29 @@ impl<'a> Seats<'a> {
         }
     }
 
-    /// The owner of the slot before.
+    /// Returns the owner before.
     pub fn first(&self, place: usize) -> u32 {
         at(&self.first, place)
     }
 
-    /// The owner of the slot that is wished for.
+    /// Returns the owner now.
     pub fn now(&self, place: usize) -> u32 {
         at(&self.now, place)
     }
 
-    /// How many slots the node owned before.
+    /// Counts the slots that the node owned before.
     pub fn owned_count(&self, node: u32) -> usize {
         let node = node as usize;
         self.owned.end(node).saturating_sub(self.owned.start(node))
     }
 
-    /// The place of that one of the slots that the node owned before.
+    /// Returns the place of one of the slots that the node owned before.
     pub fn owned(&self, node: u32, turn: usize) -> usize {
         let start = self.owned.start(node as usize);
         self.owned.item(start.saturating_add(turn)) as usize
     }
 
-    /// Nobody owns the slot any longer.
+    /// Takes the slot from its owner.
     pub fn vacate(&mut self, place: usize) {
         let node = self.now(place);
         set(&mut self.now, place, NONE);
@@ -142,7 +141,7 @@ impl<'a> Seats<'a> {
         }
     }
 
-    /// The node owns the slot, which nobody owned.
+    /// Gives the slot, which has no owner, to the node.
     pub fn fill(&mut self, place: usize, node: u32) {
         set(&mut self.now, place, node);
         raise(&mut self.load, node as usize);
@@ -155,7 +154,7 @@ impl<'a> Seats<'a> {
         }
     }
 
-    /// Whether the node owns a slot of the partition now or did before.
+    /// Whether the node owns or owned a slot of the partition.
     pub fn knows(&self, partition: usize, node: u32) -> bool {
         let start = self.place(partition, 0);
         for place in start..start.saturating_add(self.slots) {
@@ -166,7 +165,7 @@ impl<'a> Seats<'a> {
         false
     }
 
-    /// The rack of the one that owns the slot now, if somebody does.
+    /// Returns the rack of the slot's owner.
     pub fn rack_at(&self, place: usize) -> Option<usize> {
         match self.now(place) {
             NONE => None,
@@ -174,7 +173,7 @@ impl<'a> Seats<'a> {
         }
     }
 
-    /// How many slots of the partition are in the rack now.
+    /// Counts the partition's slots in the rack now.
     pub fn count(&self, partition: usize, rack: usize) -> u32 {
         let mut count = 0u32;
         let start = self.place(partition, 0);
@@ -186,7 +185,7 @@ impl<'a> Seats<'a> {
         count
     }
 
-    /// Whether some slot of the partition that nobody owns may go to any rack with room, and not only to racks that must have more.
+    /// Whether a free slot of the partition may go to any rack with room, and not only to racks below their minimum.
     pub fn is_open(&self, partition: usize) -> bool {
         let racks = &self.members.racks;
         let mut holes = 0u32;
@@ -209,18 +208,18 @@ impl<'a> Seats<'a> {
         missing < holes
     }
 
-    /// Whether the partition has room for one slot more in the rack.
+    /// Whether the rack may have one more slot of the partition.
     pub fn has_room(&self, partition: usize, rack: usize) -> bool {
         self.count(partition, rack) < self.members.racks.most(rack)
     }
 
-    /// Whether a rack that has a slot of the partition may have one fewer.
+    /// Whether the rack may have one fewer slot of the partition.
     pub fn can_spare(&self, partition: usize, rack: usize) -> bool {
         let least = self.members.racks.least(rack);
         least == 0 || self.count(partition, rack) > least
     }
 
-    // Whether somebody of the rack could own the slot in place of the one that owns it now.
+    // Whether a node of the rack could replace the slot's owner.
     fn suits(&self, place: usize, rack: usize) -> bool {
         let partition = self.partition(place);
         match self.rack_at(place) {
@@ -231,19 +230,19 @@ impl<'a> Seats<'a> {
         }
     }
 
-    /// The place at which the node owns a slot of the partition now.
+    /// Returns the place that the node owns in the partition now.
     pub fn place_now(&self, partition: usize, node: u32) -> Option<usize> {
         let (start, slots) = (self.place(partition, 0), self.slots);
         found(&self.now, start, slots, node)
     }
 
-    /// The place at which the node owned a slot of the partition before.
+    /// Returns the place that the node owned in the partition before.
     pub fn place_before(&self, partition: usize, node: u32) -> Option<usize> {
         let (start, slots) = (self.place(partition, 0), self.slots);
         found(&self.first, start, slots, node)
     }
 
-    /// Whether the node could own the slot in the place of another.
+    /// Whether the node could replace the slot's owner.
     pub fn may_have(&self, place: usize, node: u32) -> bool {
         let rack = self.members.racks.of(node);
         self.place_now(self.partition(place), node).is_none()
@@ -251,8 +250,8 @@ impl<'a> Seats<'a> {
             && self.may_enter(place, node)
     }
 
-    // Whether the node may be the slot's new owner. Where partitions have sizes a slot of a member that stays goes to one that joins, and that of a partition
-    // without keys to nobody.
+    // Whether the node may be a new owner. With sizes, a slot of a staying member goes only to a joining one, and only
+    // if the partition has keys.
     fn may_enter(&self, place: usize, node: u32) -> bool {
         let partition = self.partition(place);
         !self.volumes.are_asked()
@@ -261,7 +260,7 @@ impl<'a> Seats<'a> {
             || (self.members.role(node) == Role::Joins && self.volumes.size(partition) > 0)
     }
 
-    // The node owns the slot in the place of another. Where it owned a slot of the partition before, it has that one again.
+    // Replaces the slot's owner. A node that owned a slot of the partition before gets that one again.
     fn replace(&mut self, place: usize, node: u32) {
         let own = self.place_before(self.partition(place), node);
         self.vacate(place);
@@ -276,7 +275,7 @@ impl<'a> Seats<'a> {
         }
     }
 
-    /// Lets the one node hand its slot of the partition to the other, where it has one and the other may have it.
+    /// Hands a slot of the partition from one node to the other, if allowed. Returns whether it was.
     pub fn hand(&mut self, partition: usize, from: u32, to: u32) -> bool {
         let Some(place) = self.place_now(partition, from) else {
             return false;
@@ -288,12 +287,12 @@ impl<'a> Seats<'a> {
         true
     }
 
-    /// Exchanges the owners of two slots. Each node keeps its load, but may own a slot at another index than before.
+    /// Exchanges the owners of two slots. Loads stay, but a node may own a slot at another index than before.
     pub fn exchange(&mut self, one: usize, other: usize) {
         swap(&mut self.now, one, other);
     }
 
-    // Puts each owner of the partition that owned a slot of it before at the index that it had.
+    // Puts each owner that owned a slot of the partition before back at its index.
     fn align(&mut self, partition: usize) {
         for index in 0..self.slots {
             let place = self.place(partition, index);
@@ -303,51 +302,51 @@ impl<'a> Seats<'a> {
         }
     }
 
-    /// Puts each owner at the index that it had before in its partition, if it had one.
+    /// Puts each owner back at its former index in its partition.
     pub fn align_all(&mut self) {
         for partition in 0..self.partitions {
             self.align(partition);
         }
     }
 
-    /// How many slots the node owns now.
+    /// Returns how many slots the node owns now.
     pub fn load(&self, node: u32) -> u32 {
         at(&self.load, node as usize)
     }
 
-    /// What one slot more of the node costs the balance, in parts of 2^32: two of these are equal only where the exact quotients are.
+    /// Returns the cost to the balance of one slot more, in parts of 2^32. Results are equal only if the exact quotients are.
     pub fn take_price(&self, node: u32) -> u64 {
         let twice = u64::from(self.load(node)).saturating_mul(2);
         price(twice.saturating_add(1), self.members.weight(node))
     }
 
-    /// What one slot fewer of the node gains.
+    /// Returns the gain to the balance of one slot fewer.
     pub fn give_price(&self, node: u32) -> u64 {
         let twice = u64::from(self.load(node)).saturating_mul(2);
         price(twice.saturating_sub(1), self.members.weight(node))
     }
 
-    /// How much of its allowance the node uses once it takes one slot more.
+    /// Returns how much of its allowance the node uses after taking one slot more.
     pub fn taking(&self, node: u32) -> u32 {
         self.copies.taking(node)
     }
 
-    /// How much of its allowance the node uses once it gives one slot more.
+    /// Returns how much of its allowance the node uses after giving one slot more.
     pub fn giving(&self, node: u32) -> u32 {
         self.copies.giving(node)
     }
 
-    /// Whether the node joins and has not its part yet.
+    /// Whether the node joins and lacks a slot of its part.
     pub fn wants(&self, node: u32) -> bool {
         self.load(node) < self.members.part(node)
     }
 
-    /// Whether the node joins and would lack a slot of its part if it gave one.
+    /// Whether the node joins and would lack a slot of its part after giving one.
     pub fn is_costly(&self, node: u32) -> bool {
         self.members.role(node) == Role::Joins && self.load(node) <= self.members.part(node)
     }
 
-    /// How many slots have another owner than before.
+    /// Counts the slots with another owner than before.
     pub fn moved(&self) -> u32 {
         let mut moved = 0u32;
         for place in 0..self.total() {
@@ -369,7 +368,6 @@ fn price(steps: u64, weight: u32) -> u64 {
     }
 }
 
-// The place of the node among so many of the owners from a place on, if it is there.
 fn found(owners: &[u32], start: usize, count: usize, node: u32) -> Option<usize> {
     for place in start..start.saturating_add(count) {
         if at(owners, place) == node {

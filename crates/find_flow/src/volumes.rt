@@ -1,21 +1,21 @@
-//! Sizes of partitions, and what the slots of each node store together.
+//! Sizes of partitions, and how much each node stores.
 
 use crate::members::{Members, Role};
 use helpers::{at, set_word, word};
 use ring_names::Refusal;
 use std::alloc::Global;
 
-// Loads and aims are counted in parts of that many of one unit of a size: shares are seldom whole, and all sizes with a weight of 1,000 stay below 2^63 parts.
+// Loads and aims count parts of a unit, since shares are seldom whole. All sizes by a weight of 1,000 stay below 2^63 parts.
 const PARTS: u64 = 64;
 
 // Above all differences of two loads by weight.
 const MIDDLE: i64 = 4_611_686_018_427_387_904;
 
-/// What each node stores, and what it shall store. Where no sizes are asked for, all of it is empty.
+/// What each node stores, and should store. Empty without sizes.
 #[derive(Drop)]
 pub struct Volumes {
     are_asked: bool,
-    // by partition, in units of so many bits less than the sizes that are asked for
+    // by partition, in units of a power of two
     sizes: Vec<u32>,
     // what rounding may add to the parts of all slots of a partition
     slack: u64,
@@ -28,7 +28,7 @@ fn signed(parts: u64) -> i64 {
     i64::try_from(parts).unwrap_or(MIDDLE)
 }
 
-// The least power of two by which each size is a number of 32 bits.
+// The least power of two in which all sizes fit 32 bits.
 fn unit_of(sizes: &[u64]) -> u64 {
     let mut most = 0u64;
     for size in sizes {
@@ -44,14 +44,12 @@ fn unit_of(sizes: &[u64]) -> u64 {
     unit
 }
 
-// The size in units, rounded up.
 fn in_units(size: u64, unit: u64) -> u32 {
     let up = size.saturating_add(unit.saturating_sub(1));
     let units = up.checked_div(unit).unwrap_or(0);
     u32::try_from(units).unwrap_or(u32::MAX)
 }
 
-// The quotient, and 0 where the divisor is 0.
 fn share(whole: u64, weight: u32, weights: u32) -> u64 {
     let all = whole.saturating_mul(u64::from(weight));
     match all.checked_div(u64::from(weights)) {
@@ -60,7 +58,7 @@ fn share(whole: u64, weight: u32, weights: u32) -> u64 {
     }
 }
 
-// Which members stay, what they store before, and whether leavers leave more than joiners take.
+// The level up or down to which staying members are filled, and whether it rises.
 #[derive(Clone, Copy)]
 struct Level<'a> {
     members: &'a Members,
@@ -70,7 +68,7 @@ struct Level<'a> {
 }
 
 impl<'a> Level<'a> {
-    // What the node shall store at that level.
+    // What the node should store at the level.
     fn aim(&self, load: u64, node: u32) -> u64 {
         let level = self
             .level
@@ -81,7 +79,6 @@ impl<'a> Level<'a> {
         load.min(level)
     }
 
-    // What all that stay shall store.
     fn sum(&self, loads: &[u64]) -> u64 {
         let mut sum = 0u64;
         for node in 0..self.members.count() {
@@ -92,7 +89,7 @@ impl<'a> Level<'a> {
         sum
     }
 
-    // The least level at which those that stay store so much.
+    // The least level at which the staying members store that much.
     fn rise(&mut self, loads: &[u64], wanted: u64) {
         let mut step = 1u64 << 56;
         for _ in 0..57 {
@@ -108,7 +105,7 @@ impl<'a> Level<'a> {
 }
 
 impl Volumes {
-    /// No sizes are asked for.
+    /// Starts without sizes.
     pub fn new(alloc: Global) -> Volumes {
         Volumes {
             are_asked: false,
@@ -119,7 +116,8 @@ impl Volumes {
         }
     }
 
-    /// Sizes of so many partitions, of which so many nodes own nothing yet. If a size has more than 32 bits, all are rounded up in a greater unit.
+    /// Sets the sizes of partitions, of which no node owns a slot yet. If a size exceeds 32 bits, all are rounded up to
+    /// a greater unit.
     pub fn fill(
         &mut self,
         alloc: Global,
@@ -144,22 +142,22 @@ impl Volumes {
         Ok(())
     }
 
-    /// Whether sizes are asked for.
+    /// Whether there are sizes.
     pub fn are_asked(&self) -> bool {
         self.are_asked
     }
 
-    /// The size of the partition.
+    /// Returns the size of the partition.
     pub fn size(&self, partition: usize) -> u32 {
         at(&self.sizes, partition)
     }
 
-    /// The size of the partition, in parts.
+    /// Returns the size of the partition, in parts.
     pub fn parts(&self, partition: usize) -> u64 {
         u64::from(self.size(partition)).saturating_mul(PARTS)
     }
 
-    /// The greatest size, in parts.
+    /// Returns the greatest size, in parts.
     pub fn most(&self) -> u64 {
         let mut most = 0u32;
         for size in self.sizes.iter() {
@@ -168,19 +166,18 @@ impl Volumes {
         u64::from(most).saturating_mul(PARTS)
     }
 
-    /// The node owns a slot more of the partition.
+    /// Counts one more slot of the partition for the node.
     pub fn add(&mut self, partition: usize, node: usize) {
         let load = word(&self.loads, node).saturating_add(self.parts(partition));
         set_word(&mut self.loads, node, load);
     }
 
-    /// The node owns a slot fewer of the partition.
+    /// Counts one fewer slot of the partition for the node.
     pub fn remove(&mut self, partition: usize, node: usize) {
         let load = word(&self.loads, node).saturating_sub(self.parts(partition));
         set_word(&mut self.loads, node, load);
     }
 
-    // What one slot of each partition stores.
     fn all(&self) -> u64 {
         let mut all = 0u64;
         for partition in 0..self.sizes.len() {
@@ -189,8 +186,10 @@ impl Volumes {
         all
     }
 
-    /// Sets what each member shall store, from what it stores before. Those that join shall have their shares, and at most one slot of each partition. For those
-    /// that stay there is a level by weight: what they have above it is what joiners lack, or what they lack to it is what leavers leave besides.
+    /// Sets what each member should store.
+    ///
+    /// Joining ones get their shares, with at most one slot of each partition. Staying ones are levelled by
+    /// weight: they give what joiners lack, or take what leavers leave besides.
     pub fn aim(&mut self, members: &Members, slots: usize) {
         if !self.are_asked {
             return;
@@ -202,7 +201,7 @@ impl Volumes {
             let place = node as usize;
             if members.role(node) == Role::Joins {
                 let share = share(total, members.weight(node), members.weight).min(one);
-                // The shares of sizes that were rounded up may be as much too great.
+                // A share of rounded sizes may be too great by this much.
                 let aim = share.saturating_sub(self.slack.saturating_mul(slots as u64));
                 set_word(&mut self.aims, place, aim);
                 left = left.saturating_sub(aim);
@@ -219,7 +218,6 @@ impl Volumes {
         self.aim_at(level);
     }
 
-    // Those that stay shall store what the level says.
     fn aim_at(&mut self, level: Level) {
         for node in 0..level.members.count() {
             if level.members.role(node) == Role::Stays {
@@ -229,7 +227,7 @@ impl Volumes {
         }
     }
 
-    /// How much more than it shall the node stores, in parts.
+    /// Returns how much more than it should the node stores, in parts.
     pub fn over(&self, node: u32) -> i64 {
         let (load, aim) = (
             word(&self.loads, node as usize),
@@ -238,12 +236,12 @@ impl Volumes {
         signed(load).saturating_sub(signed(aim))
     }
 
-    /// How much the node lacks, in parts; 0 where it has what it shall have.
+    /// Returns how much the node lacks, in parts.
     pub fn lack(&self, node: u32) -> u64 {
         word(&self.aims, node as usize).saturating_sub(word(&self.loads, node as usize))
     }
 
-    /// How much more than it shall a node of that weight stores for its weight: the least lacks most.
+    /// Returns the excess of the node by its weight. The least lacks most.
     pub fn fullness(&self, node: u32, weight: u32) -> u64 {
         let over = self.over(node).saturating_mul(64);
         let by = match over.checked_div(i64::from(weight)) {
@@ -253,7 +251,7 @@ impl Volumes {
         u64::try_from(by.saturating_add(MIDDLE)).unwrap_or(0)
     }
 
-    /// How much a node of that weight stores for its weight.
+    /// Returns the load of the node by its weight.
     pub fn load_by(&self, node: u32, weight: u32) -> u64 {
         match word(&self.loads, node as usize).checked_div(u64::from(weight)) {
             Some(by) => by,

@@ -1,4 +1,4 @@
-//! The texts of a plan and its certificate, one behind the other.
+//! Writes a plan and its certificate.
 
 ghost use Rattle.std.specs.Prelude.{◌≡◌, ◌++◌, IfOk, IfErr};
 ghost use Rattle.ring_names.specs.declared.refusal.Refusal.TheVariants.{OutOfMemory};
@@ -13,7 +13,7 @@ use ring_names::Refusal;
 use ring_table::Ring;
 use std::alloc::Global;
 
-/// The plan's text, and behind it the certificate's. Refused only for want of memory.
+/// Writes the plan, then the certificate. Fails only with `OutOfMemory`.
 pub fn write_texts(alloc: Global, ring: &Ring, plan: &Plan, cert: &Cert) -> Result<Vec<u8>, Refusal>
     requires plan_suits { PlanSuits ring.now plan.now }
     requires cert_suits { CertSuits ring.now cert.now }

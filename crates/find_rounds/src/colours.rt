@@ -1,7 +1,8 @@
-//! Rounds: in each of them a group takes part in no more copies than its allowance.
+//! Assigns rounds, so that no group exceeds its allowance in a round.
 //!
-//! A group is cut into seats, each with one copy a round, so that rounds are the colours of the edges of a graph between seats. Where
-//! what gives and what takes are apart, the graph has two sides, and as many rounds do as the fullest seat has copies (Kőnig 1916).
+//! A group is split into seats with one copy a round each, so rounds are edge colours of a graph between seats. If
+//! giving and taking are counted apart, the graph has two sides, and as many rounds suffice as the fullest seat has
+//! copies (Kőnig 1916).
 
 use crate::groups::Groups;
 use crate::listed::fewest;
@@ -15,14 +16,13 @@ use std::alloc::Global;
 // Marks that a seat has no copy.
 const NONE: u32 = 4_294_967_295;
 
-// One end of a copy: a group, and one of its seats.
+// One end of a copy: a group and a seat.
 #[derive(Clone, Copy)]
 struct End {
     group: usize,
     seat: usize,
 }
 
-// The two ends of a copy, and its round.
 #[derive(Clone, Copy)]
 struct Seated {
     giver: End,
@@ -30,23 +30,23 @@ struct Seated {
     round: usize,
 }
 
-/// Seats of all groups, and the copy that each has in each round.
+/// The seats of all groups, and their copy in each round.
 #[derive(Drop)]
 pub struct Colours {
-    /// How many rounds there are.
+    /// The number of rounds.
     pub rounds: usize,
-    // the first seat of each group, and one more behind the last
+    // the first seat of each group, and the end of the last
     firsts: Vec<u32>,
     // the copy of each seat in each round
     table: Vec<u32>,
-    // the rounds in which each group has a free seat
+    // by group, the rounds with a free seat
     free: RoundSets,
-    // of each copy its seats and round, if it has any
+    // by copy, its seats and round, if it has any
     seated: Vec<Option<Seated>>,
 }
 
 impl Colours {
-    /// No group has a seat yet.
+    /// Starts without seats.
     pub fn new(alloc: Global) -> Colours {
         Colours {
             rounds: 0,
@@ -57,7 +57,7 @@ impl Colours {
         }
     }
 
-    // Empty seats for so many copies, by how many each group has.
+    // Makes empty seats for the copies, given their number by group.
     fn begin(
         &mut self,
         alloc: Global,
@@ -81,7 +81,7 @@ impl Colours {
         self.free.fill(groups.len(), self.rounds)
     }
 
-    /// Gives seats to the copies of these moves, as many as it can.
+    /// Gives seats to the copies of the moves, as many as possible.
     pub fn colour_all(
         &mut self,
         alloc: Global,
@@ -101,7 +101,6 @@ impl Colours {
         end.seat.saturating_mul(self.rounds).saturating_add(round)
     }
 
-    // The copy of the seat in the round.
     fn copy_at(&self, end: End, round: usize) -> Option<usize> {
         match self.table.get(self.cell(end, round)) {
             Some(copy) if *copy != NONE => Some(*copy as usize),
@@ -109,7 +108,6 @@ impl Colours {
         }
     }
 
-    // A seat of the group that is free in the round.
     fn free_end(&self, group: usize, round: usize) -> Option<End> {
         let first = at(&self.firsts, group) as usize;
         let end = at(&self.firsts, group.saturating_add(1)) as usize;
@@ -122,13 +120,12 @@ impl Colours {
         None
     }
 
-    // Says anew whether the group has a free seat in the round.
+    // Updates whether the group has a free seat in the round.
     fn renew(&mut self, group: usize, round: usize) {
         let is_free = self.free_end(group, round).is_some();
         self.free.put(group, round, is_free);
     }
 
-    // Gives a seat a copy in the round, or none.
     fn write(&mut self, end: End, round: usize, copy: u32) {
         let cell = self.cell(end, round);
         set(&mut self.table, cell, copy);
@@ -155,7 +152,7 @@ impl Colours {
         }
     }
 
-    /// The round of a copy that has one.
+    /// Returns the round of a copy, if it has one.
     pub fn round(&self, copy: usize) -> Option<usize> {
         match self.seated(copy) {
             Some(seated) => Some(seated.round),
@@ -163,7 +160,7 @@ impl Colours {
         }
     }
 
-    // The copies that follow one another from a seat on, by turns of the one round and of the other; and the last one's other seat.
+    // The copies along a path of alternating rounds from a seat, and the last one's other seat.
     fn path(
         &self,
         alloc: Global,
@@ -192,7 +189,6 @@ impl Colours {
         Ok((copies, end))
     }
 
-    // The copies that are in the one of the two rounds go to the other.
     fn exchange(&mut self, copies: &[u32], first: usize, second: usize) {
         for copy in copies {
             if let Some(seated) = self.seated(*copy as usize) {
@@ -207,7 +203,7 @@ impl Colours {
         }
     }
 
-    // Gives a copy free seats of its groups in the round, if there are such.
+    // Gives a copy free seats in the round, if there are any.
     fn sit(&mut self, copy: usize, giver: usize, taker: usize, round: usize) {
         if let (Some(giver), Some(taker)) = (
             self.free_end(giver, round),
@@ -224,8 +220,8 @@ impl Colours {
         }
     }
 
-    // Gives a copy seats in a round in which both groups are free, and where there is no such round makes one by exchanging two rounds
-    // along a path of copies, if it can.
+    // Gives a copy seats in a round in which both groups are free. If there is none, tries to free one by swapping two
+    // rounds along a path.
     fn colour(
         &mut self,
         alloc: Global,

@@ -5,17 +5,16 @@ use ring_names::{NodeId, Refusal};
 use ring_table::{Allowance, NodeSide, Ring, Side};
 use std::alloc::Global;
 
-/// Two groups for each node: what is read from it, and what it receives. Where one number counts both, all is in the first.
+/// Two groups for each node: copies read from it, and copies that it receives. If one number counts both, all are in the first.
 #[derive(Drop)]
 pub struct Groups {
-    // the most transfers of each group that may be open at once; 0 for a second group that is not used, and for those of nodes that are barred
+    // the most open transfers of each group; 0 for an unused second group, and for barred nodes
     most: Vec<u32>,
-    // how many nodes are barred
     barred: u32,
 }
 
 impl Groups {
-    /// The groups of a ring's nodes.
+    /// Makes the groups of a ring's nodes.
     pub fn of(alloc: Global, ring: &Ring) -> Result<Groups, Refusal> {
         let mut most = Vec::new(alloc);
         for node in ring.nodes() {
@@ -29,7 +28,7 @@ impl Groups {
         Ok(Groups { most, barred: 0 })
     }
 
-    /// Lets no transfer read from the node or go to it.
+    /// Bars the node: no transfer may read from it or go to it.
     pub fn bar(&mut self, node: u32) {
         let first = self.giver(node);
         set(&mut self.most, first, 0);
@@ -42,27 +41,27 @@ impl Groups {
         self.most(self.giver(node)) == 0
     }
 
-    /// Whether some node is.
+    /// Whether any node is barred.
     pub fn has_barred(&self) -> bool {
         self.barred > 0
     }
 
-    /// How many groups there are.
+    /// Counts the groups.
     pub fn len(&self) -> usize {
         self.most.len()
     }
 
-    /// The most transfers of the group that may be open at once; 0 where there is no such group.
+    /// Returns the most open transfers of the group; 0 if it does not exist.
     pub fn most(&self, group: usize) -> u32 {
         at(&self.most, group)
     }
 
-    /// The group of what is read from the node.
+    /// Returns the group of copies read from the node.
     pub fn giver(&self, node: u32) -> usize {
         (node as usize).saturating_mul(2)
     }
 
-    /// The group of what the node receives.
+    /// Returns the group of copies that the node receives.
     pub fn taker(&self, node: u32) -> usize {
         let first = self.giver(node);
         let second = first.saturating_add(1);
@@ -73,7 +72,7 @@ impl Groups {
         }
     }
 
-    /// The group as a side of its node.
+    /// Returns the group as a side of its node.
     pub fn side(&self, group: u32) -> NodeSide {
         let node = NodeId(group / 2);
         if group % 2 == 1 {

@@ -1,4 +1,4 @@
-//! The plan by which a ring's slots get other owners.
+//! Plans the change of slots' owners.
 
 use crate::groups::Groups;
 use crate::layout::Layout;
@@ -13,18 +13,17 @@ use ring_names::{Listed, NodeId, Refusal, Slot};
 use ring_table::Ring;
 use std::alloc::Global;
 
-/// A ring, the owners that its slots shall have, the members that come and go, and the nodes that are dead for good.
+/// A ring, the wanted owners, the members that come and go, and the dead nodes.
 #[derive(Clone, Copy)]
 pub struct Handover<'a> {
     pub alloc: Global,
     pub ring: &'a Ring,
-    /// By partition. Each has as many different owners as before, in any order.
+    /// By partition, as many different owners as before, in any order.
     pub rows: &'a [Listed<NodeId>],
     pub turnover: Turnover<'a>,
     pub dead: &'a [NodeId],
 }
 
-// The owners of a partition's slots.
 fn owners(rows: &[Listed<NodeId>], partition: usize) -> &[NodeId] {
     match rows.get(partition) {
         Some(row) => row.as_slice(),
@@ -32,12 +31,11 @@ fn owners(rows: &[Listed<NodeId>], partition: usize) -> &[NodeId] {
     }
 }
 
-// Whether the row has the node.
 fn has(row: &[NodeId], node: NodeId) -> bool {
     row.iter().any(|other| other.0 == node.0)
 }
 
-// The next node of the list, from the place on, that the row has not; the place after it comes too.
+// The next node of the list that the row lacks, and the place after it.
 fn next_new(nodes: &[NodeId], row: &[NodeId], from: usize) -> Option<(NodeId, usize)> {
     for place in from..nodes.len() {
         if let Some(node) = nodes.get(place) {
@@ -50,7 +48,7 @@ fn next_new(nodes: &[NodeId], row: &[NodeId], from: usize) -> Option<(NodeId, us
 }
 
 impl<'a> Handover<'a> {
-    // The transfers that nodes bear at once; none goes to a dead one or reads from it.
+    // The transfers that nodes bear at once; dead ones are barred.
     fn groups(&self) -> Result<Groups, Refusal> {
         let mut groups = Groups::of(self.alloc, self.ring)?;
         for node in self.dead {
@@ -59,7 +57,7 @@ impl<'a> Handover<'a> {
         Ok(groups)
     }
 
-    // Adds the moves of a partition: the slots whose owners it loses go in order to the nodes that it gains.
+    // Adds the moves of a partition: the slots of lost owners go in order to the gained ones.
     fn push_moves(
         &self,
         layout: &mut Layout,
@@ -91,7 +89,7 @@ impl<'a> Handover<'a> {
         Ok(())
     }
 
-    // The moves, by partition and index, as few as can be; the layout holds afterwards which slots these are.
+    // The fewest moves, by partition and index. Marks these slots in the layout.
     fn moves(&self, layout: &mut Layout) -> Result<Vec<Move>, Refusal> {
         let mut out = Vec::new(self.alloc);
         for partition in 0..layout.partitions {
@@ -100,8 +98,11 @@ impl<'a> Handover<'a> {
         Ok(out)
     }
 
-    /// The plan after which the slots have these owners, and its certificate. Owners of a partition are compared as sets, so no slot moves that need not.
-    /// Refused as `NoPlan` where a slot of a dead node moves and fewer than R others can be read; and want of memory as `OutOfMemory`.
+    /// Returns the plan that gives the slots these owners, and its certificate. Owners are compared as sets, so
+    /// no slot moves needlessly.
+    ///
+    /// Fails with `NoPlan` if a dead node's slot moves and fewer than R others can be read, or with
+    /// `OutOfMemory`.
     pub fn plan(&self) -> Result<(Plan, Cert), Refusal> {
         let groups = self.groups()?;
         let mut layout = Layout::of(self.alloc, self.ring)?;

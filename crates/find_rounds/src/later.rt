@@ -1,11 +1,11 @@
-//! Rounds in turn: each copy takes the first round in which all of its groups are free, from the last on that each of them has taken part in.
+//! Rounds in turn: each copy takes the first round, from its groups' last ones on, in which all its groups are free.
 
 use crate::groups::Groups;
 use helpers::{at, raise, set};
 use ring_names::Refusal;
 use std::alloc::Global;
 
-/// The last round of each group, and how many copies it has there.
+/// The last round of each group, and its copies there.
 #[derive(Drop)]
 pub struct Later {
     last: Vec<u32>,
@@ -13,7 +13,7 @@ pub struct Later {
 }
 
 impl Later {
-    /// So many groups, which are free from the round on.
+    /// Groups that are free from the round on.
     pub fn of(alloc: Global, groups: usize, round: u32) -> Result<Later, Refusal> {
         Ok(Later {
             last: vec![in alloc; round; groups]?,
@@ -38,7 +38,7 @@ impl Later {
         raise(&mut self.taken, group);
     }
 
-    /// The round of the next copy, in which these groups take part.
+    /// Returns the round of the next copy of these groups.
     pub fn round(&mut self, groups: &Groups, parties: &[u32]) -> u32 {
         let mut round = 0u32;
         for group in parties {

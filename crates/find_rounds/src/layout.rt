@@ -8,16 +8,16 @@ use std::alloc::Global;
 /// The owners of a ring's slots by place, partition by partition, and which slots move.
 #[derive(Drop)]
 pub struct Layout {
-    /// How many partitions there are, and how many slots each of them has.
+    /// The number of partitions, and of slots in each.
     pub partitions: usize,
     pub slots: usize,
     owners: Vec<u32>,
-    // of each slot 1 where it moves, and else 0
+    // by slot, 1 if it moves
     moving: Vec<u32>,
 }
 
 impl Layout {
-    /// The ring's owners; no slot moves yet.
+    /// The ring's owners, without moves.
     pub fn of(alloc: Global, ring: &Ring) -> Result<Layout, Refusal> {
         let mut owners = Vec::new(alloc);
         for row in ring.rows() {
@@ -34,22 +34,22 @@ impl Layout {
         })
     }
 
-    /// The place of a slot among all.
+    /// Returns the place of a slot.
     pub fn place(&self, partition: usize, index: usize) -> usize {
         partition.saturating_mul(self.slots).saturating_add(index)
     }
 
-    /// The place among all slots of this one.
+    /// Returns the place of a slot.
     pub fn place_of(&self, slot: Slot) -> usize {
         self.place(slot.partition as usize, slot.index as usize)
     }
 
-    /// How many slots there are.
+    /// Counts the slots.
     pub fn total(&self) -> usize {
         self.owners.len()
     }
 
-    /// The owner of the slot at the place.
+    /// Returns the owner of the slot at the place.
     pub fn owner(&self, place: usize) -> u32 {
         at(&self.owners, place)
     }
@@ -59,7 +59,7 @@ impl Layout {
         at(&self.moving, place) != 0
     }
 
-    /// Lets the slot at the place move away from its owner.
+    /// Lets the slot at the place move.
     pub fn let_move(&mut self, place: usize) {
         set(&mut self.moving, place, 1);
     }

@@ -1,5 +1,5 @@
-//! Moves of slots put into rounds, and the plan and the certificate of such moves: copies that may run at once, as many as allowances permit, each behind the
-//! one whose place it takes. Nothing is promised of what is made but that the checker can be asked.
+//! Puts moves into rounds, and makes their plan and certificate. As many copies run at once as allowances permit, each
+//! after the one whose place it takes. Nothing is proved of the results: the checker judges them.
 #![tactic(auto)]
 
 mod both_texts;

@@ -1,7 +1,7 @@
-//! Copies that read listed slots in place of the owner.
+//! Copies that read listed slots instead of the owner.
 //!
-//! What one node gives limits how soon it can be left: from its own slots all is read at its pace. From R slots that do not move, a copy loads their owners
-//! instead, each a little. It costs R + 1 parties in place of 2, so it is done only where it saves at least half of the rounds.
+//! A node that leaves gives all its slots at its own pace. A copy from R slots that stay loads their owners instead,
+//! each a little. This needs R + 1 parties instead of 2, and is used only if at least half of the rounds are saved.
 
 use crate::groups::Groups;
 use crate::moving::Move;
@@ -10,31 +10,29 @@ use crate::task::Task;
 use helpers::{at, lower, parts, raise, small};
 use ring_names::{Refusal, Rows};
 
-// The slots, by index, that each move's copy lists; none where it reads the owner.
+// The slots that each copy lists, by index. None if it reads the owner.
 #[derive(Drop)]
 struct Listing {
-    // of each move, ascending
+    // by move, ascending
     slots: Rows,
-    // those of the move at hand
+    // those of the current move
     row: Vec<u32>,
     // how many copies each group has
     counts: Vec<u32>,
 }
 
-// Slots that move, or that do not.
 #[derive(Clone, Copy, PartialEq, Eq)]
 enum Which {
     Staying,
     Moving,
 }
 
-// How many copies the group may have in so many rounds.
 fn most(groups: &Groups, group: usize, rounds: u32) -> u32 {
     groups.most(group).saturating_mul(rounds)
 }
 
 impl Listing {
-    // How much of so many rounds the owner of the slot has left, in parts of 64; none where it has nothing left.
+    // How much of the rounds the slot's owner has left, in parts of 64. None if nothing.
     fn left(&self, task: &Task, place: usize, rounds: u32) -> Option<u32> {
         let (layout, groups) = (task.layout, task.groups);
         let group = groups.giver(layout.owner(place));
@@ -45,7 +43,7 @@ impl Listing {
         left.saturating_mul(64).checked_div(groups.most(group))
     }
 
-    // The first slot of the partition that moves, or that does not, besides those that are listed, whose owner has most left.
+    // The first unlisted slot of the partition, moving or staying, whose owner has most left.
     fn best(&self, task: &Task, partition: usize, rounds: u32, which: Which) -> Option<u32> {
         let layout = task.layout;
         let mut best = None;
@@ -62,7 +60,6 @@ impl Listing {
         best
     }
 
-    // A copy reads the listed slots and no longer the owner.
     fn count(&mut self, task: &Task, step: &Move) {
         let (layout, groups) = (task.layout, task.groups);
         if self.row.is_empty() {
@@ -75,7 +72,7 @@ impl Listing {
         }
     }
 
-    // Lists R slots for a copy whose owner has more than so many rounds allow; none where there are fewer.
+    // Lists R slots for a copy whose owner has too many for the rounds. None if there are fewer.
     fn list(&mut self, task: &Task, step: &Move, rounds: u32) -> Result<(), Refusal> {
         self.row.clear();
         let giver = task.groups.giver(step.from);
@@ -94,7 +91,7 @@ impl Listing {
         self.slots.push(&self.row)
     }
 
-    // Lists slots for each move. Answers whether no group has more copies than so many rounds allow.
+    // Lists slots for each move. Returns whether the rounds suffice for each group.
     fn list_all(&mut self, task: &Task, rounds: u32) -> Result<bool, Refusal> {
         let groups = task.groups;
         self.counts = counts(task.alloc, groups, task.moves)?;
@@ -104,7 +101,6 @@ impl Listing {
         Ok(self.fits(groups, rounds))
     }
 
-    // Whether no group has more copies than so many rounds allow.
     fn fits(&self, groups: &Groups, rounds: u32) -> bool {
         for group in 0..groups.len() {
             if at(&self.counts, group) > most(groups, group, rounds) {
@@ -114,7 +110,7 @@ impl Listing {
         true
     }
 
-    // Lists R slots for a copy whose owner is barred, those that stay first; answers whether there are as many.
+    // Lists R slots for a copy with a barred owner, staying ones first. Returns whether there are R.
     fn list_around(&mut self, task: &Task, step: &Move, rounds: u32) -> Result<bool, Refusal> {
         self.row.clear();
         if task.groups.is_barred(step.from) {
@@ -134,7 +130,7 @@ impl Listing {
         Ok(true)
     }
 
-    // Lists slots for each copy whose owner is barred. Answers whether there are as many slots, and no group has more copies than so many rounds allow.
+    // Lists slots for all copies with barred owners. Returns whether there are enough, and the rounds suffice for each group.
     fn list_all_around(&mut self, task: &Task, rounds: u32) -> Result<bool, Refusal> {
         self.counts = counts(task.alloc, task.groups, task.moves)?;
         for step in task.moves {
@@ -146,7 +142,6 @@ impl Listing {
     }
 }
 
-// Nothing is listed yet.
 fn nothing_listed(task: &Task) -> Listing {
     Listing {
         slots: Rows::new(task.alloc),
@@ -155,14 +150,14 @@ fn nothing_listed(task: &Task) -> Listing {
     }
 }
 
-// Which copies list slots: those whose owners have too much to give, or those whose owners are barred.
+// Which copies list slots: those of overloaded owners, or those of barred ones.
 #[derive(Clone, Copy)]
 enum Listed {
     Loaded,
     Barred,
 }
 
-// Sources by which so many rounds may be enough, if that is found.
+// Sources for which the rounds may suffice, if found.
 fn try_rounds(task: &Task, listed: Listed, rounds: u32) -> Result<Option<Rows>, Refusal> {
     let mut listing = nothing_listed(task);
     let is_enough = match listed {
@@ -172,7 +167,7 @@ fn try_rounds(task: &Task, listed: Listed, rounds: u32) -> Result<Option<Rows>, 
     Ok(if is_enough { Some(listing.slots) } else { None })
 }
 
-// Sources for the fewest rounds, at most so many, that are found to be enough. The limits meet after as many turns as a number has bits.
+// Sources for the fewest rounds, up to `most`. The search halves a range of 32 bits.
 fn search(task: &Task, listed: Listed, most: u32) -> Result<Option<Rows>, Refusal> {
     let (mut low, mut high) = (1u32, most);
     let mut found = None;
@@ -192,15 +187,17 @@ fn search(task: &Task, listed: Listed, most: u32) -> Result<Option<Rows>, Refusa
     Ok(found)
 }
 
-/// The slots, by index, that each copy lists whose owner is barred, so that the fewest rounds may be enough: of each partition R whose owners are not, those that
-/// stay first. None where a partition has not as many.
+/// Returns the slots that each copy with a barred owner lists, for the fewest rounds. None if a partition lacks
+/// them.
+///
+/// They are R of its partition with live owners, staying ones first.
 pub fn around(task: &Task) -> Result<Option<Rows>, Refusal> {
-    // So many rounds are enough for all copies one after the other.
+    // Enough rounds for all copies one after the other.
     let most = small(task.moves.len()).saturating_mul(8).saturating_add(1);
     search(task, Listed::Barred, most)
 }
 
-/// The fewest rounds that allowances permit to copies from owners.
+/// Returns the fewest rounds that allowances permit for copies from owners.
 pub fn fewest(groups: &Groups, counts: &[u32]) -> u32 {
     let mut most = 0u32;
     for group in 0..groups.len() {
@@ -209,12 +206,12 @@ pub fn fewest(groups: &Groups, counts: &[u32]) -> u32 {
     most
 }
 
-/// Whether so few rounds are worth the copies' more parties: at most half, and at least four fewer.
+/// Whether the rounds are worth more parties: at most half as many, and at least four fewer.
 pub fn is_worth(rounds: u32, from_owners: u32) -> bool {
     rounds.saturating_mul(2) <= from_owners && rounds.saturating_add(4) <= from_owners
 }
 
-/// The slots, by index, that each move's copy lists, so that the fewest rounds may be enough; none where it reads the owner.
+/// Returns the slots that each copy lists, for the fewest rounds. None if it reads the owner.
 pub fn sources(task: &Task) -> Result<Option<Rows>, Refusal> {
     let groups = task.groups;
     let from_owners = fewest(groups, &counts(task.alloc, groups, task.moves)?);

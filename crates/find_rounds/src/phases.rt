@@ -1,4 +1,4 @@
-//! Copies that list slots which move, and the moves of these slots behind them.
+//! Copies that list moving slots, and the moves of these slots after them.
 
 use crate::later::Later;
 use crate::task::Task;
@@ -7,7 +7,7 @@ use helpers::{at, row, set, small};
 use ring_names::{Refusal, Rows};
 use std::alloc::Global;
 
-// By place of a slot the number of its move, counted from 1; 0 where it does not move.
+// By place of a slot, 1 plus the number of its move, or 0.
 fn by_place(task: &Task) -> Result<Vec<u32>, Refusal> {
     let layout = task.layout;
     let mut numbers = vec![in task.alloc; 0u32; layout.total()]?;
@@ -19,7 +19,7 @@ fn by_place(task: &Task) -> Result<Vec<u32>, Refusal> {
     Ok(numbers)
 }
 
-/// By copy the moves of the slots that it lists: their copies come after it.
+/// Returns, by copy, the moves of its listed slots: their copies come after it.
 pub fn followers(task: &Task, listed: &Rows) -> Result<Rows, Refusal> {
     let (layout, numbers) = (task.layout, by_place(task)?);
     let mut behind = Rows::new(task.alloc);
@@ -38,7 +38,7 @@ pub fn followers(task: &Task, listed: &Rows) -> Result<Rows, Refusal> {
     Ok(behind)
 }
 
-// By copy, whether it comes behind others.
+// By copy, whether it comes after others.
 fn are_late(task: &Task, behind: &Rows) -> Result<Vec<bool>, Refusal> {
     let mut marks = vec![in task.alloc; false; task.moves.len()]?;
     for copy in 0..behind.len() {
@@ -51,7 +51,6 @@ fn are_late(task: &Task, behind: &Rows) -> Result<Vec<bool>, Refusal> {
     Ok(marks)
 }
 
-// The numbers of the copies of which that is so.
 fn numbers_of(alloc: Global, marks: &[bool], mark: bool) -> Result<Vec<u32>, Refusal> {
     let mut numbers = Vec::new(alloc);
     for number in 0..marks.len() {
@@ -62,7 +61,7 @@ fn numbers_of(alloc: Global, marks: &[bool], mark: bool) -> Result<Vec<u32>, Ref
     Ok(numbers)
 }
 
-// Rounds of copies that come behind others: the first that is free, and the round of each copy.
+// Rounds of copies in phases: the first free one, and that of each copy.
 #[derive(Drop)]
 struct Phases {
     next: u32,
@@ -70,7 +69,7 @@ struct Phases {
 }
 
 impl Phases {
-    // Gives these copies the next rounds, by urgency, or in turn where that would take too long.
+    // Gives these copies the next rounds, by urgency, or in turn if that takes too long.
     fn add(&mut self, task: &Task, parties: &Rows, numbers: &[u32]) -> Result<(), Refusal> {
         let alloc = task.alloc;
         let mut rows = Rows::new(alloc);
@@ -88,7 +87,6 @@ impl Phases {
         Ok(())
     }
 
-    // Those copies have these rounds, counted from the first on.
     fn set(&mut self, numbers: &[u32], found: &[u32], first: u32) {
         let mut place = 0usize;
         for number in numbers {
@@ -102,7 +100,6 @@ impl Phases {
     }
 }
 
-// Rounds in turn.
 fn in_turn(task: &Task, parties: &Rows) -> Result<Vec<u32>, Refusal> {
     let mut later = Later::of(task.alloc, task.groups.len(), 0)?;
     let mut rounds = Vec::new(task.alloc);
@@ -112,7 +109,7 @@ fn in_turn(task: &Task, parties: &Rows) -> Result<Vec<u32>, Refusal> {
     Ok(rounds)
 }
 
-/// Rounds of copies in two phases: those that come behind others come behind all that do not.
+/// Returns rounds in two phases: copies that follow others come after all that do not.
 pub fn in_phases(task: &Task, parties: &Rows, behind: &Rows) -> Result<Vec<u32>, Refusal> {
     let late = are_late(task, behind)?;
     let mut phases = Phases {

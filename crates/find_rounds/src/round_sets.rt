@@ -3,19 +3,17 @@
 use ring_names::Refusal;
 use std::alloc::Global;
 
-// How many rounds one word of a set has.
 const WORD: usize = 64;
 
-/// Of each group a set of rounds.
+/// A set of rounds for each group.
 #[derive(Drop)]
 pub struct RoundSets {
-    // how many words each set has
+    // the words of each set
     words: usize,
-    // the sets, one behind the other, a bit for each round
+    // the sets, a bit for each round
     bits: Vec<u64>,
 }
 
-// The first rounds of a word, so many of them.
 fn first_rounds(count: usize) -> u64 {
     if count >= WORD {
         return u64::MAX;
@@ -23,13 +21,12 @@ fn first_rounds(count: usize) -> u64 {
     (1u64 << (count as u32 % 64)).saturating_sub(1)
 }
 
-// The bit of a round in its word.
 fn bit(round: usize) -> u64 {
     1u64 << ((round % WORD) as u32 % 64)
 }
 
 impl RoundSets {
-    /// No group has a set yet.
+    /// Starts without sets.
     pub fn new(alloc: Global) -> RoundSets {
         RoundSets {
             words: 0,
@@ -37,7 +34,7 @@ impl RoundSets {
         }
     }
 
-    /// All rounds of all groups.
+    /// Fills the sets of all groups with all rounds.
     pub fn fill(&mut self, groups: usize, rounds: usize) -> Result<(), Refusal> {
         self.words = rounds.saturating_add(63) / WORD;
         for _ in 0..groups {
@@ -60,7 +57,7 @@ impl RoundSets {
         }
     }
 
-    /// Puts the round into the group's set, or takes it out.
+    /// Adds the round to the group's set, or removes it.
     pub fn put(&mut self, group: usize, round: usize, is_in: bool) {
         let place = self.place(group, round / WORD);
         if let Some(bits) = self.bits.get_mut(place) {
@@ -72,7 +69,7 @@ impl RoundSets {
         }
     }
 
-    /// The least round that is in the sets of both groups, which may be one group.
+    /// Returns the least round in the sets of both groups, which may be the same.
     pub fn common(&self, first: usize, second: usize) -> Option<usize> {
         for word in 0..self.words {
             let both = self.word(first, word) & self.word(second, word);

@@ -12,7 +12,7 @@ use helpers::{raise, row, small};
 use ring_names::{Refusal, Rows};
 use std::alloc::Global;
 
-/// How many copies from owners each group has.
+/// Counts the copies from owners by group.
 pub fn counts(alloc: Global, groups: &Groups, moves: &[Move]) -> Result<Vec<u32>, Refusal> {
     let mut counts = vec![in alloc; 0u32; groups.len()]?;
     for step in moves {
@@ -22,16 +22,16 @@ pub fn counts(alloc: Global, groups: &Groups, moves: &[Move]) -> Result<Vec<u32>
     Ok(counts)
 }
 
-/// Moves by rounds: the groups that take part in each copy, the slots that it lists, and its round.
+/// The rounds of moves, the groups of their copies, and their listed slots.
 #[derive(Drop)]
 pub struct Schedule {
     pub parties: Rows,
-    /// The slots that each copy lists, ascending; none where it reads the owner.
+    /// By copy, its listed slots, ascending. None if it reads the owner.
     pub listed: Rows,
     rounds: Vec<u32>,
 }
 
-// The groups that take part in a copy: those whose slots it lists, or the owner's, and the one that receives it.
+// The groups that a copy reads from, and the receiver.
 fn parties(task: &Task, step: &Move, listed: &[u32]) -> Result<Vec<u32>, Refusal> {
     let (layout, groups) = (task.layout, task.groups);
     let mut parties = Vec::new(task.alloc);
@@ -46,7 +46,7 @@ fn parties(task: &Task, step: &Move, listed: &[u32]) -> Result<Vec<u32>, Refusal
     Ok(parties)
 }
 
-// The rounds of copies that have seats, and behind these in turn those of copies that found none.
+// The rounds of copies with seats; copies without seats follow in turn.
 fn seated(task: &Task, colours: &Colours, parties: &Rows) -> Result<Vec<u32>, Refusal> {
     let (alloc, groups) = (task.alloc, task.groups);
     let mut rounds = Vec::new(alloc);
@@ -61,7 +61,7 @@ fn seated(task: &Task, colours: &Colours, parties: &Rows) -> Result<Vec<u32>, Re
 }
 
 impl Schedule {
-    /// No move has a round yet.
+    /// Starts without rounds.
     pub fn new(alloc: Global) -> Schedule {
         Schedule {
             parties: Rows::new(alloc),
@@ -70,7 +70,6 @@ impl Schedule {
         }
     }
 
-    // The groups that take part in each copy, by the slots that copies list.
     fn add_parties(&mut self, task: &Task) -> Result<(), Refusal> {
         self.parties = Rows::new(task.alloc);
         let mut number = 0usize;
@@ -82,7 +81,6 @@ impl Schedule {
         Ok(())
     }
 
-    // Copies from owners.
     fn read_owners(&mut self, task: &Task) -> Result<(), Refusal> {
         let alloc = task.alloc;
         let mut colours = Colours::new(alloc);
@@ -91,7 +89,7 @@ impl Schedule {
         Ok(())
     }
 
-    // Copies of which some list slots. Answers whether that saves enough rounds.
+    // Tries copies from listed slots. Returns whether that saves enough rounds.
     fn read_listed(&mut self, task: &Task) -> Result<bool, Refusal> {
         let (alloc, groups) = (task.alloc, task.groups);
         let Some(rounds) = by_urgency(alloc, groups, &self.parties, &Rows::new(alloc))? else {
@@ -105,7 +103,7 @@ impl Schedule {
         Ok(true)
     }
 
-    // Copies read their owners, but where it saves at least half of the rounds some list R slots that do not move.
+    // Lets copies read their owners, or some R staying slots if that saves at least half of the rounds.
     fn read_all(&mut self, task: &Task) -> Result<(), Refusal> {
         if let Some(listed) = sources(task)? {
             self.listed = listed;
@@ -119,7 +117,6 @@ impl Schedule {
         self.read_owners(task)
     }
 
-    // How many rounds there are.
     fn count(&self) -> u32 {
         let mut count = 0u32;
         for round in self.rounds.iter() {
@@ -128,7 +125,7 @@ impl Schedule {
         count
     }
 
-    // Takes rounds by urgency where these are fewer; behind each copy come those of its row.
+    // Takes rounds by urgency if they are fewer. Copies of `behind` follow.
     fn try_urgency(&mut self, task: &Task, behind: &Rows) -> Result<(), Refusal> {
         if let Some(rounds) = by_urgency(task.alloc, task.groups, &self.parties, behind)? {
             if rounds.count < self.count() {
@@ -138,8 +135,8 @@ impl Schedule {
         Ok(())
     }
 
-    // Copies that read around the groups that are barred. A slot that such a copy lists moves in a later round: behind all others, or, where that takes fewer
-    // rounds, behind the copies that list it.
+    // Lets copies read around barred groups. A slot listed so moves in a later round: after all other copies, or after
+    // those that list it if that takes fewer rounds.
     fn read_around(&mut self, task: &Task) -> Result<(), Refusal> {
         let Some(listed) = around(task)? else {
             return Err(Refusal::NoPlan);
@@ -154,18 +151,18 @@ impl Schedule {
         Ok(())
     }
 
-    /// Gives the moves rounds, in each of which a group has no more copies than its allowance. No copy reads from a barred group, but lists R slots of other
-    /// owners. Refused as `NoPlan` where a partition has not as many.
+    /// Gives the moves rounds, within the allowances. Copies of barred owners list R slots of others. Fails with
+    /// `NoPlan` if a partition lacks them.
     pub fn fill(&mut self, task: &Task) -> Result<(), Refusal> {
         if task.groups.has_barred() {
             return self.read_around(task);
         }
         self.read_all(task)?;
-        // Where nodes both give and take, colours may need more.
+        // If nodes give and take, colours may need more rounds.
         self.try_urgency(task, &Rows::new(task.alloc))
     }
 
-    /// The moves by round, and in a round by partition and index: the round of each, and its place among the moves.
+    /// Returns pairs (round, index into moves), sorted by round, partition and slot index.
     pub fn order(&self, alloc: Global) -> Result<Vec<(u32, u32)>, Refusal> {
         let mut order = Vec::new(alloc);
         for round in self.rounds.iter() {

@@ -1,4 +1,4 @@
-//! A plan to which steps are added that may be refused.
+//! Adds steps to a plan, within its limits.
 
 ghost use Rattle.std.specs.Prelude.{◌≡◌, ◌≤◌, ◌<◌, ◌+◌, true, length, nat_lt};
 ghost use Rattle.std.specs.List.{list_all};
@@ -9,7 +9,7 @@ ghost use Rattle.plan_text.specs.Valid.{HasSources, IsPlanned};
 use plan_text::{Plan, Source, Step};
 use ring_names::Refusal;
 
-// The most steps, dependencies of a step, and dependencies together that a plan has.
+// The limits of a plan: steps, dependencies of a step, and dependencies in all.
 const STEPS: u32 = 131_072;
 
 const AFTER: usize = 4_096;
@@ -34,7 +34,6 @@ fn are_below(numbers: &[u32], limit: u32) -> bool
     numbers.iter().all(|x| *x < limit)
 }
 
-// Whether a copy lists 1 to 7 slots, where it lists any.
 fn has_sources(step: &Step) -> bool
     ensures { result ≡ true → HasSources step.now }
 {
@@ -52,14 +51,12 @@ fn has_sources(step: &Step) -> bool
     }
 }
 
-// Whether the plan can have the step as its next one.
 fn has_place(plan: &Plan, step: &Step, after: &[u32]) -> bool
     ensures { result ≡ true → IsPlanned (length plan.now) (record { step = step.now; after = after.now }) }
 {
     is_ascending(after) && after.len() <= AFTER && are_below(after, plan.len()) && has_sources(step)
 }
 
-// Whether the plan has room for one more step with so many dependencies.
 fn has_room(plan: &Plan, more: usize) -> bool
     ensures steps { result ≡ true → length plan.now < 131072 }
     ensures dependencies { result ≡ true → dependencies plan.now + more ≤ 524288 }
@@ -67,7 +64,7 @@ fn has_room(plan: &Plan, more: usize) -> bool
     plan.len() < STEPS && more <= AFTER && plan.dependencies() as usize + more <= DEPENDENCIES
 }
 
-/// Adds a step behind the others and returns its number. Refused as `NoPlan` where the plan has no place for it.
+/// Adds a step and returns its number. Fails with `NoPlan` if the plan cannot have it.
 pub fn add(plan: &mut Plan, step: Step, after: &[u32]) -> Result<u32, Refusal> {
     let number = plan.len();
     if !has_room(plan, after.len()) {

@@ -5,7 +5,7 @@ use crate::layout::Layout;
 use crate::moving::Move;
 use std::alloc::Global;
 
-/// Moves of slots, the groups of which each takes part in some, and how many slots a copy must list if it does not read its owner.
+/// Moves, the groups of their copies, and how many slots a copy must list if it does not read its owner.
 #[derive(Clone, Copy)]
 pub struct Task<'a> {
     pub alloc: Global,

@@ -1,10 +1,9 @@
-//! Rounds by urgency: in each the groups that have most left come first. It takes copies with any number of parties.
+//! Rounds by urgency: the groups with most left come first. Copies can have any number of parties.
 //!
-//! A copy waits in the queue of the group that needed most rounds when the copy came there. In a round the groups with a queue are served by their
-//! needs, each until it has as many copies as its allowance, or until some copies in turn found another group full. So a round looks at few copies that do not
-//! get a place in it, and all of them together at few more than there are.
+//! A copy waits in the queue of its group that then needs most rounds. In a round, groups are served by need, until
+//! their allowance is used or some copies in turn found another group full. So a round looks at few copies in vain.
 //!
-//! A copy that must come behind others waits in no queue until each of these has a round; so those that others wait for are queued first.
+//! A copy that follows others is queued once they have rounds; copies that others follow are queued first.
 
 use crate::groups::Groups;
 use helpers::{at, lower, raise, row, set, small};
@@ -13,39 +12,36 @@ use std::alloc::Global;
 use std::cmp::Reverse;
 use std::collections::VecDeque;
 
-// How often groups and copies may be looked at in all.
+// The most looks at groups and copies in all.
 const LOOKS: usize = 16_000_000;
 
-// How many copies of a group may find no place in a round before the next group is served.
+// The most copies of a group without a place before the next group is served.
 const MISSES: u32 = 16;
 
-// Copies that wait for their round.
 #[derive(Drop)]
 struct Waiting<'a> {
     groups: &'a Groups,
-    // the groups that take part in each copy
+    // the groups of each copy
     parties: &'a Rows,
-    // the copies that each copy must come before
+    // by copy, the copies that follow it
     behind: &'a Rows,
-    // how many copies that wait each copy must come behind
+    // by copy, how many waiting copies it follows
     before: Vec<u32>,
-    // how many copies of each group wait
+    // by group, its waiting copies
     left: Vec<u32>,
-    // how many copies of each group are in the round
+    // by group, its copies in the round
     used: Vec<u32>,
-    // the copies that wait, by group
+    // the waiting copies, by group
     queues: Vec<VecDeque<u32>>,
-    // the copies that wait for the end of the round, behind one that is in it
+    // the copies to queue after the round, since they follow one in it
     next: Vec<u32>,
-    // the round of each copy that has one
+    // the round of each copy, if it has one
     rounds: Vec<u32>,
-    // how many copies wait
     count: usize,
     looks: usize,
 }
 
 impl<'a> Waiting<'a> {
-    // All copies wait.
     fn begin(&mut self, alloc: Global) -> Result<(), Refusal> {
         self.left = vec![in alloc; 0u32; self.groups.len()]?;
         self.before = vec![in alloc; 0u32; self.count]?;
@@ -65,7 +61,7 @@ impl<'a> Waiting<'a> {
         self.queue_all(false)
     }
 
-    // The copies that come behind none wait in queues: those that others come behind, or those that none does.
+    // Queues the copies that follow none: those that others follow, or the rest.
     fn queue_all(&mut self, is_before: bool) -> Result<(), Refusal> {
         for copy in 0..self.count {
             let is_meant = row(self.behind, copy).is_empty() != is_before;
@@ -76,7 +72,7 @@ impl<'a> Waiting<'a> {
         Ok(())
     }
 
-    // How many rounds a group needs at least, in parts of 64.
+    // The fewest rounds that a group needs, in parts of 64.
     fn needs(&self, group: usize) -> u32 {
         let left = at(&self.left, group).saturating_mul(64);
         match left.checked_div(self.groups.most(group)) {
@@ -85,7 +81,6 @@ impl<'a> Waiting<'a> {
         }
     }
 
-    // The copy's group that needs most rounds.
     fn leader(&self, copy: u32) -> usize {
         let mut leader = 0usize;
         let mut most = None;
@@ -99,7 +94,6 @@ impl<'a> Waiting<'a> {
         leader
     }
 
-    // The copy waits behind the others of its leader.
     fn queue(&mut self, copy: u32) -> Result<(), Refusal> {
         let leader = self.leader(copy);
         if let Some(queue) = self.queues.get_mut(leader) {
@@ -108,7 +102,6 @@ impl<'a> Waiting<'a> {
         Ok(())
     }
 
-    // How many copies wait in the group's queue.
     fn queued(&self, group: usize) -> usize {
         match self.queues.get(group) {
             Some(queue) => queue.len(),
@@ -116,7 +109,6 @@ impl<'a> Waiting<'a> {
         }
     }
 
-    // The first copy of the group's queue, which waits there no longer.
     fn take(&mut self, group: usize) -> Option<u32> {
         match self.queues.get_mut(group) {
             Some(queue) => queue.pop_front(),
@@ -124,12 +116,10 @@ impl<'a> Waiting<'a> {
         }
     }
 
-    // Whether the group may have one more in the round.
     fn is_free(&self, group: usize) -> bool {
         at(&self.used, group) < self.groups.most(group)
     }
 
-    // Whether each of the copy's groups may have one more in the round.
     fn has_place(&self, copy: u32) -> bool {
         for group in row(self.parties, copy as usize) {
             if !self.is_free(*group as usize) {
@@ -139,7 +129,7 @@ impl<'a> Waiting<'a> {
         true
     }
 
-    // Of the copies that come behind this one, those that come behind no other wait for the end of the round.
+    // Releases the copies that follow only this one, after the round.
     fn free(&mut self, copy: u32) -> Result<(), Refusal> {
         for later in row(self.behind, copy as usize) {
             lower(&mut self.before, *later as usize);
@@ -150,7 +140,6 @@ impl<'a> Waiting<'a> {
         Ok(())
     }
 
-    // Gives the copy a place in the round.
     fn place(&mut self, copy: u32, round: u32) -> Result<(), Refusal> {
         set(&mut self.rounds, copy as usize, round);
         for group in row(self.parties, copy as usize) {
@@ -161,7 +150,7 @@ impl<'a> Waiting<'a> {
         self.free(copy)
     }
 
-    // Gives copies of the group's queue a place in the round, while the group is free.
+    // Serves the group's queue while the group is free.
     fn serve(&mut self, group: usize, round: u32) -> Result<(), Refusal> {
         let mut misses = 0u32;
         for _ in 0..self.queued(group) {
@@ -182,7 +171,7 @@ impl<'a> Waiting<'a> {
         Ok(())
     }
 
-    // The groups with a queue, each behind what it needs: those that need most come first.
+    // The groups with a queue, the greatest need first.
     fn order(&self, alloc: Global) -> Result<Vec<(Reverse<u32>, u32)>, Refusal> {
         let mut order = Vec::new(alloc);
         for group in 0..self.groups.len() {
@@ -194,7 +183,6 @@ impl<'a> Waiting<'a> {
         Ok(order)
     }
 
-    // The round has ended.
     fn end(&mut self) -> Result<(), Refusal> {
         for place in 0..self.next.len() {
             let copy = at(&self.next, place);
@@ -204,7 +192,6 @@ impl<'a> Waiting<'a> {
         Ok(())
     }
 
-    // Fills the round.
     fn fill(&mut self, alloc: Global, round: u32) -> Result<(), Refusal> {
         self.used = vec![in alloc; 0u32; self.groups.len()]?;
         let order = self.order(alloc)?;
@@ -215,7 +202,7 @@ impl<'a> Waiting<'a> {
         self.end()
     }
 
-    // Gives rounds to all copies, and answers how many rounds these are; none where it would take too long.
+    // Gives rounds to all copies. Returns how many there are, or none if it takes too long.
     fn all(&mut self, alloc: Global) -> Result<Option<u32>, Refusal> {
         self.begin(alloc)?;
         for round in 0..small(self.rounds.len()) {
@@ -234,14 +221,13 @@ impl<'a> Waiting<'a> {
     }
 }
 
-/// The rounds of copies, and how many these are.
+/// The rounds of copies, and their number.
 #[derive(Drop)]
 pub struct Rounds {
     pub count: u32,
     pub of_copies: Vec<u32>,
 }
 
-// All copies, before they are in queues.
 fn all_wait<'a>(
     alloc: Global,
     groups: &'a Groups,
@@ -263,7 +249,7 @@ fn all_wait<'a>(
     }
 }
 
-/// Rounds for copies in which these groups take part, and behind each of which the copies of that row come; none where it would take too long.
+/// Returns rounds for copies with these groups and followers. None if it takes too long.
 pub fn by_urgency<'a>(
     alloc: Global,
     groups: &'a Groups,

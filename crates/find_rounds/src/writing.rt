@@ -1,4 +1,4 @@
-//! The steps of a plan and the chains of its certificate, out of moves and their rounds.
+//! Writes the steps of a plan and its chains, from moves and rounds.
 
 use crate::moving::Move;
 use crate::rounds::Schedule;
@@ -10,27 +10,25 @@ use plan_text::{Plan, Source, Step};
 use ring_names::{Listed, Lists, NodeId, Refusal, Rows, Slot};
 use std::alloc::Global;
 
-/// The nodes that become members, and those that retire, by number.
+/// The nodes that join, and those that retire, by number.
 #[derive(Clone, Copy)]
 pub struct Turnover<'a> {
     pub joins: &'a [u32],
     pub retires: &'a [u32],
 }
 
-// A plan that is being written, and its certificate.
 #[derive(Drop)]
 struct Writer<'a> {
     task: &'a Task<'a>,
     plan: Plan,
     cert: Cert,
-    // the copies of each group, and the drops of each node, by number
+    // the copies of each group, and the drops of each node
     copies: Lists<u32, u32>,
     drops: Lists<u32, u32>,
-    // the copies that list a slot which moves, by the slot's place
+    // by place of a moving slot, the copies that list it
     readers: Lists<u32, u32>,
 }
 
-// Where a move's copy reads.
 fn source(alloc: Global, listed: &[u32]) -> Result<Source, Refusal> {
     if listed.is_empty() {
         return Ok(Source::Owner);
@@ -40,7 +38,6 @@ fn source(alloc: Global, listed: &[u32]) -> Result<Source, Refusal> {
 }
 
 impl<'a> Writer<'a> {
-    // The new members join.
     fn join(&mut self, nodes: &[u32]) -> Result<(), Refusal> {
         for node in nodes {
             add(&mut self.plan, Step::Join(NodeId(*node)), &[])?;
@@ -58,7 +55,7 @@ impl<'a> Writer<'a> {
         }
     }
 
-    // The copies that must be done before one in which these groups take part, ascending.
+    // The copies that must be done before one of these groups, ascending.
     fn links(&self, parties: &[u32]) -> Result<Vec<u32>, Refusal> {
         let mut links = Vec::new(self.task.alloc);
         for group in parties {
@@ -72,7 +69,7 @@ impl<'a> Writer<'a> {
         Ok(links)
     }
 
-    // The mirror of a move: behind the copies that its own copy must wait for, so that it does not stand open before that may begin.
+    // Adds the mirror, after the copies that its own copy waits for, so that it does not open early.
     fn mirror(&mut self, step: &Move, links: &[u32]) -> Result<u32, Refusal> {
         let node = NodeId(step.to);
         let mut after = Vec::new(self.task.alloc);
@@ -83,7 +80,6 @@ impl<'a> Writer<'a> {
         add(&mut self.plan, Step::Mirror(step.slot, node), &after)
     }
 
-    // The copy of a move, by the slots that it lists, behind its mirror.
     fn copy(&mut self, step: &Move, listed: &[u32], parties: &[u32]) -> Result<u32, Refusal> {
         let mut after = self.links(parties)?;
         let mirror = self.mirror(step, &after)?;
@@ -92,7 +88,6 @@ impl<'a> Writer<'a> {
         add(&mut self.plan, Step::Copy(step.slot, source), &after)
     }
 
-    // The slots that move and are listed by the copy have it as a reader.
     fn note_readers(&mut self, partition: u32, listed: &[u32], copy: u32) -> Result<(), Refusal> {
         let layout = self.task.layout;
         for index in listed {
@@ -104,7 +99,7 @@ impl<'a> Writer<'a> {
         Ok(())
     }
 
-    // The switch of a slot, behind its own copy and those that list the slot.
+    // Adds the switch of a slot, after its own copy and those that list the slot.
     fn switch(&mut self, slot: Slot, copy: u32) -> Result<u32, Refusal> {
         let place = small(self.task.layout.place_of(slot));
         let mut after = Vec::from_slice(self.task.alloc, self.readers.items(&place))?;
@@ -113,7 +108,7 @@ impl<'a> Writer<'a> {
         add(&mut self.plan, Step::Switch(slot), &after)
     }
 
-    // The node drops what it has of the slot, unless it is barred.
+    // Adds the drop, unless the node is barred.
     fn drop_behind(&mut self, slot: Slot, node: u32, switch: u32) -> Result<(), Refusal> {
         if self.task.groups.is_barred(node) {
             return Ok(());
@@ -122,7 +117,6 @@ impl<'a> Writer<'a> {
         self.drops.add(node, drop)
     }
 
-    // The steps of a move.
     fn add_move(&mut self, step: &Move, listed: &[u32], parties: &[u32]) -> Result<(), Refusal> {
         let slot = step.slot;
         let copy = self.copy(step, listed, parties)?;
@@ -134,7 +128,7 @@ impl<'a> Writer<'a> {
         self.drop_behind(slot, step.from, switch)
     }
 
-    // Members retire, each behind all its drops.
+    // Lets members retire after all their drops.
     fn retire(&mut self, nodes: &[u32]) -> Result<(), Refusal> {
         for node in nodes {
             add(
@@ -146,7 +140,7 @@ impl<'a> Writer<'a> {
         Ok(())
     }
 
-    // A chain of each so many-th copy of the group, from that one on.
+    // Adds a chain of every `most`-th copy of the group, from `first` on.
     fn add_chain(&mut self, group: u32, first: usize, most: usize) -> Result<(), Refusal> {
         let mut chain = Vec::new(self.task.alloc);
         let mut turn = 0usize;
@@ -159,7 +153,7 @@ impl<'a> Writer<'a> {
         self.cert.chains.push(self.task.groups.side(group), &chain)
     }
 
-    // As many chains for each group as it may have copies open, so that copies of uneven length wait for one another as little as can be.
+    // Adds as many chains for each group as it may have open copies, so that copies of uneven length wait little.
     fn add_chains(&mut self) -> Result<(), Refusal> {
         for group in 0..small(self.task.groups.len()) {
             let most = self.task.groups.most(group as usize) as usize;
@@ -170,7 +164,6 @@ impl<'a> Writer<'a> {
         Ok(())
     }
 
-    // The moves, and what comes before and behind them.
     fn add_all(&mut self, schedule: &Schedule, turnover: &Turnover) -> Result<(), Refusal> {
         self.join(turnover.joins)?;
         for (_, number) in schedule.order(self.task.alloc)?.iter() {
@@ -185,7 +178,7 @@ impl<'a> Writer<'a> {
     }
 }
 
-/// The plan of moves by their rounds, and its certificate. No step drops what a barred node has.
+/// Returns the plan of moves by rounds, and its certificate. Barred nodes drop nothing.
 pub fn write<'a>(
     task: &'a Task<'a>,
     schedule: &Schedule,

@@ -1,4 +1,5 @@
-//! Numbers and text for searches and for words: lists of numbers that are read and written by place, and text that is written word by word.
+//! Numbers and text for searches and for words. Lists of numbers are read and written by place, and text is
+//! written word by word.
 #![tactic(auto)]
 
 mod labels;

@@ -5,7 +5,7 @@ use ring_names::{Rows, Slot};
 /// The greatest number, which marks that there is none.
 pub const NONE: u32 = 4_294_967_295;
 
-/// The number at the place, and 0 where there is none.
+/// The number at the place, or 0 if the list does not reach it.
 pub fn at(numbers: &[u32], place: usize) -> u32 {
     match numbers.get(place) {
         Some(number) => *number,
@@ -41,7 +41,7 @@ pub fn lower(numbers: &mut [u32], place: usize) {
     }
 }
 
-/// The word at the place, and 0 where there is none.
+/// The word at the place, or 0 if the list does not reach it.
 pub fn word(words: &[u64], place: usize) -> u64 {
     match words.get(place) {
         Some(word) => *word,
@@ -71,7 +71,7 @@ pub fn put(marks: &mut [bool], place: u32, mark: bool) {
     }
 }
 
-/// The row of that place, and none where there is none.
+/// The row of that place, or an empty one if the rows do not reach it.
 pub fn row(rows: &Rows, place: usize) -> &[u32] {
     if place < rows.len() {
         return rows.row(place);
@@ -79,14 +79,14 @@ pub fn row(rows: &Rows, place: usize) -> &[u32] {
     &[]
 }
 
-/// Where a slot is kept: a partition has at most 7.
+/// The place in which a slot is kept: a partition has at most 7.
 pub fn place_of(slot: Slot) -> usize {
     (slot.partition as usize)
         .saturating_mul(7)
         .saturating_add(slot.index as usize)
 }
 
-/// The number where it is a `u32`, and the greatest `u32` where it is not.
+/// The number if it is a `u32`, and otherwise the greatest `u32`.
 pub fn small(number: usize) -> u32 {
     match u32::try_from(number) {
         Ok(number) => number,
@@ -107,7 +107,7 @@ pub fn parts(total: u32, size: u32) -> u32 {
     quotient(total.saturating_add(size).saturating_sub(1), size)
 }
 
-/// A share of a total, rounded to the nearest of so many parts; of nothing none.
+/// The share that a part has in a total, rounded to the nearest of so many parts; 0 if the total is 0.
 pub fn parts_of(part: u32, total: u32, parts: u32) -> u32 {
     let twice = u64::from(part)
         .saturating_mul(u64::from(parts))

@@ -72,7 +72,8 @@ impl Words {
         }
     }
 
-    /// Adds the words, with the next of the names for each `@` and the next of the numbers for each `#`; nothing where there are too few.
+    /// Adds the words, with the next name for each `@` and the next number for each `#`. Adds nothing for it if
+    /// there are too few.
     #[tactic(auto, using(crate::proofs::Growing::still))]
     pub fn fill(&mut self, words: &[u8], names: &[&[u8]], numbers: &[u32])
         ensures { self.old ≡ None → self.new ≡ None }

@@ -1,4 +1,4 @@
-//! Which partitions a part sees.
+//! The partitions that a part sees.
 
 ghost use Rattle.std.specs.Prelude.{◌≡◌, ◌<◌, ℕ, IfOk};
 ghost use Rattle.history_parts.specs.Parts.{is_marked};
@@ -7,7 +7,6 @@ ghost use Rattle.history_parts.specs.Choices.{is_chosen, IsChoice};
 use ring_names::Choice;
 use std::alloc::{AllocError, Global};
 
-// Whether the partition is one of them.
 fn is_chosen(choice: Choice, partition: u32) -> bool
     requires { IsChoice choice }
     ensures { result ≡ is_chosen choice partition }
@@ -18,7 +17,7 @@ fn is_chosen(choice: Choice, partition: u32) -> bool
     }
 }
 
-/// So many partitions, each marked by whether it is chosen.
+/// Returns, by partition, whether it is chosen.
 pub fn mark_chosen(alloc: Global, choice: Choice, partitions: u32) -> Result<Vec<bool>, AllocError>
     requires { IsChoice choice }
     ensures { IfOk result (λ marks. (p : ℕ) → p < partitions → is_marked marks.items p ≡ is_chosen choice p) }

@@ -1,4 +1,4 @@
-//! Cutting a history to what some partitions see.
+//! Cuts a history to some partitions.
 
 ghost use Rattle.std.specs.Prelude.{◌≡◌, ◌<◌, [], length, IfOk, OnOk, Some, None, if◌then◌else◌};
 ghost use Rattle.history_parts.specs.Parts.{is_key_in, all_renumbered, is_kept, puts_after, gets_after, event_in, reply_in, or_none, is_marked, part_of};
@@ -12,11 +12,11 @@ use ring_table::Ring;
 use std::alloc::{AllocError, Global};
 use std::marker::Model;
 
-/// A history that is being cut to what some partitions see, entry by entry. Kept are eight bytes for each put and each get so far.
+/// Cuts a history to some partitions, entry by entry. Keeps eight bytes for each put and get so far.
 #[derive(Drop)]
 pub struct Cut<'a> {
     ring: &'a Ring,
-    // by partition, whether it is of the part
+    // by partition, whether it is in the part
     partitions: &'a [bool],
     puts: Marks,
     gets: Marks,
@@ -42,7 +42,7 @@ fn seen_in(alloc: Global, gets: &Marks, seen: &Seen) -> Result<Seen, AllocError>
 }
 
 impl<'a> Cut<'a> {
-    /// The first cut to these partitions of the ring, marked by number: there is no put and no get so far.
+    /// Starts a cut to these partitions of the ring, before any put or get.
     pub fn new(alloc: Global, ring: &'a Ring, partitions: &'a [bool]) -> Cut<'a>
         ensures { result ≡ first_cut ring.now partitions.now }
     {
@@ -54,7 +54,7 @@ impl<'a> Cut<'a> {
         }
     }
 
-    // Whether the partition is of the part, or there is none of that number.
+    // Whether the partition is in the part, or does not exist.
     fn is_in(&self, partition: u32) -> bool
         ensures { result ≡ or_none self.now.ring (is_marked self.now.partitions) partition }
     {
@@ -62,14 +62,12 @@ impl<'a> Cut<'a> {
         (at < self.partitions.len() && self.partitions[at]) || self.ring.q() <= partition
     }
 
-    // Whether the key's partition is.
     fn is_key_in(&self, key: &[u8]) -> bool
         ensures { result ≡ is_key_in self.now.ring (or_none self.now.ring (is_marked self.now.partitions)) key.now }
     {
         self.is_in(place(self.ring.q(), key).partition)
     }
 
-    // Whether the event is of the part.
     fn is_kept(&self, event: &Event) -> bool
         ensures { result ≡ is_kept self.now.ring (or_none self.now.ring (is_marked self.now.partitions)) self.now.puts self.now.gets event.now }
     {
@@ -131,7 +129,7 @@ impl<'a> Cut<'a> {
         })
     }
 
-    // The event is seen: a put or get that it starts is marked, by whether it is of the part.
+    // Marks a put or get that the event starts, by whether it is in the part.
     fn note(&mut self, event: &Event, is_mine: bool) -> Result<(), AllocError>
         requires puts { length self.now.puts < 4294967295 }
         requires gets { length self.now.gets < 4294967295 }
@@ -145,7 +143,7 @@ impl<'a> Cut<'a> {
         }
     }
 
-    /// The next entry as the part sees it, if it does. After an error nothing more can be cut.
+    /// Returns the entry as the part sees it, if it does. After an error nothing more can be cut.
     pub fn entry(&mut self, alloc: Global, entry: &Entry) -> Result<Option<Entry>, AllocError>
         requires puts { length self.now.puts < 4294967295 }
         requires gets { length self.now.gets < 4294967295 }
@@ -164,8 +162,8 @@ impl<'a> Cut<'a> {
     }
 }
 
-/// The part of a history that these partitions of the ring see, marked by number: all of steps, copies and nodes, and of clients what is of their keys, with puts
-/// and gets numbered anew.
+/// Returns the part of a history that these partitions see: all of steps, copies and nodes, and clients' events on
+/// their keys. Puts and gets are renumbered.
 pub fn part(
     alloc: Global,
     ring: &Ring,

@@ -14,7 +14,7 @@ use ring_names::{Names, Refusal};
 use ring_table::Ring;
 use std::alloc::Global;
 
-/// The part so far of a history, which is cut entry by entry.
+/// The part of a history so far.
 #[derive(Drop)]
 pub struct Kept<'a> {
     pub cut: Cut<'a>,
@@ -22,7 +22,7 @@ pub struct Kept<'a> {
     pub place: Place,
 }
 
-/// A history of which some lines are read, and its part so far. The entries are not kept.
+/// A history of which some lines are read, and its part so far. Entries are not kept.
 #[derive(Drop)]
 pub struct Cutter<'a> {
     pub reader: Reader<'a>,
@@ -30,7 +30,6 @@ pub struct Cutter<'a> {
 }
 
 impl<'a> Kept<'a> {
-    // Cuts an entry, and keeps it if it is of the part.
     fn keep(
         &mut self,
         alloc: Global,
@@ -51,7 +50,6 @@ impl<'a> Kept<'a> {
         Ok(())
     }
 
-    // Cuts entries, and keeps those of the part.
     fn keep_all(
         &mut self,
         alloc: Global,
@@ -71,7 +69,7 @@ impl<'a> Kept<'a> {
 }
 
 impl<'a> Cutter<'a> {
-    /// Reads the lines that are ended in what is left and what follows it, and cuts their entries.
+    /// Reads the whole lines of what is left and these bytes, and cuts their entries.
     pub fn cut_some(
         &mut self,
         alloc: Global,

@@ -37,12 +37,12 @@ pub struct Part {
 pub enum NoPart {
     /// The input is refused, or reading or memory failed.
     Refused(Refusal),
-    /// The input is a bundle, and its part would have so many entries, and its bundle so many bytes: more than a replay takes.
+    /// The part would have so many entries and bytes: more than a replay takes.
     Large { entries: u64, bytes: u64 },
 }
 
 impl NoPart {
-    /// The refusal that this is; a part that is too large is `TooLarge(0)`.
+    /// Returns the refusal. A part that is too large is `TooLarge(0)`.
     pub fn refusal(&self) -> Refusal
         ensures { result ≡ refusal_of self.now }
     {
@@ -53,7 +53,7 @@ impl NoPart {
     }
 }
 
-// Reads the input to its end, after the bytes that were read. A line of more than `MAX_INPUT` bytes is `TooLarge`.
+// Reads the input to its end. A line of more than `MAX_INPUT` bytes is `TooLarge`.
 fn read_history<R: Read + Drop>(
     alloc: Global,
     cutter: &mut Cutter,
@@ -76,14 +76,12 @@ fn read_history<R: Read + Drop>(
     Err(Refusal::ReadFailed)
 }
 
-// A part up to its last line.
 #[derive(Drop)]
 struct Unended {
     text: PartText,
     place: Option<u64>,
 }
 
-// Reads a history whose front was read, and cuts it.
 fn cut_history<R: Read + Drop>(
     alloc: Global,
     choice: Choice,
@@ -116,7 +114,6 @@ fn cut_history<R: Read + Drop>(
     })
 }
 
-// Reads a bundle, and cuts it.
 fn read_part<R: Read + Drop>(
     alloc: Global,
     choice: Choice,
@@ -132,7 +129,6 @@ fn read_part<R: Read + Drop>(
     cut_history(alloc, choice, wanted, front, first, input)
 }
 
-// What there is at the end of a history.
 fn end_part(unended: Unended) -> Result<Part, NoPart>
     ensures text { (t : List ℕ) (n : ℕ) → Holds unended.text t n → IsPartOf (t ++ codes "end\n") n result }
     ensures place { IfOk result (λ part. part.place ≡ unended.place) }
@@ -160,11 +156,14 @@ fn end_part(unended: Unended) -> Result<Part, NoPart>
     }
 }
 
-/// Reads a bundle of a replay to its end, and cuts it to what the chosen partitions see: the bundle of the part, with its ring, plan and certificate, and
-/// with the writers as the whole numbers them, and the place in the whole of the part's entry `wanted`. The history may have any number of entries; the front, a line and the part may have `MAX_INPUT` bytes.
-/// The first line at fault decides, as in `read_replay`. `TooLarge(0)` is a front that is at fault or not ended in the first `MAX_INPUT` bytes of a
-/// longer input; `TooLarge` of a line is also a longer line than that, and the put or get that is the 4,294,967,295th to start. Kept are the front, the part, eight bytes for
-/// each put and get, and of what was read at most `MAX_INPUT` bytes, twice while they are split into lines: fewer where front and lines are short.
+/// Reads a bundle to its end, and cuts it to what the chosen partitions see. Returns the part's bundle, and the place of its entry `wanted` in the whole.
+///
+/// Writers keep their numbers. The history may have any number of entries. The front, a line and the part have at most `MAX_INPUT` bytes.
+///
+/// The first line at fault decides, as in `read_replay`. A longer line, and the 4,294,967,295th put or get, are `TooLarge`. A front that is not
+/// whole within `MAX_INPUT` bytes is `TooLarge(0)`.
+///
+/// Keeps the front, the part and eight bytes for each put and get.
 pub fn cut_stream<R: Read + Drop>(
     alloc: Global,
     choice: Choice,

@@ -15,7 +15,7 @@ use ring_table::{Ring, write_ring};
 use std::alloc::Global;
 use texts::Lines;
 
-/// The ring of a bundle, the text of its front, and the number of the line after it.
+/// A bundle's ring, the text of its front, and the number of the next line.
 #[derive(Drop)]
 pub struct FrontText {
     pub ring: Ring,

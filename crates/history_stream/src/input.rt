@@ -9,13 +9,13 @@ use ring_names::Refusal;
 use std::alloc::Global;
 use std::io::{ErrorKind, Read};
 
-/// The most entries that a part may have, as many as are judged at once.
+/// The most entries of a part: as many as `replay` takes.
 pub const MOST_ENTRIES: u64 = 1_000_000;
 
-/// How many bytes one read asks for.
+/// The bytes of one read.
 pub const CHUNK: usize = 65_536;
 
-// Reads some bytes to the start of the chunk, and returns their number: 0 only at the input's end. A read that a signal interrupted is tried again.
+// Reads some bytes to the start of the chunk, and returns their number: 0 only at the input's end. Tries again after a signal.
 fn read_chunk<R: Read + Drop>(input: &mut R, chunk: &mut [u8]) -> Result<usize, Refusal>
     requires { 0 < length chunk.old }
     ensures ok { IfOk result (λ n. Takes (R.remaining input.old) (R.remaining input.new) chunk.new n) }
@@ -34,7 +34,7 @@ fn read_chunk<R: Read + Drop>(input: &mut R, chunk: &mut [u8]) -> Result<usize, 
     Err(Refusal::ReadFailed)
 }
 
-/// The next bytes of an input, at most so many: none only at its end.
+/// Reads the next bytes, at most so many: none only at the input's end.
 pub fn read_some<R: Read + Drop>(
     alloc: Global,
     input: &mut R,
@@ -54,11 +54,11 @@ pub fn read_some<R: Read + Drop>(
 #[derive(Drop)]
 pub struct Head {
     pub bytes: Vec<u8>,
-    /// Whether these are all.
+    /// Whether these are all bytes.
     pub is_whole: bool,
 }
 
-/// Reads on, after these bytes, to the first `most` bytes of an input, or fewer where it ends before.
+/// Reads on to the first `most` bytes of an input, or to its end.
 pub fn read_head<R: Read + Drop>(
     alloc: Global,
     bytes: Vec<u8>,

@@ -15,27 +15,26 @@ use ring_names::Refusal;
 use std::alloc::Global;
 use std::io::Read;
 
-// In how many bytes a front is looked for first, and then.
+// How many bytes are searched for a front at first, and then.
 const SHORT: usize = 1_048_576;
 
 const MIDDLE: usize = 16_777_216;
 
-/// The first bytes of an input, and the front with which they begin.
+/// The first bytes of an input, and their front.
 #[derive(Drop)]
 pub struct Opened {
     pub head: Head,
     pub front: FrontText,
 }
 
-// What there is of a front in some first bytes.
+// What some first bytes have of a front.
 #[derive(Drop)]
 enum Tried {
     Found(Opened),
-    // None, and there are more bytes than these.
+    // No whole front, and the input goes on.
     More(Vec<u8>),
 }
 
-// Looks for a front in the first bytes.
 fn try_front(alloc: Global, head: Head) -> Result<Tried, Refusal>
     ensures ok { IfOk result (λ tried. IsTried head tried) }
     ensures err { IfErr result (λ e. e ≢ OutOfMemory → (head.is_whole ≡ true) × (front_at (record { line = 1; lines = lines_of head.bytes.items }) ≡ Err e)) }
@@ -53,7 +52,6 @@ fn try_front(alloc: Global, head: Head) -> Result<Tried, Refusal>
     }
 }
 
-// Looks for a front in as many first bytes as it may have.
 fn last_front(alloc: Global, head: Head) -> Result<Opened, Refusal>
     ensures ok { IfOk result (λ opened. (opened.head ≡ head) × (value : Front) × (rest : List ℕ) × IsFront head.bytes.items opened.front value rest) }
     ensures err { IfErr result (λ e. e ≢ OutOfMemory → IsNoFront head e) }
@@ -69,7 +67,7 @@ fn last_front(alloc: Global, head: Head) -> Result<Opened, Refusal>
     }
 }
 
-/// Reads the front of an input, and some bytes after it: few, where the front is short.
+/// Reads the front of an input, and some bytes after it: few if the front is short.
 pub fn open<R: Read + Drop>(alloc: Global, input: &mut R) -> Result<Opened, Refusal>
     ensures ok { IfOk result (λ opened. IsOpened (R.remaining input.old) (R.remaining input.new) opened) }
     ensures err { IfErr result (λ e. e ≢ OutOfMemory → e ≢ ReadFailed → HasNone (R.remaining input.old) (R.remaining input.new) e) }

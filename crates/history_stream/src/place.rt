@@ -1,4 +1,4 @@
-//! The place in the whole of an entry of the part.
+//! The place of a part's entry in the whole.
 
 ghost use Rattle.std.specs.Prelude.{ℕ, Bool, []};
 ghost use Rattle.ring_table.specs.Value.{RingValue};
@@ -7,16 +7,16 @@ ghost use Rattle.history_stream.specs.Place.{Finds, FindsMore};
 /// Which entry of the whole is a wanted entry of the part.
 #[derive(Clone, Copy, Debug)]
 pub struct Place {
-    /// The wanted entry, counted in the part from 0.
+    /// The wanted entry in the part, counted from 0.
     pub wanted: u32,
     /// How many entries of the whole were read.
     pub seen: u64,
-    /// The wanted entry, counted in the whole from 0, if it was read.
+    /// The wanted entry in the whole, counted from 0, if it was read.
     pub found: Option<u64>,
 }
 
 impl Place {
-    /// Before the first entry.
+    /// Returns the place before the first entry.
     pub fn of(wanted: u32) -> Place
         ensures { (ring : RingValue) (is_in : ℕ → Bool) → Finds ring is_in [] wanted result }
     {
@@ -27,7 +27,7 @@ impl Place {
         }
     }
 
-    /// Counts an entry of the whole, before which that many were of the part.
+    /// Counts an entry of the whole. `before` entries of the part came before.
     pub fn count(&mut self, is_kept: bool, before: u64)
         ensures { FindsMore self.old self.new is_kept before }
     {

@@ -32,7 +32,7 @@ pub enum Stage {
     Over,
 }
 
-/// A history of which some lines are read. The reader keeps the entries of these lines until they are taken.
+/// A history of which some lines are read. Keeps their entries until they are taken.
 #[derive(Drop)]
 pub struct Reader<'a> {
     pub ring: &'a Ring,
@@ -57,7 +57,6 @@ fn first_line(mut fields: Fields) -> Result<(), Refusal>
     Ok(())
 }
 
-// The number of the line after line `line`.
 #[tactic(auto, unfolding(texts::specs::Left::next_number))]
 fn next_line(line: u32) -> u32
     ensures { result ≡ next_number line }
@@ -76,7 +75,7 @@ fn is_start(event: &Event) -> bool
 }
 
 impl<'a> Reader<'a> {
-    /// A reader of a history whose first line has that number.
+    /// Returns a reader. The history's first line has that number.
     pub fn of(alloc: Global, ring: &'a Ring, line: u32) -> Reader<'a>
         ensures { IsFirst ring.now line result }
     {
@@ -105,7 +104,6 @@ impl<'a> Reader<'a> {
         Ok(())
     }
 
-    // Reads the line of an entry, given as its fields.
     fn take_entry(&mut self, alloc: Global, fields: Fields) -> Result<(), Refusal>
         ensures counted { OnOk result ((taken : ℕ) → Counted taken self.old → Counted taken self.new) }
         ensures line { OnOk result (self.new.line ≡ self.old.line) }
@@ -122,7 +120,6 @@ impl<'a> Reader<'a> {
         Ok(())
     }
 
-    // Reads the first line of the history.
     fn take_first(&mut self, text: &[u8]) -> Result<(), Refusal>
         requires stage { self.old.stage ≡ First }
         ensures counted { OnOk result ((taken : ℕ) → Counted taken self.old → Counted taken self.new) }
@@ -136,7 +133,6 @@ impl<'a> Reader<'a> {
         Ok(())
     }
 
-    // Reads the last line of the history, given after its word.
     fn take_end(&mut self, mut fields: Fields) -> Result<(), Refusal>
         ensures ok { OnOk result (self.new ≡ record self.old { stage = Over; line = next_number self.old.line }) }
         ensures end { result ≡ (end_at fields.entry.number fields.entry.fields).0 }
@@ -148,7 +144,6 @@ impl<'a> Reader<'a> {
         Ok(())
     }
 
-    // Reads an entry, or the last line of the history.
     fn take_next(&mut self, alloc: Global, text: &[u8]) -> Result<(), Refusal>
         requires stage { self.old.stage ≡ Entries }
         ensures counted { OnOk result ((taken : ℕ) → Counted taken self.old → Counted taken self.new) }
@@ -165,7 +160,7 @@ impl<'a> Reader<'a> {
         Ok(())
     }
 
-    // Reads a line, given without its last byte 0A.
+    // Reads a line, without its line feed.
     fn take_line(&mut self, alloc: Global, text: &[u8]) -> Result<(), Refusal>
         ensures counted { OnOk result ((taken : ℕ) → Counted taken self.old → Counted taken self.new) }
         ensures ok { OnOk result (Takes self.old self.new (line_and text.now)) }
@@ -179,7 +174,7 @@ impl<'a> Reader<'a> {
         }
     }
 
-    /// Reads all lines that are ended, and returns how many bytes they have.
+    /// Reads all whole lines, and returns how many bytes they have.
     pub fn take_lines(&mut self, alloc: Global, bytes: &[u8]) -> Result<usize, Refusal>
         ensures counted { OnOk result ((taken : ℕ) → Counted taken self.old → Counted taken self.new) }
         ensures within { IfOk result (λ taken. taken ≤ length bytes.now) }
@@ -199,7 +194,7 @@ impl<'a> Reader<'a> {
         }
     }
 
-    // Reads all lines that are ended, and leaves what is not.
+    // Reads all whole lines, and keeps the rest.
     fn take_left(&mut self, alloc: Global, left: &mut Vec<u8>) -> Result<(), Refusal>
         ensures counted { OnOk result ((taken : ℕ) → Counted taken self.old → Counted taken self.new) }
         ensures ok { OnOk result (TakesSome self.old self.new left.old.items left.new.items) }
@@ -210,8 +205,7 @@ impl<'a> Reader<'a> {
         Ok(())
     }
 
-    /// Reads the lines that are ended in what is left and what follows it. A line of more than `MAX_INPUT` bytes is `TooLarge`. If a line is refused,
-    /// the entries before it are kept.
+    /// Reads the whole lines of what is left and these bytes. A line of more than `MAX_INPUT` bytes is `TooLarge`. Keeps the entries before a fault.
     pub fn take_some(
         &mut self,
         alloc: Global,
@@ -235,7 +229,7 @@ impl<'a> Reader<'a> {
         }
     }
 
-    /// Asks that the history is over, and nothing is left of its text. Else that is `BadLine`.
+    /// Refuses a history that is not over, or has more text, as `BadLine`.
     pub fn end(&self, left: &[u8]) -> Result<(), Refusal>
         requires { IsRun left.now }
         ensures { (ring : RingValue) (said : List SaidEntry) → map_ok (λ _. said) result

@@ -1,4 +1,4 @@
-//! Text that is kept as long as a replay takes it, and counted to its end.
+//! Text that is kept while a replay would take it, and counted in any case.
 
 ghost use Rattle.std.specs.Prelude.{◌≡◌, ◌≤◌, ◌-◌, ◌+◌, ◌++◌, ◌↔◌, ℕ, List, IsTrue, OnOk, length, min};
 ghost use Rattle.ring_table.specs.Value.{names_of};
@@ -14,7 +14,7 @@ use ring_names::Names;
 use ring_table::Ring;
 use std::alloc::AllocError;
 
-/// The text of a part so far, and how many bytes and entries it has; the text is given up where these are more than a replay takes.
+/// The text of a part so far, with its bytes and entries. The text is dropped if a replay would not take it.
 #[derive(Drop)]
 pub struct PartText {
     pub text: Vec<u8>,
@@ -23,7 +23,7 @@ pub struct PartText {
 }
 
 impl PartText {
-    /// This text, with no entries.
+    /// Returns this text, without entries.
     pub fn of(text: Vec<u8>) -> PartText
         ensures { Holds result text.items 0 }
     {
@@ -34,14 +34,14 @@ impl PartText {
         }
     }
 
-    /// Whether a replay takes it.
+    /// Whether a replay takes the text.
     pub fn is_small(&self) -> bool
         ensures { IsTrue result ↔ ((self.now.bytes ≤ max_input) × (self.now.entries ≤ 1000000)) }
     {
         self.bytes <= MAX_INPUT as u64 && self.entries <= MOST_ENTRIES
     }
 
-    // Counts what was added after so many bytes, and gives up the text where it is too much.
+    // Counts what was added, and drops the text if it is too long.
     fn count(&mut self, before: usize)
         requires { before ≤ length self.old.text.items }
         ensures bytes { self.new.bytes ≡ min (self.old.bytes + (length self.old.text.items - before)) most }

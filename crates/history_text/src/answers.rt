@@ -1,4 +1,4 @@
-//! What a reply is, by its fields.
+//! Replies, by their fields.
 
 ghost use Rattle.std.specs.Prelude.{◌≡◌};
 ghost use Rattle.texts.specs.Judging.{Does, map_ok};
@@ -9,7 +9,6 @@ use crate::said::{SaidReply, SmallRow};
 use ring_names::{Refusal, Slot};
 use texts::{CAP, Fields, NumberRow, both};
 
-// The slot of a ticket, and its generation.
 #[tactic(auto, unfolding(crate::specs::Reading::ticket_at))]
 fn ticket(fields: &mut Fields) -> Result<((u32, u32), u32), Refusal>
     ensures { Does ticket_at fields.old result fields.new }
@@ -20,7 +19,7 @@ fn ticket(fields: &mut Fields) -> Result<((u32, u32), u32), Refusal>
     both(both(partition, index), generation)
 }
 
-// The numbers of a row, where they are of 32 bits.
+// The numbers of a row, if they have 32 bits.
 fn small<'a>(fields: &Fields, row: NumberRow<'a>) -> Result<SmallRow<'a>, Refusal>
     ensures { result ≡ judge_numbers fields.now.number row.entry }
 {
@@ -30,7 +29,6 @@ fn small<'a>(fields: &Fields, row: NumberRow<'a>) -> Result<SmallRow<'a>, Refusa
     Ok(SmallRow::of(row))
 }
 
-// The numbers that stand in front.
 fn numbers<'a>(fields: &mut Fields<'a>) -> Result<SmallRow<'a>, Refusal>
     ensures { Does numbers_at fields.old result fields.new }
 {
@@ -38,7 +36,7 @@ fn numbers<'a>(fields: &mut Fields<'a>) -> Result<SmallRow<'a>, Refusal>
     small(fields, row)
 }
 
-/// What the reply is. Takes no memory.
+/// Returns what the reply says. Takes no memory.
 #[tactic(auto, unfolding(crate::specs::Reading::reply_at))]
 pub fn said_reply<'a>(fields: &mut Fields<'a>) -> Result<SaidReply<'a>, Refusal>
     ensures { Does reply_at fields.old (map_ok reply_of result) fields.new }

@@ -27,7 +27,7 @@ pub struct ReplayBundle {
     pub history: Vec<Entry>,
 }
 
-/// Reads the lines of a ring, of a plan of it, of the plan's certificate and of a history, and leaves what follows them. The first line at fault decides.
+/// Reads a ring, a plan, its certificate and a history, and leaves what follows. The first line at fault decides.
 #[tactic(auto, unfolding(crate::specs::Replays::replay_at))]
 pub fn read_replay_section(alloc: Global, lines: &mut Lines) -> Result<ReplayBundle, Refusal>
     ensures read { Reads (map_ok parts_of result) lines.new (replay_at lines.old) }
@@ -47,11 +47,10 @@ pub fn read_replay_section(alloc: Global, lines: &mut Lines) -> Result<ReplayBun
     })
 }
 
-/// The parts of a replay's bundle, and nothing behind them: a ring's text, and behind it a plan's, a certificate's and a history's. Writers are
-/// numbered in order of first sight. The first line at fault decides, and is refused as the reader of its part refuses it; a line behind the
-/// history is `BadLine`. `OutOfMemory` comes only where memory ran out, behind the first four lines of the ring.
+/// Reads a bundle for a replay: the texts of a ring, a plan, its certificate and a history. Numbers writers in order of first sight.
+///
+/// The first line at fault decides, by the reader of its part. A line after the history is `BadLine`. `OutOfMemory` comes only after four lines.
 pub fn read_replay(alloc: Global, bytes: &[u8]) -> Result<ReplayBundle, Refusal>
-    // Which bundle it is, by its parts, or which fault.
     ensures read { Gives (map_ok parts_of result) (whole_text replay_at bytes.now) }
     ensures parts { IfOk result IsReplay }
     // Memory may run out only if the first four lines have no fault.

@@ -1,4 +1,4 @@
-//! Whom a history names.
+//! The writers and nodes that a history names.
 
 ghost use Rattle.std.specs.Prelude.{◌↔◌, IsTrue, length};
 ghost use Rattle.script_text.specs.Valid.{IsKnown};
@@ -9,7 +9,6 @@ use plan_runs::{Entry, Event};
 use ring_names::Names;
 use ring_table::Ring;
 
-// Whether the event's writer is among the names, and its node one of the ring's.
 fn is_known(ring: &Ring, writers: &Names, event: &Event) -> bool
     ensures { IsTrue result ↔ IsKnown (length (names_of ring.now)) (length writers.now) event.now }
 {
@@ -24,7 +23,7 @@ fn is_known(ring: &Ring, writers: &Names, event: &Event) -> bool
     }
 }
 
-/// Whether each event's writer is among the names and its node one of the ring's.
+/// Whether each event's writer is among the names, and its node in the ring.
 pub fn are_known(ring: &Ring, writers: &Names, history: &[Entry]) -> bool
     ensures { IsTrue result ↔ AreKnownEntries ring.now writers.now history.now }
 {

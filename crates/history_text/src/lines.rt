@@ -17,7 +17,7 @@ use script_text::{SaidEvent, keep_event, said_event};
 use std::alloc::Global;
 use texts::{Fields, both, finish, need};
 
-// What the fields in front say, behind the entries of the history and the writers known.
+// What the fields before the sign say.
 fn event_part<'a>(
     ring: &Ring,
     names: &Names,
@@ -32,7 +32,7 @@ fn event_part<'a>(
     Ok(said)
 }
 
-// What the fields behind the sign say, where there is one.
+// What the fields after the sign say, if there is one.
 fn reply_part<'a>(line: u32, fields: Option<Fields<'a>>) -> Result<SaidReply<'a>, Refusal>
     ensures { map_ok reply_of result ≡ reply_line line fields.entry }
 {
@@ -45,7 +45,6 @@ fn reply_part<'a>(line: u32, fields: Option<Fields<'a>>) -> Result<SaidReply<'a>
     }
 }
 
-// What an entry's line says. Takes no memory.
 fn judge_line<'a>(
     ring: &Ring,
     names: &Names,
@@ -61,7 +60,7 @@ fn judge_line<'a>(
     both(event, reply)
 }
 
-/// What an entry's line says, and that it can be the next entry. Takes no memory.
+/// Returns what an entry's line says. Takes no memory.
 pub fn entry_line<'a>(
     ring: &Ring,
     names: &Names,
@@ -77,8 +76,7 @@ pub fn entry_line<'a>(
     judge_line(ring, names, history, fields)
 }
 
-/// The entry of a line that was judged, in memory of its own. A new writer is added behind those known. Its only refusal is `OutOfMemory`; then the
-/// writer may have been added.
+/// Returns the entry of a line that was read, and adds a new writer. Its only refusal is `OutOfMemory`, and the writer may be added all the same.
 pub fn keep_entry(
     alloc: Global,
     names: &mut Names,
@@ -95,7 +93,7 @@ pub fn keep_entry(
     Ok(Entry { event, reply })
 }
 
-/// Adds the entry of a line that was judged behind the entries of the history and the writers known.
+/// Adds the entry of a line that was read.
 pub fn add(
     alloc: Global,
     names: &mut Names,

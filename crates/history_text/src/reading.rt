@@ -18,7 +18,7 @@ use ring_table::Ring;
 use std::alloc::Global;
 use texts::{Lines, end, header};
 
-// Reads entries behind those of the history, up to a line that begins with `end`.
+// Reads entries up to a line that begins with `end`.
 fn read_into(
     alloc: Global,
     ring: &Ring,
@@ -41,7 +41,6 @@ fn read_into(
     Ok(())
 }
 
-// Reads the entries of a history.
 #[tactic(auto, unfolding(crate::specs::Reading::entries_at))]
 fn read_entries(
     alloc: Global,
@@ -59,7 +58,6 @@ fn read_entries(
     Ok(history)
 }
 
-// Reads the lines of a history.
 #[tactic(auto, unfolding(crate::specs::Reading::history_at))]
 fn read_parts(
     alloc: Global,
@@ -78,8 +76,8 @@ fn read_parts(
     Ok(history)
 }
 
-/// Reads the lines of a history, up to its line `end`, and leaves what follows them. New writers are added behind those that were seen.
-/// Refused as `read_history` is; then some of the new writers may have been added.
+/// Reads a history up to its line `end`, and leaves what follows. Adds new writers after those that were seen, some also if it is refused.
+/// Refusals are those of `read_history`.
 pub fn read_history_section(
     alloc: Global,
     ring: &Ring,
@@ -88,10 +86,9 @@ pub fn read_history_section(
 ) -> Result<Vec<Entry>, Refusal>
     ensures read { Reads (map_ok (λ h. (h.items, writers.new)) result) lines.new
         (history_at ring.now writers.old lines.old) }
-    // What is read is a history over the ring, if the writers that were seen are at most 1,024 names.
     ensures found { IfOk result (λ h. AreWriters writers.old → IsHistoryOf ring.now writers.old writers.new h.items) }
     ensures few { IfOk result (λ h. length h.items ≤ 1000000) }
-    // Memory may run out behind its first two lines, if these have no fault, and later only behind lines that have none.
+    // Memory may run out only after the first two lines, and after lines without a fault.
     ensures late { Late 2 result lines.old lines.new (history_at ring.now writers.old lines.old) }
 {
     // A ring is valid, which the prover knows once a number of it is read.
@@ -118,26 +115,25 @@ fn read_whole(
     Ok(history)
 }
 
-/// Reads a history from its one text. New writers are added behind those that were seen, in order of first sight.
-/// A line that is none of a history's is `BadLine`: among others one without a field `=`, or one that has fields behind its reply's. A number
-/// above 4,294,967,295, an entry past 1,000,000, a new writer behind 1,024 and more than 16 gets that a put knows are `TooLarge`, and a node that
-/// the ring does not declare is `UnknownNode`. The first line at fault decides, and of several faults in it the one of the least number: 1
-/// `BadLine`, 2 `TooLarge`, 3 `UnknownNode`. `OutOfMemory` comes only where memory ran out, behind lines that have no fault. Refused, some of the
-/// new writers may have been added.
+/// Reads a history from its whole text. Numbers new writers in order of first sight, some also if the text is refused.
+///
+/// A wrong line is `BadLine`, also one without ` = ` or with fields after its reply. A node that the ring does not declare is `UnknownNode`.
+///
+/// A number above 4,294,967,295, an entry after 1,000,000, a writer after 1,024 and more than 16 gets of a put are `TooLarge`.
+///
+/// The first line at fault decides, and in this line the least number: 1 `BadLine`, 2 `TooLarge`, 3 `UnknownNode`. `OutOfMemory` comes last.
 pub fn read_history(
     alloc: Global,
     ring: &Ring,
     writers: &mut Names,
     text: &[u8],
 ) -> Result<Vec<Entry>, Refusal>
-    // What is read is a history over the ring, if the writers that were seen are at most 1,024 names, and the text is its one text.
     ensures found { IfOk result (λ h. AreWriters writers.old → IsHistoryOf ring.now writers.old writers.new h.items
         × (text.now ≡ history_text ring.now writers.new h.items)) }
-    // And each history over the ring is read from its text, unless memory runs out.
+    // Each history over the ring is read from its text, unless memory runs out.
     ensures only { (h : List Entry) (names : List (List ℕ)) → IsHistoryOf ring.now writers.old names h
         → text.now ≡ history_text ring.now names h
         → Gives {A = List Entry × List (List ℕ)} (map_ok (λ h. (h.items, writers.new)) result) (Ok (h, names)) }
-    // Which history it is, or which fault.
     ensures exact { Gives (map_ok (λ h. (h.items, writers.new)) result)
         (history_reading ring.now writers.old text.now) }
     // Memory may run out only if the first two lines have no fault.

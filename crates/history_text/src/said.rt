@@ -29,7 +29,7 @@ impl<'a> Model for SmallRow<'a> {
 }
 
 impl<'a> SmallRow<'a> {
-    /// These numbers.
+    /// Returns these numbers.
     pub fn of(row: NumberRow<'a>) -> SmallRow<'a>
         requires { are_small row ≡ true }
         ensures { result ≡ row.entry }
@@ -37,7 +37,7 @@ impl<'a> SmallRow<'a> {
         SmallRow { row }
     }
 
-    /// The numbers, in memory of their own.
+    /// Returns the numbers in memory of their own.
     pub fn to_listed(&self, alloc: Global) -> Result<Listed<u32>, Refusal>
         ensures ok { IfOk result (λ numbers. numbers ≡ self.now) }
         ensures memory { IfErr result (λ e. e ≡ OutOfMemory) }
@@ -59,7 +59,7 @@ pub enum SaidReply<'a> {
 }
 
 impl<'a> SaidReply<'a> {
-    /// The reply, in memory of its own.
+    /// Returns the reply in memory of its own.
     pub fn to_reply(&self, alloc: Global) -> Result<Reply, Refusal>
         ensures ok { IfOk result (λ reply. reply ≡ reply_of self.now) }
         ensures memory { IfErr result (λ e. e ≡ OutOfMemory) }

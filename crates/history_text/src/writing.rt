@@ -29,7 +29,6 @@ pub fn push_entry(
     Ok(())
 }
 
-// The lines of entries.
 fn push_entries(
     out: &mut Vec<u8>,
     ring: &Ring,
@@ -45,8 +44,7 @@ fn push_entries(
     Ok(())
 }
 
-/// Appends the one text of a history over the ring whose writers are numbered so: `history 1`, for each entry its event, ` = ` and its reply, and
-/// `end`.
+/// Writes a history over the ring: `history 1`, for each entry its event, ` = ` and its reply, then `end`.
 pub fn push_history(
     out: &mut Vec<u8>,
     approved: &Approved,

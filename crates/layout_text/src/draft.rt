@@ -1,4 +1,4 @@
-//! The facts that were read so far.
+//! A layout being read.
 
 ghost use Rattle.std.specs.Prelude.{◌≡◌, []};
 ghost use Rattle.texts.specs.Judging.{Gives, map_ok};
@@ -10,10 +10,10 @@ use ring_names::{Listed, Names, Refusal};
 use std::alloc::Global;
 use std::marker::Model;
 
-// Four facts of each of 1,024 nodes, and one of each of 4,096 partitions.
+// Four facts for each of 1,024 nodes, and one for each of 4,096 partitions.
 const MOST: usize = 8192;
 
-/// The facts that were read, and what they are about.
+/// The facts so far, and their subjects.
 #[derive(Drop)]
 pub struct Draft {
     alloc: Global,
@@ -35,7 +35,7 @@ impl Model for Draft {
 }
 
 impl Draft {
-    /// Nothing was read.
+    /// An empty draft.
     pub fn new(alloc: Global) -> Draft
         ensures { result ≡ [] }
     {
@@ -46,7 +46,7 @@ impl Draft {
         }
     }
 
-    /// Adds the fact of a line. If there are too many, that is `TooLarge`; if there is one about the same already, `Repeated`.
+    /// Adds the fact of a line. Fails with `TooLarge` if there are too many, and with `Repeated` if its subject has one.
     pub fn add(&mut self, line: u32, fact: Fact) -> Result<(), Refusal>
         ensures { Gives (map_ok (λ _. self.new) result) (with_fact self.old line fact) }
     {
@@ -63,7 +63,7 @@ impl Draft {
         Ok(())
     }
 
-    /// What was read, which takes no memory.
+    /// Returns the layout. Takes no memory.
     pub fn into_layout(self) -> Layout
         ensures { result ≡ record { entries = self } }
     {

@@ -1,4 +1,4 @@
-//! What a fact is about.
+//! The subjects of facts.
 
 ghost use Rattle.std.specs.Prelude.{◌≡◌, ◌++◌, IfOk};
 ghost use Rattle.layout_text.specs.Facts.{subject_of};
@@ -7,7 +7,6 @@ use crate::layout::Fact;
 use ring_names::push_decimal;
 use std::alloc::{AllocError, Global};
 
-// A word and a node behind it.
 fn about(alloc: Global, word: &[u8], node: &[u8]) -> Result<Vec<u8>, AllocError>
     ensures { IfOk result (λ subject. subject.items ≡ word.now ++ node.now) }
 {
@@ -16,7 +15,7 @@ fn about(alloc: Global, word: &[u8], node: &[u8]) -> Result<Vec<u8>, AllocError>
     Ok(subject)
 }
 
-/// What a fact is about: the first two fields of its line.
+/// Returns the subject of a fact: the first two fields of its line.
 pub fn subject_of(alloc: Global, fact: &Fact) -> Result<Vec<u8>, AllocError>
     ensures { IfOk result (λ subject. subject.items ≡ subject_of fact.now) }
 {

@@ -14,7 +14,7 @@ use std::alloc::Global;
 use std::marker::Model;
 use texts::{Fields, is_name};
 
-/// A field of a line, which contracts see as its bytes.
+/// A field of a line. Contracts see its bytes.
 #[derive(Drop)]
 pub struct Field<'a> {
     bytes: &'a [u8],
@@ -29,7 +29,7 @@ impl<'a> Model for Field<'a> {
 }
 
 impl<'a> Field<'a> {
-    /// A copy of the bytes.
+    /// Copies the bytes.
     pub fn copy(self, alloc: Global) -> Result<Listed<u8>, Refusal>
         ensures same { IfOk result (λ copy. copy ≡ self.entry) }
         ensures memory { IfErr result (λ e. e ≡ OutOfMemory) }
@@ -38,7 +38,7 @@ impl<'a> Field<'a> {
     }
 }
 
-/// Takes a name of a node or a rack. Another field is `BadLine`.
+/// Takes a name of a node or a rack, or fails with `BadLine`.
 pub fn name<'a>(fields: &mut Fields<'a>) -> Result<Field<'a>, Refusal>
     ensures { Does name_at fields.old result fields.new }
 {
@@ -49,7 +49,7 @@ pub fn name<'a>(fields: &mut Fields<'a>) -> Result<Field<'a>, Refusal>
     }
 }
 
-/// Takes a number from 1 to 1,000. Another field is `BadLine`, a greater number `TooLarge`.
+/// Takes a number from 1 to 1,000, or fails with `BadLine`, or with `TooLarge` for a greater number.
 pub fn parts(fields: &mut Fields) -> Result<u32, Refusal>
     ensures { Does parts_at fields.old result fields.new }
 {
@@ -59,7 +59,6 @@ pub fn parts(fields: &mut Fields) -> Result<u32, Refusal>
     }
 }
 
-// Whether a text has control characters.
 fn has_control(text: &str) -> bool
     ensures { result ≡ list_any is_control (chars text.now) }
 {
@@ -79,7 +78,7 @@ fn is_alias(bytes: &[u8]) -> bool
     }
 }
 
-/// Takes an alias: one field, so it has no spaces. Another field is `BadLine`.
+/// Takes an alias: one field, so without spaces. Fails with `BadLine`.
 pub fn alias<'a>(fields: &mut Fields<'a>) -> Result<Field<'a>, Refusal>
     ensures { Does alias_at fields.old result fields.new }
 {
@@ -90,7 +89,7 @@ pub fn alias<'a>(fields: &mut Fields<'a>) -> Result<Field<'a>, Refusal>
     }
 }
 
-/// Takes a number below 2^48. Another field is `BadLine`, a greater number `TooLarge`.
+/// Takes a number below 2^48, or fails with `BadLine`, or with `TooLarge` for a greater number.
 pub fn size(fields: &mut Fields) -> Result<u64, Refusal>
     ensures { Does (λ k. number_at k 281474976710655) fields.old result fields.new }
 {

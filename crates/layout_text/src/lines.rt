@@ -11,7 +11,6 @@ use ring_names::Refusal;
 use std::alloc::Global;
 use texts::{Fields, both, finish};
 
-// What follows `rack`: a node and its rack.
 #[tactic(auto, unfolding(crate::specs::Reading::rack_at))]
 fn rack_line(alloc: Global, mut fields: Fields) -> Result<Fact, Refusal>
     ensures { Gives result (rack_at fields.entry.number fields.entry.fields) }
@@ -27,7 +26,6 @@ fn rack_line(alloc: Global, mut fields: Fields) -> Result<Fact, Refusal>
     }
 }
 
-// What follows `weight`: a node and its weight.
 #[tactic(auto, unfolding(crate::specs::Reading::weight_at))]
 fn weight_line(alloc: Global, mut fields: Fields) -> Result<Fact, Refusal>
     ensures { Gives result (weight_at fields.entry.number fields.entry.fields) }
@@ -43,7 +41,6 @@ fn weight_line(alloc: Global, mut fields: Fields) -> Result<Fact, Refusal>
     }
 }
 
-// What follows `alias`: a node and its alias.
 #[tactic(auto, unfolding(crate::specs::Reading::alias_line_at))]
 fn alias_line(alloc: Global, mut fields: Fields) -> Result<Fact, Refusal>
     ensures { Gives result (alias_line_at fields.entry.number fields.entry.fields) }
@@ -59,7 +56,6 @@ fn alias_line(alloc: Global, mut fields: Fields) -> Result<Fact, Refusal>
     }
 }
 
-// What follows `size`: a partition and its size.
 #[tactic(auto, unfolding(crate::specs::Reading::size_at))]
 fn size_line(mut fields: Fields) -> Result<Fact, Refusal>
     ensures { result ≡ size_at fields.entry.number fields.entry.fields }
@@ -70,7 +66,6 @@ fn size_line(mut fields: Fields) -> Result<Fact, Refusal>
     Ok(Fact::Size { partition, size })
 }
 
-// What follows `dead`: a node.
 #[tactic(auto, unfolding(crate::specs::Reading::dead_at))]
 fn dead_line(alloc: Global, mut fields: Fields) -> Result<Fact, Refusal>
     ensures { Gives result (dead_at fields.entry.number fields.entry.fields) }
@@ -84,7 +79,6 @@ fn dead_line(alloc: Global, mut fields: Fields) -> Result<Fact, Refusal>
     }
 }
 
-// What follows the word of that kind.
 fn fact_line(alloc: Global, kind: &[u8], fields: Fields) -> Result<Fact, Refusal>
     ensures { Gives result (fact_at kind.now fields.entry.number fields.entry.fields) }
 {
@@ -103,7 +97,7 @@ fn fact_line(alloc: Global, kind: &[u8], fields: Fields) -> Result<Fact, Refusal
     }
 }
 
-/// Adds the fact of a line. A blank line has none, nor has a comment, which begins with `#`.
+/// Adds the fact of a line. Blank lines, and comments after `#`, have none.
 pub fn read_line(alloc: Global, draft: &mut Draft, mut fields: Fields) -> Result<(), Refusal>
     ensures { Gives (map_ok (λ _. draft.new) result)
         (with_line draft.old fields.entry.number fields.entry.fields) }

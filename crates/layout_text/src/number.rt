@@ -7,17 +7,16 @@ ghost use Rattle.texts.specs.Number.{value_from, is_number as is_spelled_number,
 
 use ring_names::Refusal;
 
-// Above every number: greater ones are taken for this one.
+// Above every number. Greater values are capped here.
 const CAP: u64 = 281_474_976_710_656;
 
-// Whether each byte is a digit.
 fn are_digits(field: &[u8]) -> bool
     ensures { result ≡ list_all (λ b. nat_le 48 b && nat_le b 57) field.now }
 {
     field.iter().all(|byte| matches!(*byte, b'0'..=b'9'))
 }
 
-// Whether a field is a number: decimal, without sign and without leading zeros.
+// Whether a field is decimal, without sign or leading zeros.
 fn is_number(field: &[u8]) -> bool
     ensures { result ≡ is_spelled_number field.now }
 {
@@ -27,7 +26,6 @@ fn is_number(field: &[u8]) -> bool
     field[0] > b'0' || field.len() == 1
 }
 
-// The value of digits.
 fn value_of(digits: &[u8]) -> u64
     ensures { result ≡ min (value_from 0 digits.now) 281474976710656 }
 {
@@ -38,7 +36,7 @@ fn value_of(digits: &[u8]) -> u64
     value
 }
 
-/// The number that a field spells. Another field is `BadLine`, a number from 2^48 on `TooLarge`.
+/// Returns the number that a field spells. Fails with `BadLine`, or with `TooLarge` from 2^48 on.
 pub fn number_of(line: u32, field: &[u8]) -> Result<u64, Refusal>
     ensures { result ≡ limited line 281474976710655 (decimal_value field.now) }
 {

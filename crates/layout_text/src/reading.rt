@@ -1,4 +1,4 @@
-//! Reading a layout.
+//! Reads layouts.
 
 ghost use Rattle.std.specs.Prelude.{◌≡◌};
 ghost use Rattle.texts.specs.Left.{Reads};
@@ -12,7 +12,6 @@ use ring_names::Refusal;
 use std::alloc::Global;
 use texts::{Lines, end, header};
 
-// Reads lines up to one that begins with `end`.
 fn read_entries(alloc: Global, draft: &mut Draft, lines: &mut Lines) -> Result<(), Refusal>
     ensures { Reads (map_ok (λ _. draft.new) result) lines.new
         (entries_from draft.old lines.old.line lines.old.lines) }
@@ -24,7 +23,6 @@ fn read_entries(alloc: Global, draft: &mut Draft, lines: &mut Lines) -> Result<(
     Ok(())
 }
 
-// Reads the lines of a layout.
 #[tactic(auto, unfolding(crate::specs::Reading::layout_at))]
 fn read_parts(alloc: Global, lines: &mut Lines) -> Result<Layout, Refusal>
     ensures { Reads result lines.new (layout_at lines.old) }
@@ -36,18 +34,23 @@ fn read_parts(alloc: Global, lines: &mut Lines) -> Result<Layout, Refusal>
     Ok(draft.into_layout())
 }
 
-/// Reads a layout from its whole text. After the line `layout 1` there are lines in any order, up to the line `end`, which is the last. A
-/// blank line and a line that begins with `#` say nothing. No two lines have the same first two fields.
+/// Reads a layout from its whole text: the line `layout 1`, lines in any order, and the last line `end`. No two
+/// lines have the same first two fields.
 ///
-/// - `rack NODE NAME`: both as nodes are named, 1 to 32 bytes of `a-z0-9_.:-`.
+/// Blank lines and lines that begin with `#` have no meaning.
+///
+/// - `rack NODE NAME`: both 1 to 32 bytes of `a-z0-9_.:-`.
 /// - `weight NODE K`: 1 to 1,000.
-/// - `alias NODE TEXT`: one field, so without spaces: 1 to 255 bytes of UTF-8 without control characters.
+/// - `alias NODE TEXT`: one field of 1 to 255 bytes of UTF-8, without control characters.
 /// - `size P N`: the partition up to 4,095, its size below 2^48.
 /// - `dead NODE`.
 ///
-/// The first line at fault decides, and in it the fault of the least number: 1 `BadLine`, also for a last line without its line feed, 2
-/// `TooLarge` for a number above its limit or a fact after 8,192 others, 4 `Repeated` for a fact about what a line above it is about.
-/// `OutOfMemory` comes only if memory ran out.
+/// The first faulty line decides, and in it the fault of the least number. `OutOfMemory` comes only if memory
+/// ran out.
+///
+/// - 1 `BadLine`, also for a last line without newline.
+/// - 2 `TooLarge`: a number above its limit, or a fact after 8,192 others.
+/// - 4 `Repeated`: a second fact on a subject.
 pub fn read_layout(alloc: Global, text: &[u8]) -> Result<Layout, Refusal>
     // Which layout it is, or which fault.
     ensures read { Gives result (layout_reading text.now) }

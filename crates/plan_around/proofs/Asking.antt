@@ -21,7 +21,7 @@ owners-alike : (f g : Slot → Serving) (slots : List Slot) → ((slot : Slot) �
 owners-alike f g [] same = refl
 owners-alike f g (s ∷ ss) same = (let one : (f s).owner ≡ (g s).owner = ap (λ (v : Serving). v.owner) (same s) in rw (one, owners-alike f g ss same) refl)
 
--- what a step asks hangs on who serves the slots alone
+-- what a step asks depends only on who serves the slots
 asked-alike : (f g : Slot → Serving) (t : Step) → ((slot : Slot) → f slot ≡ g slot) → asked f t ≡ asked g t
 asked-alike f g (Join x) same = refl
 asked-alike f g (Mirror s x) same = refl

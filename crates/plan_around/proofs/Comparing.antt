@@ -64,7 +64,8 @@ led back left ring old new a b earlier later ra pa rb pb alike first second =
         (subst (λ (s : RingValue). AreAlike back left (ring_of a) (plan_of a) w s new u) rb
         (subst (λ (q : List Planned). AreAlike back left (ring_of a) (plan_of a) w (ring_of b) q u) pb h)))
 
--- a history that leads to a store leads to a world from which a plan ends well, if it does so from each world that the store may be in
+-- a history that leads to a store leads to a world from which a plan ends well. This needs that the plan does
+-- so from each world that the store may be in
 pub led_well : (extent : Extent) (back : Back) (ring : RingValue) (old new : List Planned) (a : World) (dead : List NodeId) (left : List Slot) (earlier : List Entry)
     → Replays ring old a earlier → ((w : TheWorld) → Meets a w → EndsWell extent back ring old w new dead left) → LeadsWell extent back ring old new dead left earlier
 led_well extent back ring old new a dead left earlier first well = ∥∥₁_map first (λ x. (x.0, x.2, well x.0 x.1))

@@ -25,11 +25,11 @@ use Rattle.ring_core.specs.declared.world.World.{World}
 abbrev pub OwnerAlike : RingValue → List Planned → TheWorld → RingValue → List Planned → TheWorld → Slot → Type 0
 OwnerAlike r old w s new u slot = (stage_now s new u slot).owner ≡ (stage_now r old w slot).owner
 
--- whether a mirror of the slot may be taken back: that is allowed, or the slot stays with its owner
+-- whether a mirror of the slot may be undone: that is allowed, or the slot stays with its owner
 abbrev pub may_return : Back → List Slot → Slot → Bool
 may_return back left slot = allows back || list_any (λ s. is_slot s slot) left
 
--- the slot has the same mirror in both; or it has none in the second, if the mirror may be taken back
+-- the slot has the same mirror in both; or it has none in the second, if the mirror may be undone
 abbrev pub MirrorAlike : Back → List Slot → RingValue → List Planned → TheWorld → RingValue → List Planned → TheWorld → Slot → Type 0
 MirrorAlike back left r old w s new u slot = ((stage_now s new u slot).mirror ≡ (stage_now r old w slot).mirror)
     ⊎ (((stage_now s new u slot).mirror ≡ None) × (may_return back left slot ≡ true))
@@ -59,7 +59,8 @@ MirroredAlike r old w s new u v i = (x : NodeId) → (stage_now s new u (put_slo
 abbrev pub PutAlike : RingValue → List Planned → TheWorld → RingValue → List Planned → TheWorld → ℕ → Type 0
 PutAlike r old w s new u v = (i : ℕ) → i < s.n → HeldAlike r old w s new u v i × MirroredAlike r old w s new u v i
 
--- both have the same owners, the same mirrors but for those that are taken back, and as many puts; each slot holds the same puts in both, and so does each mirror, but for those that stay
+-- both have the same owners, as many puts, and the same mirrors but for undone ones. Each slot holds the same
+-- puts in both, and so does each mirror, but for those that stay
 pub record AreAlike (back : Back) (left : List Slot) (r : RingValue) (old : List Planned) (w : TheWorld) (s : RingValue) (new : List Planned) (u : TheWorld) : Type 0 where
   pub nodes : (p : ℕ) → p < s.q → (i : ℕ) → i < s.n → NodesAlike back left r old w s new u (slot_at p i)
   pub puts : length u.puts ≡ length w.puts

@@ -19,7 +19,8 @@ abbrev pub mirrors : Option NodeId → List NodeId
 mirrors None = []
 mirrors (Some x) = x ∷ []
 
--- the nodes of which a step asks anything, where the slots are served so: that join, mirror, drop or retire, to which it copies and from which it reads
+-- the nodes of which a step asks anything, if the slots are served so. They join, mirror, drop or retire, or a
+-- copy goes to them or reads from them
 abbrev pub asked : (Slot → Serving) → Step → List NodeId
 asked serve (Join x) = x ∷ []
 asked serve (Mirror s x) = x ∷ []
@@ -28,7 +29,7 @@ asked serve (Switch s) = []
 asked serve (Drop s x) = x ∷ []
 asked serve (Retire x) = x ∷ []
 
--- whether step n is an open copy of which all chunks are marked, so that it asks nobody to be closed
+-- whether step n is an open copy whose chunks are all marked, so that no node is asked when it is closed
 abbrev pub is_whole : World → ℕ → Bool
 is_whole w n = w.is_open n && (chunks_left w n == 0)
 

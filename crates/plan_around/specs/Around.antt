@@ -32,12 +32,14 @@ use Rattle.plan_around.specs.Chosen.{GoesBy, halted_at}
 use Rattle.plan_around.specs.declared.chosen.Chosen.{Chosen}
 use Rattle.plan_around.specs.Ends.{EndsWell}
 
--- the history is a run of the plan, and in the world to which it leads no step that is to come asks anything of the dead
+-- the history is a run of the plan. In the world to which it leads, no step that is to come asks anything of
+-- the dead
 abbrev pub RunsApart : RingValue → List Planned → List NodeId → List Entry → Type 0
 RunsApart ring plan dead history = ∥ ((w : World) × IsRun ring plan history w × AreApart ring plan dead w) ∥₁
 
--- the checker accepts the plan by the certificate, so that it keeps its promises; the history is a run of it that leads to where the dead are asked for nothing more; and this is the text of
--- the ring, the plan, the certificate and the history, whose writers have these names
+-- the checker accepts the plan by the certificate, so the plan keeps its promises. The history is a run that
+-- leads to where the dead are asked for nothing more. This is the text of the ring, the plan, the certificate
+-- and the history, whose writers have these names
 pub record GoesOn (ring : RingValue) (dead : List NodeId) (writers : List (List ℕ)) (plan : List Planned) (cert : Cert) (history : List Entry) (bytes : List ℕ) : Type 0 where
   pub certified : IsCertified ring plan cert
   pub keeps : KeepsPromises ring plan
@@ -58,12 +60,13 @@ LeadsOn back left ring store new later = (earlier : List Entry) → Replays ring
 abbrev pub LeadsWell : Extent → Back → RingValue → List Planned → List Planned → List NodeId → List Slot → List Entry → Type 0
 LeadsWell extent back ring old new dead left earlier = ∥ ((w : World) × IsRun ring old earlier w × EndsWell extent back ring old w new dead left) ∥₁
 
--- whether any mirror may be taken back: that is allowed, or a slot is to stay with its owner
+-- whether any mirror may be undone: that is allowed, or a slot is to stay with its owner
 abbrev pub back_with : List Slot → Back → Back
 back_with [] back = back
 back_with (slot ∷ slots) back = Allowed
 
--- the text goes on so by some plan, from a history that tells what the old one tells and leads to a store like that one, and the plan ends where it should
+-- the text goes on so by some plan, which ends where it should. The history tells what the old history tells,
+-- and leads to a store like the old one
 pub record GoesAround (extent : Extent) (back : Back) (ring : RingValue) (dead : List NodeId) (left : List Slot) (writers : List (List ℕ)) (old : List Planned) (earlier : List Entry)
     (text : List ℕ) : Type 0 where
   pub plan : List Planned
@@ -74,8 +77,9 @@ pub record GoesAround (extent : Extent) (back : Back) (ring : RingValue) (dead :
   pub ends : LeadsWell extent back ring old plan dead left earlier
   pub goes_on : GoesOn ring dead writers plan cert history text
 
--- the bytes are the texts of a ring, a plan, a certificate and a history, which is a run of the plan, and maybe of a plan that was chosen to go on by; and the text goes on from there
--- as the options ask, by the chosen plan if there is one
+-- the bytes are the texts of a ring, a plan, a certificate and a history, which is a run of the plan. A plan
+-- that was chosen to go on by may follow. The text goes on from there as the options ask, by the chosen plan if
+-- there is one
 pub record IsAround (bytes : List ℕ) (options : Options) (detour : Detour) (text : List ℕ) : Type 0 where
   pub parts : Parts
   pub chosen : Option Chosen

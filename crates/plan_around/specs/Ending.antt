@@ -55,7 +55,8 @@ abbrev pub NodeEnds : Endings → ℕ → Type 0
 NodeEnds it x = (w : TheWorld) → Meets it.before.now w
     → (member_after it.ring.now it.new.now x ≡ member_after it.ring.now it.old.now x) ⊎ MayDiffer it.extent it.ring.now it.new.now w it.dead.now x
 
--- what is found of two plans is so: who serves each slot once they are done, the dead, and the hints that they keep in the store of the first plan
+-- what is found of two plans is so. It is who serves each slot once they are done, the dead, and their hints in
+-- the first plan's store
 pub record AreEnds (it : Endings) (ended : Ended) : Type 0 where
   pub old : IsPast it.ring.now it.old.now ended.old
   pub new : IsPast it.ring.now it.new.now ended.new

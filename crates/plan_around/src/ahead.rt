@@ -1,4 +1,4 @@
-//! Slots whose mirrors have puts that the slots' owners do not have.
+//! Slots whose mirrors hold puts that their owners lack.
 
 use crate::chunks::{Chunk, PutsByChunk};
 use crate::storing::{Mirrored, happen, has_put, mirrored_slot};
@@ -10,7 +10,7 @@ use ring_core::World;
 use ring_names::{Refusal, Slot};
 use std::alloc::Global;
 
-// The slot that the step copies to, if it is a copy that lists slots and is not done.
+// The slot that an unfinished copy from listed slots fills.
 fn listing_slot(plan: &Plan, progress: &Progress, step: u32) -> Option<Slot> {
     if step >= plan.len() || progress.is_done(step) {
         return None;
@@ -21,14 +21,14 @@ fn listing_slot(plan: &Plan, progress: &Progress, step: u32) -> Option<Slot> {
     }
 }
 
-// A chunk that a copy from listed slots gives, and the slot's mirror.
+// A chunk given by a copy from listed slots, and the slot's mirror.
 #[derive(Clone, Copy, Debug)]
 struct Given {
     it: Mirrored,
     chunk: Chunk,
 }
 
-// A store of the plan in the middle of its history, and the slots that were found so far.
+// The store at some point of the history, and the slots found so far.
 #[derive(Drop)]
 struct Looking<'a> {
     alloc: Global,
@@ -40,7 +40,6 @@ struct Looking<'a> {
 }
 
 impl Looking<'_> {
-    // The next entry.
     fn look(&mut self, entry: &Entry) -> Result<(), Refusal> {
         self.puts.note(self.approved.ring(), entry)?;
         let Some(given) = self.given(&entry.event) else {
@@ -56,7 +55,7 @@ impl Looking<'_> {
         Ok(())
     }
 
-    // The chunk that the event gives, if a copy gives it that lists slots and is not done.
+    // The chunk that the event gives, if by an unfinished copy from listed slots.
     fn given(&self, event: &Event) -> Option<Given> {
         let Event::ChunkCopy(step, chunk) = event else {
             return None;
@@ -67,7 +66,6 @@ impl Looking<'_> {
         Some(Given { it, chunk })
     }
 
-    // The puts of the chunk that the mirror does not have.
     fn lacking(&self, given: &Given) -> Result<Vec<u32>, Refusal> {
         let mut lacking = Vec::new(self.alloc);
         for put in self.puts.of(given.chunk) {
@@ -78,7 +76,7 @@ impl Looking<'_> {
         Ok(lacking)
     }
 
-    // Whether the mirror has one of these puts that no write could have given it.
+    // Whether the mirror now has a put that no write could have given it.
     fn is_ahead(&self, given: &Given, lacking: &[u32]) -> bool {
         lacking.iter().any(|put| {
             has_put(&self.store, given.it.mirror, *put, given.it.slot.index)
@@ -86,7 +84,6 @@ impl Looking<'_> {
         })
     }
 
-    // All entries in order.
     fn look_at_all(&mut self, history: &[Entry]) -> Result<(), Refusal> {
         for entry in history {
             self.look(entry)?;
@@ -95,7 +92,6 @@ impl Looking<'_> {
     }
 }
 
-// Whether a chunk was given by a copy that lists slots and is not done.
 fn has_listed(plan: &Plan, progress: &Progress, history: &[Entry]) -> bool {
     history.iter().any(|entry| match &entry.event {
         Event::ChunkCopy(step, _) => listing_slot(plan, progress, *step).is_some(),
@@ -103,8 +99,10 @@ fn has_listed(plan: &Plan, progress: &Progress, history: &[Entry]) -> bool {
     })
 }
 
-/// The slots whose mirrors got puts from listed slots that their owners did not have then, or while their owners were down, by copies that are not done. Costs one pass over
-/// the history, and if there are such copies one replay.
+/// Returns the slots whose mirrors got puts from listed slots, by unfinished copies, while the owners lacked
+/// these puts or were down.
+///
+/// Costs one pass over the history, and a replay if there are such copies.
 pub(crate) fn find_ahead(
     alloc: Global,
     approved: &Approved,

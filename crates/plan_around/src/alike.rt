@@ -1,4 +1,4 @@
-//! Whether the stores of two plans are alike.
+//! Compares the stores of two plans.
 
 ghost use Rattle.std.specs.Prelude.{◌≡◌, ℕ, ◌<◌, true, IfOk, IsTrue, Some};
 ghost use Rattle.plan_text.specs.Valid.{is_ring_slot};
@@ -16,7 +16,6 @@ use ring_names::{NodeId, Refusal, Slot};
 use ring_table::Ring;
 use std::alloc::Global;
 
-// Whether the slot has the same mirror in both stores, or none in the second if it may be taken back.
 fn is_mirror_alike(a: &World, b: &World, returns: &Returns, slot: Slot) -> bool
     requires old { is_ring_slot (ring_of a.now) slot ≡ true }
     requires new { is_ring_slot (ring_of b.now) slot ≡ true }
@@ -29,7 +28,6 @@ fn is_mirror_alike(a: &World, b: &World, returns: &Returns, slot: Slot) -> bool
     }
 }
 
-// Whether the slot has the same owner in both stores, and such a mirror.
 fn is_slot_alike(a: &World, b: &World, returns: &Returns, slot: Slot) -> bool
     requires old { is_ring_slot (ring_of a.now) slot ≡ true }
     requires new { is_ring_slot (ring_of b.now) slot ≡ true }
@@ -43,7 +41,6 @@ fn is_slot_alike(a: &World, b: &World, returns: &Returns, slot: Slot) -> bool
     is_mirror_alike(a, b, returns, slot)
 }
 
-// Whether the slots of the partition have the same nodes in both.
 fn is_row_alike(a: &World, b: &World, returns: &Returns, partition: u32, slots: u32) -> bool
     requires same { ring_of b.now ≡ ring_of a.now }
     requires slots { slots ≡ (ring_of b.now).n }
@@ -59,7 +56,6 @@ fn is_row_alike(a: &World, b: &World, returns: &Returns, partition: u32, slots: 
     true
 }
 
-// Whether all slots have the same owners in both stores, and the same mirrors but for those that are taken back.
 fn are_nodes_alike(ring: &Ring, a: &World, b: &World, returns: &Returns) -> bool
     requires same { ring_of b.now ≡ ring_of a.now }
     requires ring { ring_of b.now ≡ ring.now }
@@ -76,7 +72,6 @@ fn are_nodes_alike(ring: &Ring, a: &World, b: &World, returns: &Returns) -> bool
     true
 }
 
-// Whether each slot of the put's partition holds the put in both or in neither.
 fn is_held_alike(a: &World, b: &World, put: u32) -> bool
     requires same { ring_of b.now ≡ ring_of a.now }
     requires old { put < put_count a.now }
@@ -86,7 +81,6 @@ fn is_held_alike(a: &World, b: &World, put: u32) -> bool
     a.held_slots(put) == b.held_slots(put)
 }
 
-// Whether the slot's last step is done, if it has one.
 fn is_last_done(store: &World, plan: &Plan, slot: Slot) -> bool
     ensures { IsTrue result → (u : TheWorld) → Meets store.now u → (n : ℕ) → last_step plan.now slot ≡ Some n → u.done n ≡ true }
 {
@@ -97,14 +91,12 @@ fn is_last_done(store: &World, plan: &Plan, slot: Slot) -> bool
     }
 }
 
-// Whether both hold or neither.
 fn is_same(one: bool, other: bool) -> bool
     ensures { IsTrue result → one ≡ other }
 {
     if one { other } else { !other }
 }
 
-// Whether the node stores the put, for the slot of that index, in both or in neither.
 fn is_stored_alike(a: &World, b: &World, node: NodeId, put: u32, index: u32) -> bool
     requires old { put < put_count a.now }
     requires new { put < put_count b.now }
@@ -116,7 +108,7 @@ fn is_stored_alike(a: &World, b: &World, node: NodeId, put: u32, index: u32) -> 
     is_same(mine, theirs)
 }
 
-// Whether the mirror of the slot of that index of the put's partition stores the put in both or in neither, if the slot is mirrored in the second and its last step is to come.
+// Whether both mirrors of a slot that is mirrored in the second, with its last step to come, agree on the put.
 fn is_mirrored_alike(a: &World, b: &World, plan: &Plan, put: u32, index: u32) -> bool
     requires same { ring_of b.now ≡ ring_of a.now }
     requires plan { plan_of b.now ≡ plan.now }
@@ -137,7 +129,6 @@ fn is_mirrored_alike(a: &World, b: &World, plan: &Plan, put: u32, index: u32) ->
     }
 }
 
-// Whether the slots of the put's partition are alike in both, as far as the put is concerned.
 fn is_put_alike(a: &World, b: &World, plan: &Plan, put: u32, slots: u32) -> bool
     requires same { ring_of b.now ≡ ring_of a.now }
     requires plan { plan_of b.now ≡ plan.now }
@@ -157,7 +148,7 @@ fn is_put_alike(a: &World, b: &World, plan: &Plan, put: u32, slots: u32) -> bool
     true
 }
 
-// Marks the put if it is alike. Whether it is, if there is a put of that number.
+// Marks the put if it is alike. Returns whether it is.
 fn mark_alike(
     a: &World,
     b: &World,
@@ -183,7 +174,7 @@ fn mark_alike(
     true
 }
 
-// Whether each put is alike. They are compared in that order; if one is missing there, that is `false`.
+// Whether all puts are alike. They are compared in this order, which must have each.
 fn are_puts_alike(
     alloc: Global,
     ring: &Ring,
@@ -209,8 +200,9 @@ fn are_puts_alike(
     Ok(are_marked(marks.as_slice(), puts))
 }
 
-/// Whether both stores are alike: the second is one of this ring and this plan. Puts are compared in that order, which has each. Costs a few look-ups for each slot, and for
-/// each put and each slot of its partition.
+/// Whether both stores are alike. The second must follow this ring and plan, and `order` must have each put.
+///
+/// Costs a few look-ups for each slot, and for each put and slot of its partition.
 pub(crate) fn are_alike(
     alloc: Global,
     ring: &Ring,

@@ -1,4 +1,4 @@
-//! Whether no step that is to come asks anything of the dead.
+//! Checks that no remaining step involves a dead node.
 
 ghost use Rattle.std.specs.Prelude.{◌≡◌, ◌||◌, true, IsTrue, IfOk, IfErr};
 ghost use Rattle.ring_names.specs.declared.refusal.Refusal.TheVariants.{OutOfMemory};
@@ -18,7 +18,6 @@ use ring_names::{NodeId, Refusal};
 use ring_table::Ring;
 use std::alloc::Global;
 
-// Whether the slot's mirror is not dead, if it has one.
 fn is_mirror_spared(dead: &Dead, mirror: Option<NodeId>) -> bool
     ensures { result ≡ are_spared dead.now.nodes.now (mirrors mirror) }
 {
@@ -28,7 +27,6 @@ fn is_mirror_spared(dead: &Dead, mirror: Option<NodeId>) -> bool
     }
 }
 
-// Whether the step asks nothing of a dead node.
 fn is_unasked(dead: &Dead, ring: &Ring, present: &Present, step: &Step) -> bool
     requires { step_suits ring.now step.now ≡ true }
     ensures { result ≡ are_spared dead.now.nodes.now (asked (serving_at ring.now present.now) step.now) }
@@ -45,7 +43,6 @@ fn is_unasked(dead: &Dead, ring: &Ring, present: &Present, step: &Step) -> bool
     }
 }
 
-// Whether the step is over, or asks nothing of a dead node.
 fn is_step_apart(
     store: &World,
     dead: &Dead,
@@ -61,7 +58,7 @@ fn is_step_apart(
     is_unasked(dead, ring, present, step) || is_over(store, step, number)
 }
 
-/// Whether in the world that the store is in no step that is to come asks anything of these nodes. Costs one pass over the plan.
+/// Whether no remaining step involves these nodes. Costs one pass over the plan.
 pub(crate) fn are_apart(
     alloc: Global,
     store: &World,

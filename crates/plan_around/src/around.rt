@@ -1,4 +1,4 @@
-//! The bundle that goes on around the dead.
+//! The bundle that goes on around dead nodes.
 
 ghost use Rattle.std.specs.Prelude.{◌≡◌, ◌≤◌, IfOk, OnOk, length};
 ghost use Rattle.history_text.specs.Replays.{IsReplay};
@@ -24,7 +24,7 @@ use ring_names::{Names, NodeId, Refusal, Slot};
 use ringplan_job::Detour;
 use std::alloc::Global;
 
-// The nodes that are dead from here on, the racks of nodes if they are known, the slots that stay with their owners, and how the plan goes on.
+// The dead nodes, the racks if known, the slots that stay, and how the plan goes on.
 #[derive(Clone, Copy)]
 struct Asked<'a> {
     dead: &'a [NodeId],
@@ -33,7 +33,6 @@ struct Asked<'a> {
     detour: Detour,
 }
 
-// A plan that has begun, as it was read.
 #[derive(Drop)]
 struct Begun<'a> {
     alloc: Global,
@@ -44,7 +43,7 @@ struct Begun<'a> {
     asked: Asked<'a>,
 }
 
-/// Asks whether the history is a run of the approved plan.
+/// Checks that the history is a run of the approved plan.
 pub fn follow(alloc: Global, approved: &Approved, history: &[Entry]) -> Result<(), Refusal>
     requires { length history.now ≤ 1000000 }
     ensures { OnOk result (IsHistory approved.now.ring approved.now.plan history.now) }
@@ -53,7 +52,7 @@ pub fn follow(alloc: Global, approved: &Approved, history: &[Entry]) -> Result<(
     Ok(())
 }
 
-// Why there is no other plan: want of memory, or that none was found.
+// Why there is no other plan: memory ran out, or none was found.
 fn cause(refusal: Refusal) -> Refusal {
     match refusal {
         Refusal::OutOfMemory => Refusal::OutOfMemory,
@@ -61,7 +60,6 @@ fn cause(refusal: Refusal) -> Refusal {
     }
 }
 
-// What the search is to do.
 fn task_of<'a>(it: &'a Begun, ahead: &'a [Slot]) -> Task<'a> {
     Task {
         alloc: it.alloc,
@@ -79,13 +77,12 @@ fn task_of<'a>(it: &'a Begun, ahead: &'a [Slot]) -> Task<'a> {
     }
 }
 
-// What the search found, as far as it may go.
 fn find(it: &Begun, reach: Reach) -> Result<Around, Refusal> {
     let ahead = find_ahead(it.alloc, it.approved, it.history)?;
     find_around(task_of(it, ahead.as_slice()), reach)
 }
 
-// Adds which slots are to stay though no step to come moves them. Answers whether there is one.
+// Reports named slots that no remaining step moves. Returns whether there are any.
 fn push_unmoved(it: &Begun, words: &mut Words) -> Result<bool, Refusal> {
     let unmoved = find_unmoved(&task_of(it, &[]))?;
     if !unmoved.is_empty() {
@@ -101,7 +98,7 @@ fn push_unmoved(it: &Begun, words: &mut Words) -> Result<bool, Refusal> {
     Ok(!unmoved.is_empty())
 }
 
-// The text that goes on by the plan that was found: its certificate is that of the old plan if it is that plan, and otherwise one that is found for it.
+// The text that goes on by the plan found. An unchanged plan keeps its certificate; otherwise one is found.
 fn go_by(it: &Begun, before: &World, found: Around) -> Result<Vec<u8>, Refusal>
     requires { IsAfter it.now.approved.now.ring it.now.approved.now.plan it.now.history.now before.now }
     ensures { IfOk result (λ v. GoesAround it.now.asked.detour.extent it.now.asked.detour.back it.now.approved.now.ring it.now.asked.dead.now it.now.asked.left.now
@@ -137,7 +134,7 @@ fn go_by(it: &Begun, before: &World, found: Around) -> Result<Vec<u8>, Refusal>
     go_on(it.alloc, plan, &going, before)
 }
 
-// The bundle that goes on from there, by a search that goes so far. Adds what becomes of slots and nodes.
+// The bundle found with this reach. Adds what becomes of slots and nodes.
 fn go_so_far(
     it: &Begun,
     before: &World,
@@ -156,7 +153,6 @@ fn go_so_far(
     Ok(text)
 }
 
-// Whether there is no such plan, and memory was not refused.
 fn is_none(outcome: &Result<Vec<u8>, Refusal>) -> bool {
     match outcome {
         Ok(_) | Err(Refusal::OutOfMemory) => false,
@@ -164,7 +160,7 @@ fn is_none(outcome: &Result<Vec<u8>, Refusal>) -> bool {
     }
 }
 
-// The bundle that goes on from there, by the search that goes farthest and finds one. Adds what becomes of slots and nodes.
+// The bundle found with the greatest reach that succeeds. Adds what becomes of slots and nodes.
 fn go_around(it: &Begun, before: &World, words: &mut Words) -> Result<Vec<u8>, Refusal>
     requires { IsAfter it.now.approved.now.ring it.now.approved.now.plan it.now.history.now before.now }
     ensures { IfOk result (λ v. GoesAround it.now.asked.detour.extent it.now.asked.detour.back it.now.approved.now.ring it.now.asked.dead.now it.now.asked.left.now
@@ -181,14 +177,12 @@ fn go_around(it: &Begun, before: &World, words: &mut Words) -> Result<Vec<u8>, R
     go_so_far(it, before, Reach::Full, words)
 }
 
-// What the steps are called in the plan that was chosen.
 fn kept_by(it: &Begun, chosen: &Plan) -> Result<Kept, Refusal> {
     let ahead = find_ahead(it.alloc, it.approved, it.history)?;
     let task = task_of(it, ahead.as_slice());
     find_kept(&task, chosen)
 }
 
-// The bundle that goes on by a plan that was chosen.
 fn go_by_chosen(it: &Begun, before: &World, chosen: Chosen) -> Result<Vec<u8>, Refusal>
     requires { IsAfter it.now.approved.now.ring it.now.approved.now.plan it.now.history.now before.now }
     ensures around { IfOk result (λ v. GoesAround it.now.asked.detour.extent it.now.asked.detour.back it.now.approved.now.ring it.now.asked.dead.now it.now.asked.left.now
@@ -212,7 +206,7 @@ fn go_by_chosen(it: &Begun, before: &World, chosen: Chosen) -> Result<Vec<u8>, R
     go_on(it.alloc, plan, &going, before)
 }
 
-// The bundle that goes on by the plan that was chosen, or if none was, by one that is found.
+// The bundle that goes on by the chosen plan, or by one that is found.
 fn go_by_any(
     it: &Begun,
     before: &World,
@@ -233,7 +227,6 @@ fn go_by_any(
     go_by_chosen(it, before, chosen)
 }
 
-// What is said if the history goes on by no plan.
 fn push_none(has_chosen: bool, words: &mut Words) {
     words.clear();
     words.text(if has_chosen {
@@ -243,7 +236,6 @@ fn push_none(has_chosen: bool, words: &mut Words) {
     });
 }
 
-// The bundle that goes on from one that was read.
 fn around_read(
     alloc: Global,
     halted: Halted,
@@ -290,7 +282,6 @@ fn around_read(
     }
 }
 
-// What the options and the detour ask for, around these nodes and by these racks.
 fn asked_for<'a>(
     dead: &'a [NodeId],
     racking: &'a Racking,
@@ -312,15 +303,27 @@ fn asked_for<'a>(
     }
 }
 
-/// Makes the bundle that goes on where one stopped, around the nodes that are dead by the options: its ring, another plan, a certificate, and the history by that plan. An
-/// executor goes on with it: what it holds of a step it finds by the step's kind, partition, slot and node. Slots that the options name stay with their owners, or go to their
-/// mirrors if a copy has given all; other mirrors are taken back only if the detour allows it. If a second bundle follows, without a history, its plan is the one to go on by.
-/// Adds line by line to `words` what becomes of slots and nodes that do not go where they were to go, or at `NoPlan` why.
+/// Makes the bundle that continues a stopped one, around the options' dead nodes. It has the ring, another
+/// plan, a certificate, and the history by that plan.
 ///
-/// Refused is the first fault of the texts; a name that the ring does not declare, and a member without a rack where racks are known, as `UnknownNode(0)`; a partition that
-/// the ring does not have, as `TooLarge` with its line in the layout; a plan that the checker refuses; a history that is not a run of it; and as `NoPlan` a slot that
-/// is to stay though no step to come moves it, if no plan is found by which the history goes on, or if it does not go on by the plan that was chosen. Costs about what `check` and `replay` cost of both bundles, and as much
-/// again for each plan that the checker refuses, at most two.
+/// Executors find what they hold of a step by its kind, partition, slot and node.
+///
+/// Named slots stay with their owners, or go to their mirrors if a copy has all chunks. Other mirrors are
+/// undone only if the detour allows it.
+///
+/// If a second bundle follows, without a history, its plan is used. Adds to `words` what becomes of slots and
+/// nodes, or at `NoPlan` why.
+///
+/// Fails with the first fault of the texts. Fails with `UnknownNode(0)` for a name that the ring does not
+/// declare, or a member without a rack if racks are known.
+///
+/// Fails with `TooLarge` and the layout's line for an unknown partition. Fails with the checker's refusal, and
+/// with a history's if it is not a run.
+///
+/// Fails with `NoPlan` if no remaining step moves a named slot. Also fails so if the history cannot go on by
+/// the found or chosen plan.
+///
+/// Costs about `check` and `replay` of both bundles, and the same for each plan that the checker refuses, at most two.
 pub fn around_bundle(
     alloc: Global,
     bytes: &[u8],

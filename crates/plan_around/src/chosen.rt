@@ -1,4 +1,4 @@
-//! A plan that stopped, and the plan that was chosen to go on by.
+//! A plan that stopped, and the plan chosen to go on by.
 
 ghost use Rattle.std.specs.Prelude.{◌≡◌, IfOk, IfSome, Ok};
 ghost use Rattle.texts.specs.Judging.{map_ok};
@@ -14,7 +14,7 @@ use ring_table::{Ring, read_ring_section};
 use std::alloc::Global;
 use texts::Lines;
 
-/// A plan of the ring before it, with its certificate, and the ring that it names.
+/// A plan of the previous ring, its certificate, and the ring that it names.
 #[derive(Drop)]
 pub(crate) struct Chosen {
     pub(crate) ring: Ring,
@@ -22,14 +22,13 @@ pub(crate) struct Chosen {
     pub(crate) cert: Cert,
 }
 
-/// A plan with a history, and the plan that was chosen to go on by, if there is one.
+/// A plan with a history, and the chosen plan, if any.
 #[derive(Drop)]
 pub(crate) struct Halted {
     pub(crate) replay: ReplayBundle,
     pub(crate) chosen: Option<Chosen>,
 }
 
-// Reads a ring, and a plan and its certificate of the ring before it.
 #[tactic(auto, unfolding(crate::specs::Chosen::front_at))]
 fn read_front(alloc: Global, ring: &Ring, lines: &mut Lines) -> Result<Chosen, Refusal>
     ensures read { Reads result lines.new (front_at ring.now lines.old) }
@@ -45,7 +44,6 @@ fn read_front(alloc: Global, ring: &Ring, lines: &mut Lines) -> Result<Chosen, R
     })
 }
 
-// Reads the plan that was chosen, if a ring follows.
 #[tactic(auto, unfolding(crate::specs::Chosen::chosen_at))]
 fn read_chosen(alloc: Global, ring: &Ring, lines: &mut Lines) -> Result<Option<Chosen>, Refusal>
     ensures read { Reads result lines.new (chosen_at ring.now lines.old) }
@@ -58,7 +56,6 @@ fn read_chosen(alloc: Global, ring: &Ring, lines: &mut Lines) -> Result<Option<C
     Ok(Some(chosen))
 }
 
-// Reads a bundle with a history, and the plan that was chosen.
 #[tactic(auto, unfolding(crate::specs::Chosen::halted_at))]
 fn read_parts(alloc: Global, lines: &mut Lines) -> Result<Halted, Refusal>
     ensures read { Reads (map_ok halted_of result) lines.new (halted_at lines.old) }
@@ -70,7 +67,7 @@ fn read_parts(alloc: Global, lines: &mut Lines) -> Result<Halted, Refusal>
     Ok(Halted { replay, chosen })
 }
 
-/// Reads a bundle with a history, and after it a bundle without one, if there is one: the plan that was chosen to go on by.
+/// Reads a bundle with a history, and perhaps one without: the plan chosen to go on by.
 pub(crate) fn read_halted(alloc: Global, bytes: &[u8]) -> Result<Halted, Refusal>
     ensures read { IfOk result (λ v. whole_text halted_at bytes.now ≡ Ok (halted_of v)) }
     ensures replay { IfOk result (λ v. IsReplay v.replay) }

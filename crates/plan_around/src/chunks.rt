@@ -1,4 +1,4 @@
-//! The puts of a history, by where their keys lie.
+//! The puts of a history, by the place of their keys.
 
 use plan_runs::{Entry, Event, Reply};
 use ring_names::Refusal;
@@ -7,10 +7,9 @@ use ring_table::Ring;
 use std::alloc::Global;
 use std::collections::BTreeMap;
 
-/// A partition and a chunk of it.
 pub(crate) type Chunk = (u32, u32);
 
-/// The numbers of puts, by the chunk of their keys.
+/// The numbers of puts, by chunk.
 #[derive(Drop)]
 pub(crate) struct PutsByChunk {
     alloc: Global,
@@ -18,7 +17,6 @@ pub(crate) struct PutsByChunk {
 }
 
 impl PutsByChunk {
-    /// No puts.
     pub(crate) fn new(alloc: Global) -> PutsByChunk {
         PutsByChunk {
             alloc,
@@ -26,7 +24,6 @@ impl PutsByChunk {
         }
     }
 
-    /// Adds the put that the entry starts, if it starts one.
     pub(crate) fn note(&mut self, ring: &Ring, entry: &Entry) -> Result<(), Refusal> {
         let (Event::StartPut(_, key, _, _), Reply::Put(put)) = (&entry.event, &entry.reply) else {
             return Ok(());
@@ -51,7 +48,7 @@ impl PutsByChunk {
         }
     }
 
-    /// All puts, those of each chunk one after the other.
+    /// All puts, chunk by chunk.
     pub(crate) fn in_order(&self) -> Result<Vec<u32>, Refusal> {
         let mut order = Vec::new(self.alloc);
         for puts in self.puts.values() {

@@ -1,4 +1,4 @@
-//! Whether a plan ends where it should that goes on in place of another one.
+//! Checks that a plan ends where it should, in place of another one.
 
 ghost use Rattle.std.specs.Prelude.{◌≡◌, ◌⊎◌, ℕ, ◌<◌, ◌||◌, true, false, length, Some, slice_get, IsTrue, IfOk};
 ghost use Rattle.std.specs.List.{list_any};
@@ -35,7 +35,7 @@ use ring_table::Ring;
 use ringplan_job::Extent;
 use std::alloc::Global;
 
-/// Two plans of a ring, the second in place of the first; the store in which the first one stopped; and what is asked of the second.
+/// A plan, the store in which it stopped, another plan in its place, and what is asked of that.
 #[derive(Clone, Copy)]
 pub(crate) struct Endings<'a> {
     pub(crate) ring: &'a Ring,
@@ -48,8 +48,7 @@ pub(crate) struct Endings<'a> {
     pub(crate) extent: Extent,
 }
 
-// What is found of both plans before their ends are compared: who serves each slot once they are done, the partitions for which dead nodes keep hints, and those with
-// slots that are left.
+// The final owners of both plans, the partitions with hints on dead nodes, and those with slots that stay.
 #[derive(Drop)]
 struct Ended<'a> {
     dead: Dead<'a>,
@@ -59,7 +58,6 @@ struct Ended<'a> {
     left: Vec<bool>,
 }
 
-// Marks the place if the node is dead.
 fn mark_if_dead(marks: &mut Vec<bool>, dead: &Dead, node: NodeId, place: u32)
     ensures { (p : ℕ) → is_flagged marks.new.items p ≡ true
         → ((p ≡ place) × (has node.0 (numbers dead.now.nodes.now) ≡ true)) ⊎ (is_flagged marks.old.items p ≡ true) }
@@ -69,7 +67,6 @@ fn mark_if_dead(marks: &mut Vec<bool>, dead: &Dead, node: NodeId, place: u32)
     }
 }
 
-// Marks the partitions for which dead nodes keep hints.
 fn hinted(alloc: Global, it: &Endings, dead: &Dead) -> Result<Vec<bool>, Refusal>
     ensures { IfOk result (λ marks. HintsIn it.now.before.now dead.now.nodes.now marks.items) }
 {
@@ -83,7 +80,6 @@ fn hinted(alloc: Global, it: &Endings, dead: &Dead) -> Result<Vec<bool>, Refusal
     Ok(marks)
 }
 
-// Whether a dead node owns a slot of the partition before the plan.
 fn has_dead_owner(ring: &Ring, dead: &Dead, partition: u32) -> bool
     ensures { result ≡ list_any (λ x. has x.0 (numbers dead.now.nodes.now)) (row_at ring.now.owners partition) }
 {
@@ -92,7 +88,6 @@ fn has_dead_owner(ring: &Ring, dead: &Dead, partition: u32) -> bool
         .any(|node| dead.has(*node))
 }
 
-// Whether the step mirrors a slot of the partition at a dead node.
 fn is_mirror_at_dead(step: &Step, dead: &Dead, partition: u32) -> bool
     ensures { IsTrue result → MirrorsIn step.now dead.now.nodes.now partition }
 {
@@ -102,7 +97,6 @@ fn is_mirror_at_dead(step: &Step, dead: &Dead, partition: u32) -> bool
     }
 }
 
-// Whether the step of that number mirrors a slot of the partition at a dead node.
 fn is_dead_target(plan: &Plan, dead: &Dead, number: u32, partition: u32) -> bool
     ensures { IsTrue result → (ring : RingValue) (w : TheWorld) → IsTouched ring plan.now w dead.now.nodes.now partition }
 {
@@ -112,7 +106,6 @@ fn is_dead_target(plan: &Plan, dead: &Dead, number: u32, partition: u32) -> bool
     is_mirror_at_dead(plan.step(number), dead, partition)
 }
 
-// Whether the plan mirrors the slot at a dead node.
 fn has_dead_target(plan: &Plan, dead: &Dead, slot: Slot) -> bool
     ensures { IsTrue result → (ring : RingValue) (w : TheWorld) → IsTouched ring plan.now w dead.now.nodes.now slot.partition }
 {
@@ -124,7 +117,6 @@ fn has_dead_target(plan: &Plan, dead: &Dead, slot: Slot) -> bool
     false
 }
 
-// Whether the plan mirrors a slot of the partition at a dead node.
 fn has_dead_targets(it: &Endings, dead: &Dead, partition: u32) -> bool
     ensures { IsTrue result → (ring : RingValue) (w : TheWorld) → IsTouched ring it.now.old.now w dead.now.nodes.now partition }
 {
@@ -137,7 +129,6 @@ fn has_dead_targets(it: &Endings, dead: &Dead, partition: u32) -> bool
     false
 }
 
-// Marks the partition of the slot at that place, if there is one.
 fn mark_at(marks: &mut Vec<bool>, left: &[Slot], place: usize)
     requires { StaysIn left.now marks.old.items }
     ensures { StaysIn left.now marks.new.items }
@@ -148,7 +139,6 @@ fn mark_at(marks: &mut Vec<bool>, left: &[Slot], place: usize)
     }
 }
 
-// Marks the partitions of slots that are left with their owners.
 fn left_in(alloc: Global, it: &Endings) -> Result<Vec<bool>, Refusal>
     ensures { IfOk result (λ marks. StaysIn it.now.left.now marks.items) }
 {
@@ -193,7 +183,6 @@ fn serves(before: &World, back: Back, slot: Slot, node: NodeId) -> bool
     }
 }
 
-// Whether the node should own the slot in the end.
 fn should_own(it: &Endings, old: &Present, slot: Slot, node: NodeId) -> bool
     requires past { IsPast it.now.ring.now it.now.old.now old.now }
     requires partition { slot.partition < it.now.ring.now.q }
@@ -209,7 +198,6 @@ fn should_own(it: &Endings, old: &Present, slot: Slot, node: NodeId) -> bool
     }
 }
 
-// Whether the step is a copy of the slot that has given all.
 fn is_given_by(before: &World, step: &Step, slot: Slot, number: u32) -> bool
     ensures same { IsTrue result → (from : Source) × (step.now ≡ Copy slot from) }
     ensures over { IsTrue result → (w : TheWorld) → Meets before.now w → (w.done number || is_whole w number) ≡ true }
@@ -220,7 +208,6 @@ fn is_given_by(before: &World, step: &Step, slot: Slot, number: u32) -> bool
     }
 }
 
-// Whether the step of that number is one.
 fn is_given_step(before: &World, plan: &Plan, slot: Slot, number: u32) -> bool
     ensures { IsTrue result → (w : TheWorld) → Meets before.now w → HasGiven plan.now w slot number }
 {
@@ -230,7 +217,6 @@ fn is_given_step(before: &World, plan: &Plan, slot: Slot, number: u32) -> bool
     is_given_by(before, plan.step(number), slot, number)
 }
 
-// Whether the step is no switch, or one that is to come.
 fn is_unswitched(before: &World, step: &Step, number: u32) -> bool
     ensures { IsTrue result → (w : TheWorld) → Meets before.now w → (s : TheSlot) → step.now ≡ Switch s → w.done number ≡ false }
 {
@@ -244,7 +230,6 @@ fn is_unswitched(before: &World, step: &Step, number: u32) -> bool
     }
 }
 
-// Whether the step of that number is one of these.
 fn is_unswitched_step(before: &World, plan: &Plan, number: u32) -> bool
     ensures { IsTrue result → (w : TheWorld) → Meets before.now w → (s : TheSlot) → step_at plan.now number ≡ Some (Switch s) → w.done number ≡ false }
 {
@@ -254,7 +239,6 @@ fn is_unswitched_step(before: &World, plan: &Plan, number: u32) -> bool
     is_unswitched(before, plan.step(number), number)
 }
 
-// Whether the step at that place of the slot's steps is one of these.
 fn is_unswitched_at(before: &World, plan: &Plan, slot: Slot, place: usize) -> bool
     ensures { IsTrue result → (w : TheWorld) → Meets before.now w → IsUnswitched plan.now w slot place }
 {
@@ -264,7 +248,7 @@ fn is_unswitched_at(before: &World, plan: &Plan, slot: Slot, place: usize) -> bo
     }
 }
 
-// Whether the slot's switches from that place of its steps on are to come.
+// Whether the slot's switches from this place of its steps on are to come.
 fn are_to_come(before: &World, plan: &Plan, slot: Slot, place: usize) -> bool
     ensures { IsTrue result → (w : TheWorld) → Meets before.now w → AreToCome plan.now w slot place }
 {
@@ -277,7 +261,7 @@ fn are_to_come(before: &World, plan: &Plan, slot: Slot, place: usize) -> bool
     true
 }
 
-// Whether the step at that place of the slot's steps is a copy that has given all, and fills the mirror that the slot has now.
+// Whether the step at the place is a copy that has given all to the slot's present mirror.
 fn is_given_at(before: &World, plan: &Plan, slot: Slot, place: usize) -> bool
     ensures { IsTrue result → (w : TheWorld) → Meets before.now w → IsGiven plan.now w slot }
 {
@@ -289,7 +273,7 @@ fn is_given_at(before: &World, plan: &Plan, slot: Slot, place: usize) -> bool
     }
 }
 
-// Whether a copy of the slot has given all that fills the mirror that the slot has now.
+// Whether a copy has given all to the slot's present mirror.
 fn is_given(before: &World, plan: &Plan, slot: Slot) -> bool
     ensures { IsTrue result → (w : TheWorld) → Meets before.now w → IsGiven plan.now w slot }
 {
@@ -301,7 +285,7 @@ fn is_given(before: &World, plan: &Plan, slot: Slot) -> bool
     false
 }
 
-// Whether the node may own in the end a slot that is to stay.
+// Whether the node may finally own a slot that is to stay.
 fn may_keep(before: &World, plan: &Plan, slot: Slot, node: NodeId) -> bool
     requires slot { is_ring_slot (ring_of before.now) slot ≡ true }
     requires plan { plan_of before.now ≡ plan.now }
@@ -315,7 +299,6 @@ fn may_keep(before: &World, plan: &Plan, slot: Slot, node: NodeId) -> bool
     }
 }
 
-// Whether the slot ends where it should.
 fn ends_at(it: &Endings, ended: &Ended, partition: u32, index: u32) -> bool
     requires ended { AreEnds it.now ended.now }
     requires partition { partition < it.now.ring.now.q }
@@ -327,7 +310,6 @@ fn ends_at(it: &Endings, ended: &Ended, partition: u32, index: u32) -> bool
     should_own(it, &ended.old, slot, node) || is_excused(it, ended, partition)
 }
 
-// Whether the slots of the partition end where they should.
 fn row_ends(it: &Endings, ended: &Ended, partition: u32) -> bool
     requires ended { AreEnds it.now ended.now }
     requires partition { partition < it.now.ring.now.q }
@@ -342,7 +324,6 @@ fn row_ends(it: &Endings, ended: &Ended, partition: u32) -> bool
     true
 }
 
-// Whether all slots end where they should.
 fn slots_end(it: &Endings, ended: &Ended) -> bool
     requires { AreEnds it.now ended.now }
     ensures { IsTrue result → (p : ℕ) → p < it.now.ring.now.q → (i : ℕ) → i < it.now.ring.now.n → SlotEnds it.now p i }
@@ -356,7 +337,7 @@ fn slots_end(it: &Endings, ended: &Ended) -> bool
     true
 }
 
-// Whether the slot, which is to stay, ends with a node that may own it then.
+// Whether the slot ends with a node that may keep it.
 fn slot_stays(it: &Endings, ended: &Ended, slot: Slot) -> bool
     requires { AreEnds it.now ended.now }
     ensures { IsTrue result → SlotStays it.now slot }
@@ -368,7 +349,6 @@ fn slot_stays(it: &Endings, ended: &Ended, slot: Slot) -> bool
     may_keep(it.before, it.old, slot, node)
 }
 
-// Whether the slot at that place does, if there is one.
 fn stays_at(it: &Endings, ended: &Ended, place: usize) -> bool
     requires { AreEnds it.now ended.now }
     ensures { IsTrue result → (s : Slot) → slice_get it.now.left.now place ≡ Some s → SlotStays it.now s }
@@ -379,7 +359,6 @@ fn stays_at(it: &Endings, ended: &Ended, place: usize) -> bool
     }
 }
 
-// Whether all slots do that are to stay.
 fn slots_stay(it: &Endings, ended: &Ended) -> bool
     requires { AreEnds it.now ended.now }
     ensures { IsTrue result → (i : ℕ) (s : Slot) → slice_get it.now.left.now i ≡ Some s → SlotStays it.now s }
@@ -392,7 +371,6 @@ fn slots_stay(it: &Endings, ended: &Ended) -> bool
     true
 }
 
-// Marks the owners of the partition's slots once the new plan is done.
 fn mark_owners(it: &Endings, ended: &Ended, partition: u32, marks: &mut Vec<bool>)
     requires ended { AreEnds it.now ended.now }
     requires partition { partition < it.now.ring.now.q }
@@ -407,7 +385,6 @@ fn mark_owners(it: &Endings, ended: &Ended, partition: u32, marks: &mut Vec<bool
     }
 }
 
-// Marks the node at which the step mirrors a slot.
 fn mark_target(marks: &mut Vec<bool>, step: &Step)
     ensures { (x : ℕ) → is_flagged marks.new.items x ≡ true → MirrorsAt step.now x ⊎ (is_flagged marks.old.items x ≡ true) }
 {
@@ -417,7 +394,6 @@ fn mark_target(marks: &mut Vec<bool>, step: &Step)
     }
 }
 
-// Marks the nodes at which the new plan mirrors slots.
 fn mark_targets(it: &Endings, marks: &mut Vec<bool>)
     requires { HoldsIn it.now marks.old.items }
     ensures { HoldsIn it.now marks.new.items }
@@ -427,7 +403,6 @@ fn mark_targets(it: &Endings, marks: &mut Vec<bool>)
     }
 }
 
-// Marks the nodes that keep hints.
 fn mark_keepers(it: &Endings, marks: &mut Vec<bool>)
     requires { HoldsIn it.now marks.old.items }
     ensures { HoldsIn it.now marks.new.items }
@@ -440,7 +415,7 @@ fn mark_keepers(it: &Endings, marks: &mut Vec<bool>)
     }
 }
 
-// The nodes that may hold something once the new plan is done.
+// The nodes that may hold something after the new plan.
 fn holders(alloc: Global, it: &Endings, ended: &Ended) -> Result<Vec<bool>, Refusal>
     requires { AreEnds it.now ended.now }
     ensures { IfOk result (λ marks. HoldsIn it.now marks.items) }
@@ -455,14 +430,13 @@ fn holders(alloc: Global, it: &Endings, ended: &Ended) -> Result<Vec<bool>, Refu
     Ok(marks)
 }
 
-// Whether the node is a member once the plan is done.
 fn is_member_after(ring: &Ring, plan: &Plan, node: NodeId) -> bool
     ensures { result ≡ member_after ring.now plan.now node.0 }
 {
     (ring.is_member(node) || plan.is_joined(node)) && !plan.is_retired(node)
 }
 
-// Whether the node ends as a member or not, as it should.
+// Whether the node ends as it should: as a member or not.
 fn node_ends(it: &Endings, ended: &Ended, holders: &[bool], node: NodeId) -> bool
     requires ended { AreEnds it.now ended.now }
     requires holders { HoldsIn it.now holders.now }
@@ -480,7 +454,6 @@ fn node_ends(it: &Endings, ended: &Ended, holders: &[bool], node: NodeId) -> boo
     is_flagged(holders, node.0 as usize)
 }
 
-// Whether all nodes do.
 fn nodes_end(it: &Endings, ended: &Ended, holders: &[bool]) -> bool
     requires ended { AreEnds it.now ended.now }
     requires holders { HoldsIn it.now holders.now }
@@ -496,7 +469,7 @@ fn nodes_end(it: &Endings, ended: &Ended, holders: &[bool]) -> bool
     true
 }
 
-/// Whether the new plan ends where it should, from whatever world the store is in. Costs a pass over each plan and over the hints that are kept.
+/// Whether the new plan ends where it should, from any world of the store. Costs a pass over each plan and over the hints.
 pub(crate) fn ends_well(alloc: Global, it: &Endings) -> Result<bool, Refusal>
     requires old { Suits it.now.ring.now it.now.old.now }
     requires new { Suits it.now.ring.now it.now.new.now }

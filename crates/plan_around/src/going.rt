@@ -1,4 +1,4 @@
-//! Whether a plan and a history go on around the dead, as their texts.
+//! Checks that a plan and a history go on around dead nodes, and writes them.
 
 ghost use Rattle.std.specs.Prelude.{◌≡◌, ◌++◌, IsTrue, IfOk, OnOk};
 ghost use Rattle.plan_text.specs.Valid.{Suits as PlanSuits};
@@ -35,7 +35,6 @@ use std::alloc::Global;
 // The most entries of a history.
 const MOST: usize = 1_000_000;
 
-/// The plan with its ring, where the checker accepts it.
 pub(crate) fn accepted(
     alloc: Global,
     ring: Ring,
@@ -53,7 +52,7 @@ pub(crate) fn accepted(
     }
 }
 
-// Whether the history leads to where the dead are asked for nothing more, and to a store like the one before.
+// Whether the history ends in a store like the one before, and the rest involves no dead node.
 fn runs_on(
     alloc: Global,
     approved: &Approved,
@@ -110,7 +109,6 @@ fn history_on(
     Ok(out)
 }
 
-// The text, and the other behind it.
 fn followed(text: Vec<u8>, more: &[u8]) -> Result<Vec<u8>, Refusal>
     ensures { IfOk result (λ v. v.items ≡ text.items ++ more.now) }
 {
@@ -119,7 +117,7 @@ fn followed(text: Vec<u8>, more: &[u8]) -> Result<Vec<u8>, Refusal>
     Ok(text)
 }
 
-/// A plan that has begun, and what its steps are called in another one.
+/// A plan that has begun, and the numbers of its steps in another one.
 #[derive(Clone, Copy)]
 pub(crate) struct Going<'a> {
     pub(crate) old: &'a Approved,
@@ -129,7 +127,7 @@ pub(crate) struct Going<'a> {
     pub(crate) left: &'a [Slot],
     pub(crate) back: Back,
     pub(crate) extent: Extent,
-    /// By step of the old plan, its number in the new one; none if its entries are left out.
+    /// By step of the old plan, its number in the new one; none if entries are left out.
     pub(crate) numbers: &'a [Option<u32>],
     /// By step of the new plan, its number in the old one.
     pub(crate) olds: &'a [u32],
@@ -137,14 +135,12 @@ pub(crate) struct Going<'a> {
     pub(crate) cert: &'a Cert,
 }
 
-// Whether any mirror may be taken back: that is allowed, or a slot is to stay with its owner.
 fn back_with(left: &[Slot], back: Back) -> Back
     ensures { result ≡ back_with left.now back }
 {
     if left.is_empty() { back } else { Back::Allowed }
 }
 
-// Whether the entries tell what the old history tells, by the new plan.
 fn tells_past(
     alloc: Global,
     it: &Going,
@@ -164,7 +160,7 @@ fn tells_past(
     is_same_past(alloc, &plans, it.history, &Told { entries, counts })
 }
 
-// The history by the new plan, and the store to which it leads. `NoPlan` if it does not tell what the old one tells.
+// The history by the new plan, and its store. Fails with `NoPlan` if it does not match the old one.
 fn past<'a>(alloc: Global, it: &Going, new: &'a Approved) -> Result<Retold<'a>, Refusal>
     ensures past { IfOk result (λ v. IsSamePast (back_with it.now.left.now it.now.back) it.now.old.now.plan new.now.plan it.now.history.now v.led.entries.items) }
     ensures led { IfOk result (λ v. IsLed new.now.ring new.now.plan v.led) }
@@ -177,7 +173,7 @@ fn past<'a>(alloc: Global, it: &Going, new: &'a Approved) -> Result<Retold<'a>, 
     Ok(told)
 }
 
-// Asks whether the new plan ends where it should. If it does not, that is `NoPlan`.
+// Checks that the new plan ends where it should, or fails with `NoPlan`.
 fn ask_ends(alloc: Global, it: &Going, before: &World, new: &Approved) -> Result<(), Refusal>
     requires same { new.now.ring ≡ it.now.old.now.ring }
     requires ring { ring_of before.now ≡ it.now.old.now.ring }
@@ -201,9 +197,13 @@ fn ask_ends(alloc: Global, it: &Going, before: &World, new: &Approved) -> Result
     Err(Refusal::NoPlan)
 }
 
-/// The text of all, if the checker accepts the new plan and the history goes on by it, from a store like the one that the old history leads to. `NoPlan` if the plan or the
-/// certificate is not the ring's, if the history does not tell what the old one tells, if the stores differ, if the plan does not end where it should, or if the dead are
-/// asked for something; otherwise what the checker refuses, or the store of the new plan.
+/// Returns the whole text, if the checker accepts the new plan and the history goes on by it. The new store
+/// must be like the old one.
+///
+/// Fails with `NoPlan` if plan or certificate are not the ring's, or the plan ends elsewhere or involves a dead
+/// node. Also fails so if histories or stores differ.
+///
+/// Otherwise fails as the checker or the new store does.
 pub(crate) fn go_on(
     alloc: Global,
     plan: Plan,

@@ -18,7 +18,6 @@ pub(crate) struct Led<'a> {
 }
 
 impl<'a> Led<'a> {
-    /// Nothing has happened.
     pub(crate) fn start(alloc: Global, approved: &'a Approved) -> Result<Led<'a>, Refusal>
         ensures { IfOk result (λ v. IsLed approved.now.ring approved.now.plan v) }
     {
@@ -27,7 +26,6 @@ impl<'a> Led<'a> {
         Ok(Led { store, entries })
     }
 
-    /// The event happens, and is noted with its reply.
     pub(crate) fn happen(&mut self, event: Event) -> Result<(), Refusal>
         ensures { OnOk result (GoesFarther self.old self.new) }
     {

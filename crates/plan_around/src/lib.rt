@@ -1,4 +1,4 @@
-//! Another plan around nodes that died in the middle of a change, once the checker has accepted it and the replay has found that the history goes on by it.
+//! Another plan around nodes that died in the middle of a change. The checker accepts it, and the history goes on by it.
 #![tactic(auto)]
 
 mod ahead;

@@ -7,7 +7,6 @@ use plan_bundles::is_flagged;
 use ring_names::Refusal;
 use std::alloc::Global;
 
-/// So many places, none marked.
 pub(crate) fn unmarked(alloc: Global, count: u32) -> Result<Vec<bool>, Refusal>
     ensures { IfOk result (λ marks. (p : ℕ) → is_flagged marks.items p ≡ false) }
 {
@@ -15,7 +14,6 @@ pub(crate) fn unmarked(alloc: Global, count: u32) -> Result<Vec<bool>, Refusal>
     Ok(marks)
 }
 
-/// Marks the place, if there is one.
 pub(crate) fn mark(marks: &mut Vec<bool>, place: u32)
     ensures { (p : ℕ) → is_flagged marks.new.items p ≡ true → (p ≡ place) ⊎ (is_flagged marks.old.items p ≡ true) }
 {
@@ -25,7 +23,7 @@ pub(crate) fn mark(marks: &mut Vec<bool>, place: u32)
     }
 }
 
-/// Whether the first places, so many, are marked.
+/// Whether the first `count` places are marked.
 pub(crate) fn are_marked(marks: &[bool], count: u32) -> bool
     ensures { IsTrue result → (p : ℕ) → p < count → is_flagged marks.now p ≡ true }
 {

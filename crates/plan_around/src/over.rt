@@ -1,4 +1,4 @@
-//! Whether a step asks nothing of anybody any more.
+//! Checks that a step needs no node any more.
 
 ghost use Rattle.std.specs.Prelude.{◌≡◌, ◌||◌, true, false, IsTrue};
 ghost use Rattle.ring_names.specs.declared.refusal.Refusal.TheVariants.{AlreadyDone, NotOpen, NotReady};
@@ -11,28 +11,24 @@ use plan_text::{Plan, Step};
 use ring_core::World;
 use ring_names::Refusal;
 
-// Whether it is refused since it is so already.
 fn is_already(refusal: &Refusal) -> bool
     ensures { IsTrue result → refusal.now ≡ AlreadyDone }
 {
     matches!(refusal, Refusal::AlreadyDone)
 }
 
-// Whether it is refused since the copy is not open.
 fn is_not_open(refusal: &Refusal) -> bool
     ensures { IsTrue result → refusal.now ≡ NotOpen }
 {
     matches!(refusal, Refusal::NotOpen)
 }
 
-// Whether it is refused since a step is to come for which it waits.
 fn is_not_ready(refusal: &Refusal) -> bool
     ensures { IsTrue result → refusal.now ≡ NotReady }
 {
     matches!(refusal, Refusal::NotReady)
 }
 
-// Whether the store refuses the event since it is so already.
 fn has_happened(store: &World, event: &Event) -> bool
     ensures { IsTrue result → Refuses store.now event.now AlreadyDone }
 {
@@ -42,7 +38,6 @@ fn has_happened(store: &World, event: &Event) -> bool
     }
 }
 
-// Whether the store refuses the event since its copy is not open.
 fn is_closed_to(store: &World, event: &Event) -> bool
     ensures { IsTrue result → Refuses store.now event.now NotOpen }
 {
@@ -52,7 +47,7 @@ fn is_closed_to(store: &World, event: &Event) -> bool
     }
 }
 
-// Whether the copy is open, and all its chunks are marked.
+// Whether the copy is open, with all its chunks marked.
 fn is_whole(store: &World, number: u32) -> bool
     ensures { IsTrue result → (w : TheWorld) → Meets store.now w → is_whole w number ≡ true }
 {
@@ -62,7 +57,6 @@ fn is_whole(store: &World, number: u32) -> bool
     }
 }
 
-// Whether the copy is done.
 fn is_copied(store: &World, number: u32) -> bool
     ensures { IsTrue result → (w : TheWorld) → Meets store.now w → w.done number ≡ true }
 {
@@ -71,14 +65,12 @@ fn is_copied(store: &World, number: u32) -> bool
     is_begun && is_shut
 }
 
-// Whether the step, which is no copy, is done.
 fn is_done(store: &World, number: u32) -> bool
     ensures { IsTrue result → (w : TheWorld) → Meets store.now w → w.done number ≡ true }
 {
     has_happened(store, &Event::Do(number))
 }
 
-/// Whether the switch of that number is to come.
 pub(crate) fn is_to_come(store: &World, number: u32) -> bool
     ensures { IsTrue result → (w : TheWorld) → Meets store.now w → w.done number ≡ false }
 {
@@ -88,7 +80,7 @@ pub(crate) fn is_to_come(store: &World, number: u32) -> bool
     }
 }
 
-/// Whether the step is done, or a copy that is open with all its chunks marked.
+/// Whether the step is done, or an open copy with all its chunks marked.
 pub(crate) fn is_over(store: &World, step: &Step, number: u32) -> bool
     ensures { IsTrue result → (w : TheWorld) → Meets store.now w → (w.done number || is_whole w number) ≡ true }
 {
@@ -99,7 +91,6 @@ pub(crate) fn is_over(store: &World, step: &Step, number: u32) -> bool
     }
 }
 
-/// Whether the step of that number is done.
 pub(crate) fn is_step_done(store: &World, plan: &Plan, number: u32) -> bool
     ensures { IsTrue result → (w : TheWorld) → Meets store.now w → w.done number ≡ true }
 {

@@ -1,5 +1,5 @@
-//! The history by another plan, made by a run of it: a store goes through the old history by the new plan, and gives the replies. It also says what a chunk gave that
-//! is left out: the slots from which a chunk is copied hold the same by both plans.
+//! Runs the history by another plan: the new store gives the replies. A chunk that is left out becomes writes of what
+//! it gave, since the slots that it reads hold the same by both plans.
 
 ghost use Rattle.std.specs.Prelude.{IfOk, OnOk};
 ghost use Rattle.plan_around.specs.Led.{GoesFarther, IsLed};
@@ -15,17 +15,16 @@ use ring_core::World;
 use ring_names::{Refusal, Slot};
 use std::alloc::Global;
 
-/// A history by another plan, and the store to which it leads.
+/// A history by another plan, and its store.
 #[derive(Drop)]
 pub(crate) struct Retold<'a> {
     pub(crate) led: Led<'a>,
-    /// By entry of the old history, how many of the new one tell it.
+    /// By entry of the old history, the number of its entries in the new one.
     pub(crate) counts: Vec<u32>,
-    /// All puts, those whose keys lie together one after the other.
+    /// All puts, chunk by chunk.
     pub(crate) order: Vec<u32>,
 }
 
-// The old plan, the store of the new one, and what has been told so far.
 #[derive(Drop)]
 struct Retelling<'a, 'b> {
     alloc: Global,
@@ -36,7 +35,6 @@ struct Retelling<'a, 'b> {
     counts: Vec<u32>,
 }
 
-// The slot that a copy fills, and what it reads.
 fn copy_at(plan: &Plan, step: u32) -> Option<(Slot, &Source)> {
     if step >= plan.len() {
         return None;
@@ -47,7 +45,6 @@ fn copy_at(plan: &Plan, step: u32) -> Option<(Slot, &Source)> {
     }
 }
 
-// Whether the owner of the slot stores the put.
 fn has_at_owner(store: &World, put: u32, slot: Slot) -> bool {
     match owner_of(store, slot) {
         Some(owner) => has_put(store, owner, put, slot.index),
@@ -55,7 +52,6 @@ fn has_at_owner(store: &World, put: u32, slot: Slot) -> bool {
     }
 }
 
-// Whether a copy that reads so gives the put.
 fn gives(store: &World, it: &Mirrored, source: &Source, put: u32) -> bool {
     match source {
         Source::Owner => has_put(store, it.owner, put, it.slot.index),
@@ -67,7 +63,6 @@ fn gives(store: &World, it: &Mirrored, source: &Source, put: u32) -> bool {
 }
 
 impl Retelling<'_, '_> {
-    // The next entry.
     fn tell(&mut self, entry: &Entry) -> Result<(), Refusal>
         ensures { OnOk result (GoesFarther self.old.led self.new.led) }
     {
@@ -77,7 +72,7 @@ impl Retelling<'_, '_> {
         Ok(())
     }
 
-    // Tells the event by the new plan, or what stands in its place. Returns how many entries.
+    // Applies the event by the new plan, or what replaces it. Returns the number of entries.
     fn tell_event(&mut self, event: &Event) -> Result<u32, Refusal>
         ensures { OnOk result (GoesFarther self.old.led self.new.led) }
     {
@@ -90,7 +85,7 @@ impl Retelling<'_, '_> {
         }
     }
 
-    // Tells what stands in the place of an event that is left out. Returns how many entries.
+    // Applies what replaces an event that is left out. Returns the number of entries.
     fn tell_by_writes(&mut self, event: &Event) -> Result<u32, Refusal>
         ensures { OnOk result (GoesFarther self.old.led self.new.led) }
     {
@@ -107,7 +102,7 @@ impl Retelling<'_, '_> {
         self.write_latest(&it, given.as_slice())
     }
 
-    // The puts that the chunk gives and the mirror does not have, ascending. None if the slot's owner lacks one, or is down.
+    // The puts that the chunk gives and the mirror lacks, ascending. None if the slot's owner lacks one or is down.
     fn given(&self, it: &Mirrored, source: &Source, chunk: Chunk) -> Result<Vec<u32>, Refusal> {
         let store = &self.led.store;
         let mut given = Vec::new(self.alloc);
@@ -122,7 +117,7 @@ impl Retelling<'_, '_> {
         Ok(given)
     }
 
-    // Writes those of the puts that no other of them succeeds: a put has a greater number than those that it succeeds. Returns how many.
+    // Writes the newest of the puts: a put has a greater number than those that it succeeds. Returns how many.
     fn write_latest(&mut self, it: &Mirrored, given: &[u32]) -> Result<u32, Refusal>
         ensures { OnOk result (GoesFarther self.old.led self.new.led) }
     {
@@ -136,7 +131,6 @@ impl Retelling<'_, '_> {
         Ok(count)
     }
 
-    // All entries in order.
     fn tell_all(&mut self, history: &[Entry]) -> Result<(), Refusal>
         ensures { OnOk result (GoesFarther self.old.led self.new.led) }
     {
@@ -147,9 +141,11 @@ impl Retelling<'_, '_> {
     }
 }
 
-/// Tells the old history by the new plan, whose steps have these numbers, by step of the old plan. A chunk that is left out becomes writes of what it gave, if the
-/// slot is still mirrored and its owner has all of it. Refused as the store of the new plan refuses an event. Costs one run of the new plan, and for each such chunk a
-/// look-up for each put of its keys.
+/// Runs the old history by the new plan. Fails as the new store does.
+///
+/// Costs one run of the new plan, and for each chunk left out a look-up for each put of its keys.
+///
+/// A chunk that is left out becomes writes, if the slot is still mirrored and its owner has all puts.
 pub(crate) fn retell<'a>(
     alloc: Global,
     old: &Approved,

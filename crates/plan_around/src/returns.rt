@@ -1,4 +1,4 @@
-//! Which mirrors may be taken back.
+//! Which mirrors may be undone.
 
 ghost use Rattle.std.specs.Prelude.{◌≡◌, true, IsTrue, IfOk, OnOk};
 ghost use Rattle.plan_around.specs.Alike.{may_return, AreNamed};
@@ -8,7 +8,7 @@ use plan_runs::Back;
 use ring_names::{Refusal, Slot};
 use std::alloc::Global;
 
-/// Whether mirrors may be taken back, and the slots that stay with their owners, whose mirrors may be in any case.
+/// Whether mirrors may be undone, and the slots that stay, whose mirrors may be in any case.
 #[derive(Drop)]
 pub(crate) struct Returns<'a> {
     pub(crate) back: Back,
@@ -17,7 +17,6 @@ pub(crate) struct Returns<'a> {
     ghost listed: { AreNamed staying left.now },
 }
 
-// Adds the slot at that place, if there is one.
 fn add_at(set: &mut SlotSet, left: &[Slot], place: usize) -> Result<(), Refusal>
     requires { AreNamed set.old left.now }
     ensures { OnOk result (AreNamed set.new left.now) }
@@ -31,7 +30,6 @@ fn add_at(set: &mut SlotSet, left: &[Slot], place: usize) -> Result<(), Refusal>
     }
 }
 
-// The slots as a set.
 fn set_of(alloc: Global, left: &[Slot]) -> Result<SlotSet, Refusal>
     ensures { IfOk result (λ set. AreNamed set left.now) }
 {
@@ -43,7 +41,6 @@ fn set_of(alloc: Global, left: &[Slot]) -> Result<SlotSet, Refusal>
 }
 
 impl<'a> Returns<'a> {
-    /// Mirrors may be taken back so, and those of these slots in any case.
     pub(crate) fn of(alloc: Global, back: Back, left: &'a [Slot]) -> Result<Returns<'a>, Refusal>
         ensures { IfOk result (λ v. (v.back ≡ back) × (v.left.now ≡ left.now)) }
     {
@@ -55,7 +52,7 @@ impl<'a> Returns<'a> {
         })
     }
 
-    /// Whether a mirror of the slot may be taken back.
+    /// Whether a mirror of the slot may be undone.
     pub(crate) fn allow(&self, slot: Slot) -> bool
         ensures { IsTrue result → may_return self.now.back self.now.left.now slot ≡ true }
     {

@@ -1,4 +1,4 @@
-//! What is asked of a store in the middle of a history.
+//! Queries on a store in the middle of a history.
 
 ghost use Rattle.std.specs.Prelude.{◌≡◌, true, IfOk, IsTrue, Some};
 ghost use Rattle.plan_text.specs.Valid.{is_ring_slot};
@@ -9,7 +9,7 @@ use plan_runs::{Event, Reply};
 use ring_core::World;
 use ring_names::{NodeId, Refusal, Slot};
 
-/// A slot that is mirrored, at some moment.
+/// A mirrored slot, at some moment.
 #[derive(Clone, Copy, Debug)]
 pub(crate) struct Mirrored {
     pub(crate) slot: Slot,
@@ -17,7 +17,6 @@ pub(crate) struct Mirrored {
     pub(crate) mirror: NodeId,
 }
 
-/// The slot, if it is mirrored now.
 pub(crate) fn mirrored_slot(store: &World, slot: Slot) -> Option<Mirrored> {
     match store.nodes_of(slot) {
         Some((owner, Some(mirror))) => Some(Mirrored {
@@ -29,7 +28,6 @@ pub(crate) fn mirrored_slot(store: &World, slot: Slot) -> Option<Mirrored> {
     }
 }
 
-/// The slot's mirror now, if it has one.
 pub(crate) fn mirror_of(store: &World, slot: Slot) -> Option<NodeId>
     ensures { (w : TheWorld) → Meets store.now w → is_ring_slot (ring_of store.now) slot ≡ true
         → result ≡ (stage_now (ring_of store.now) (plan_of store.now) w slot).mirror }
@@ -40,7 +38,6 @@ pub(crate) fn mirror_of(store: &World, slot: Slot) -> Option<NodeId>
     }
 }
 
-/// Whether the mirror is that node, if there is one.
 pub(crate) fn is_node(mirror: Option<NodeId>, node: NodeId) -> bool
     ensures { IsTrue result → mirror ≡ Some node }
 {
@@ -50,7 +47,6 @@ pub(crate) fn is_node(mirror: Option<NodeId>, node: NodeId) -> bool
     }
 }
 
-/// The owner of the slot now, if the ring has the slot.
 pub(crate) fn owner_of(store: &World, slot: Slot) -> Option<NodeId> {
     match store.nodes_of(slot) {
         Some((owner, _)) => Some(owner),
@@ -58,7 +54,7 @@ pub(crate) fn owner_of(store: &World, slot: Slot) -> Option<NodeId> {
     }
 }
 
-/// The event's reply in the store, which has changed by it. `NoPlan` after 4,294,967,295 puts or gets.
+/// Applies the event. Fails with `NoPlan` after 4,294,967,295 puts or gets.
 pub(crate) fn happen(store: &mut World, event: &Event) -> Result<Reply, Refusal>
     ensures answers { IfOk result (λ r. Answers store.old event.now r store.new) }
     ensures ring { ring_of store.new ≡ ring_of store.old }
@@ -70,19 +66,18 @@ pub(crate) fn happen(store: &mut World, event: &Event) -> Result<Reply, Refusal>
     Err(Refusal::NoPlan)
 }
 
-/// Whether the node stores the put, or one that succeeds it, for the slot of that index.
+/// Whether the node stores the put, or one that succeeds it, for the slot of the index.
 pub(crate) fn has_put(store: &World, node: NodeId, put: u32, index: u32) -> bool {
     put < store.puts() && store.is_stored(node, put, index)
 }
 
 impl Mirrored {
-    /// The slot of that index of the same partition.
     pub(crate) fn sibling(&self, index: u32) -> Slot {
         let partition = self.slot.partition;
         Slot { partition, index }
     }
 
-    /// Whether a write of the put changes the mirror at most: the owner has it, or one that succeeds it, and both are up.
+    /// Whether a write of the put changes at most the mirror: the owner has it or a successor, and both are up.
     pub(crate) fn can_write(&self, store: &World, put: u32) -> bool {
         let index = self.slot.index;
         has_put(store, self.owner, put, index) && store.allows(&Event::Write(put, index)).is_ok()

@@ -1,4 +1,4 @@
--- The numbers of a node's chains, and the steps of several of them.
+-- The numbers of a node's chains, and several chains' steps.
 use Rattle.std.proofs.Common.{◌≡◌, ℕ, ◌+◌, cond, List, [], ◌∷◌, ◌++◌, take, Option, Some, None, refl, ap, sym, ◌∙◌}
 use Rattle.std.specs.Prelude.{slice_get, option_map, ◌||◌, ◌==◌}
 use Rattle.std.proofs.lemmas.List.Folds.{list_any-append}

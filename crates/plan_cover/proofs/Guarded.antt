@@ -138,7 +138,7 @@ pick_by : (b : Bool) (side s : Side) (k : ℕ) (all : List Chain) (steps : List 
 pick_by true side s k all steps ls ks on is rest = rw (on, is, rest) refl
 pick_by false side s k all steps ls ks on is rest = rest
 
--- the chains of a side of the node are those of its numbers that are of the side
+-- the node's chains on a side are those among its numbers that are on the side
 picked : (x : NodeId) (side : Side) (k : ℕ) (cs all : List Chain) → AreFrom k cs all → chains_from x.0 side cs ≡ chains_at all side (numbers_from (is_chain_of x) k cs)
 picked x side k [] all from = refl
 picked x side k (c ∷ cs) all from =

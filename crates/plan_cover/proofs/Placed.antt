@@ -1,4 +1,4 @@
--- Where slots are kept, and what one more of them leaves as it was.
+-- The places in which slots are kept, and what another one leaves as it was.
 use Rattle.std.proofs.Common.{◌≡◌, ℕ, ◌<◌, Bool, true, false, cond, List, length, get_or, Option, Some, None, refl, sym, ◌∙◌, arith, slice_set}
 use Rattle.std.specs.Prelude.{◌==◌, ◌&&◌, nat_lt}
 use Rattle.std.proofs.lemmas.Bool.{eqb-true, ltb-true, lt-ltb, and_parts}

@@ -14,7 +14,7 @@ use Rattle.plan_stage.specs.Partition.{Test, steps_clauses}
 use Rattle.plan_cover.specs.Clauses.{retire_clauses}
 use Rattle.plan_cover.specs.Looking.Guards.{retirement_guards}
 
--- whether one retires the node is asked of its step, and of those behind it
+-- whether a step retires the node is asked of the first step, and of those behind it
 in_front : (x : ℕ) (s : Step) (rest : List ℕ) → has x (retires s ++ rest) ≡ (is_retire_of x s || has x rest)
 in_front x (Join y) rest = refl
 in_front x (Mirror t y) rest = refl
@@ -58,6 +58,6 @@ first_asked ring plan O x n (p ∷ ps) h =
     (λ is. none_retires ring plan O x (n + 1) ps (once x.0 p.step (retired ps) h is))
     (λ other. first_asked ring plan O x (n + 1) ps (behind p.step (retired ps) h))
 
--- where no node retires twice, the first step that retires the node asks all
+-- if no node retires twice, the first step that retires the node asks all
 pub retirement-asked : (ring : RingValue) (plan : List Planned) (O : Test) (x : NodeId) → all_different (retired plan) ≡ true → steps_clauses (retire_clauses ring plan O x) 0 plan ≡ retirement_guards ring plan O x (retirement_of plan x.0)
 retirement-asked ring plan O x h = first_asked ring plan O x 0 plan h

@@ -1,4 +1,5 @@
--- The clauses that a node must meet: its retirement, its chains, and the copies in which it takes part.
+-- The clauses that a node must meet: for the retirement, for the chains, and for the copies in which the node
+-- takes part.
 use Rattle.std.specs.Prelude.{ℕ, ◌+◌, Bool, true, false, not, ◌&&◌, ◌||◌, ◌==◌, nat_le}
 use Rattle.std.specs.Prelude.{List, [], ◌∷◌, ◌++◌, length, min, Some, None, is_some, if◌then◌else◌}
 use Rattle.ring_names.specs.Lists.{has}
@@ -34,7 +35,7 @@ chains_from x side (c ∷ cs) = if is_of x side c then c.steps ∷ chains_from x
 
 -- ---- the clauses
 
--- a step that retires the node, where it is `out` at the start
+-- a step that retires the node, if it is `out` at the start
 abbrev pub retire_clauses : RingValue → List Planned → Test → NodeId → ℕ → Step → List Guard
 retire_clauses ring plan O x n s = if is_retire_of x.0 s then (has_joined ring plan O n x, NotJoined n) ∷ [] else []
 
@@ -77,7 +78,7 @@ is_few ring x side n = elim (allowance_of ring x.0 side) [ Some a ↦ nat_le n a
 abbrev pub side_count : RingValue → Cert → NodeId → Side → List Guard
 side_count ring cert x side = (is_few ring x side (length (chains_from x.0 side cert.chains)), TooManyChains x.0) ∷ []
 
--- of all sides, those of one behind those of another
+-- the clauses of all sides, one side behind another
 abbrev pub each_side : (Side → List Guard) → List Guard
 each_side clauses = clauses Both ++ (clauses Take ++ clauses Give)
 

@@ -39,8 +39,9 @@ pub fn check_node(
     check_with(alloc, &cover, &Context { ring, plan, facts }, cert, node)
 }
 
-/// Tests the clauses of each node, by number, and answers with the first refusal. Costs one pass over the plan and one over
-/// the chains, and then looks at what each node has of them.
+/// Tests the clauses of each node, by number, and answers with the first refusal.
+///
+/// Costs one pass over the plan and one over the chains, and then looks at what each node has of them.
 pub fn check_nodes(
     alloc: Global,
     ring: &Ring,
@@ -119,7 +120,7 @@ fn check_covers(
     check_side(alloc, copies, chains, numbers, NodeSide { node, side })
 }
 
-// How many of the chains of these numbers are of the side.
+// How many of the numbered chains are on the side.
 fn count_of(chains: &Chains, side: Side, numbers: &[usize]) -> usize
     ensures { result ≡ length (chains_at chains.now side numbers.now) }
 {

@@ -13,7 +13,7 @@ ghost use Rattle.plan_cover.specs.Looking.Serving.{counts, is_some_side, counts_
 use ring_names::{Lists, NodeId, Refusal};
 use ring_table::{NodeSide, Ring, Side};
 
-/// Adds a copy to those of the side by which the node counts it, which it takes or gives, unless it is their last already.
+/// Adds a copy to those of the side on which the node counts this part, unless it was added last already.
 pub fn add_copy(
     copies: &mut Lists<NodeSide, u32>,
     ring: &Ring,

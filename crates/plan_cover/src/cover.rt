@@ -19,7 +19,7 @@ use ring_names::{Lists, NodeId, Refusal, Slot};
 use ring_table::{NodeSide, Ring, Side};
 use std::alloc::Global;
 
-/// The copies of each side of a node, and the chains of each node.
+/// The copies on each side of a node, and each node's chains.
 #[derive(Drop)]
 pub struct Cover {
     pub copies: Lists<NodeSide, u32>,

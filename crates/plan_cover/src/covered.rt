@@ -15,9 +15,11 @@ use ring_names::Refusal;
 use ring_table::{NodeSide, Side};
 use std::alloc::Global;
 
-/// Tests the copies of a side of a node: each must be a step of one of its chains of that side. Those chains are among the ones of
-/// these numbers. Costs a sort of their steps, and a binary search for each copy. The steps are sorted and not hashed: the author of
-/// a certificate chooses them, and could choose steps that collide.
+/// Tests a node's copies on a side: each must be a step of one of its chains on that side. These are among the
+/// chains of the given numbers.
+///
+/// Costs a sort of their steps, and a binary search for each copy. The steps are sorted and not hashed: the
+/// author of a certificate could choose steps that collide.
 pub fn check_copies(
     alloc: Global,
     chains: &Chains,
@@ -50,7 +52,7 @@ pub fn is_side(first: Side, second: Side) -> bool
     first == second
 }
 
-// The steps of the chain of that number if it is of the side, else none.
+// The steps of that chain if it is on the side, otherwise none.
 fn steps_on(chains: &Chains, side: Side, number: usize) -> &[u32]
     ensures { (n : ℕ) → has n result.now ≡ in_some n (chains_at chains.now side (number ∷ [])) }
 {
@@ -61,7 +63,7 @@ fn steps_on(chains: &Chains, side: Side, number: usize) -> &[u32]
     }
 }
 
-// The steps of those of the chains of these numbers that are of the side.
+// The steps of the numbered chains that are on the side.
 #[tactic(auto, using(crate::proofs::Chained::has_append))]
 fn steps_of(
     alloc: Global,

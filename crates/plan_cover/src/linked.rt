@@ -13,8 +13,9 @@ use plan_order::Context;
 use ring_names::{Lists, NodeId, Refusal};
 use ring_table::{NodeSide, Side};
 
-/// Tests the chains of the node, which have these numbers. Each must be of a side that the node has, and each of its steps one of the
-/// copies of that side, and come before the next.
+/// Tests the chains of the node, which have these numbers. Each must be of a side that the node has.
+///
+/// Each of its steps must be a copy on that side, and come before the next.
 pub fn check_chains(
     context: &Context,
     copies: &Lists<NodeSide, u32>,

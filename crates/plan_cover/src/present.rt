@@ -20,7 +20,7 @@ pub struct Serving {
     pub mirror: Option<NodeId>,
 }
 
-// Where a slot is kept: a partition has at most 7 slots.
+// The place in which a slot is kept: a partition has at most 7 slots.
 fn place_of(slot: Slot) -> usize
     ensures { result ≡ place_of slot }
 {

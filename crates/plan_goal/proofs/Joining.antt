@@ -1,4 +1,5 @@
--- Steps that join a change's nodes alone are a plan of the ring that makes the change, where nobody leaves, and it needs no claims.
+-- Steps that only join a change's nodes are a plan of the ring that makes the change, if no node leaves. The
+-- plan needs no claims.
 use Rattle.std.proofs.Common.{◌≡◌, ◌⊎◌, inl, inr, ℕ, zero, suc, ◌+◌, ◌<◌, ◌≤◌, true, false, not, List, [], ◌∷◌, length}
 use Rattle.std.proofs.Common.{refl, sym, ap, subst, ◌∙◌, arith, Some, None}
 use Rattle.std.specs.Prelude.{slice_get, nat_lt}
@@ -59,7 +60,7 @@ retired-none : (nodes : List NodeId) → retired (joins_alone nodes) ≡ []
 retired-none [] = refl
 retired-none (x ∷ xs) = flat_map-cons (λ (y : Planned). retires y.step) (join_alone x) (joins_alone xs) ∙ retired-none xs
 
--- nobody takes part in any
+-- no node takes part in any
 side-nobody : (side : Side) → on_side side None [] ≡ []
 side-nobody Both = refl
 side-nobody Take = refl

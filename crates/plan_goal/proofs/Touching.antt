@@ -20,7 +20,7 @@ owners-alike : (f g : Slot → Serving) (slots : List Slot) → ((slot : Slot) �
 owners-alike f g [] same = refl
 owners-alike f g (s ∷ ss) same = (let one : (f s).owner ≡ (g s).owner = ap (λ (v : Serving). v.owner) (same s) in rw (one, owners-alike f g ss same) refl)
 
--- what a step touches hangs on who serves the slots alone
+-- what a step touches depends only on who serves the slots
 touched-alike : (f g : Slot → Serving) (t : Step) → ((slot : Slot) → f slot ≡ g slot) → touched f t ≡ touched g t
 touched-alike f g (Join x) same = refl
 touched-alike f g (Mirror s x) same = refl

@@ -1,4 +1,4 @@
--- A ring and the ring that it shall become, one behind the other.
+-- A ring and the ring that it should become, one behind the other.
 use Rattle.std.specs.Prelude.{Result}
 use Rattle.ring_names.specs.declared.refusal.Refusal.{Refusal}
 use Rattle.texts.specs.Left.{Left, then_part, map_part}

@@ -32,8 +32,9 @@ pub record IsProposed (ring : RingValue) (change : Change) (plan : List Planned)
   pub certified : IsCertified ring plan cert
   pub fulfils : fulfils plan change.joins change.leaves ≡ true
 
--- why there is none: memory ran out, no plan was found, or the checker refused one of the ring that makes the change, for this reason; by some
--- certificate, since the planner, which gives both, promises nothing
+-- why there is none. Memory ran out, no plan was found, or for this reason the checker refused a plan of the
+-- ring that makes the change. That is by some certificate, since the planner, which gives both, promises
+-- nothing
 pub data IsTurnedAway (ring : RingValue) (change : Change) (e : Refusal) : Type 0 where
   no_memory : e ≡ OutOfMemory → IsTurnedAway ring change e
   none_found : e ≡ NoPlan → IsTurnedAway ring change e

@@ -1,4 +1,4 @@
--- Plans that lead from a ring to another one, and leave dead nodes alone.
+-- Plans that lead from a ring to another one, and do not touch dead nodes.
 use Rattle.std.specs.Prelude.{◌≡◌, ℕ, ◌+◌, ◌<◌, Bool, true, false, not, ◌&&◌, ◌||◌, List, [], ◌∷◌, map, length, Some}
 use Rattle.std.specs.List.{list_all}
 use Rattle.ring_names.specs.Lists.{has}
@@ -25,7 +25,7 @@ use Rattle.plan_check.specs.Certified.{IsCertified}
 use Rattle.plan_check.specs.First.{first_refusal}
 use Rattle.plan_check.specs.Headline.{KeepsPromises}
 
--- what a ring declares of a node, but for whether it is a member: its name and its allowance
+-- what a ring declares of a node, but for whether the node is a member: its name and its allowance
 abbrev pub declared : Node → List ℕ × Allowance
 declared x = (x.name, x.allowance)
 
@@ -53,15 +53,15 @@ are_alike [] (y ∷ ys) = false
 are_alike (x ∷ xs) [] = false
 are_alike (x ∷ xs) (y ∷ ys) = is_alike x y && are_alike xs ys
 
--- whether the node is a member once the plan is done: it was or it joined, and it did not retire
+-- whether the node is a member once the plan is done: it was or joined, and did not retire
 abbrev pub member_after : RingValue → List Planned → ℕ → Bool
 member_after ring plan x = (is_member ring.nodes (record { 0 = x }) || has x (joined plan)) && not (has x (retired plan))
 
--- whether it shall be one: the other ring has it, or it is dead and stays what it is
+-- whether the node should be a member: the other ring has it, or the node is dead and stays what it is
 abbrev pub member_wanted : RingValue → RingValue → List NodeId → ℕ → Bool
 member_wanted ring wanted dead x = is_member wanted.nodes (record { 0 = x }) || (has x (numbers dead) && is_member ring.nodes (record { 0 = x }))
 
--- the plan leaves the members that there shall be
+-- the plan leaves the members that there should be
 abbrev pub HasMembers : RingValue → RingValue → List NodeId → List Planned → Type 0
 HasMembers ring wanted dead plan = (x : ℕ) → x < length ring.nodes → member_after ring plan x ≡ member_wanted ring wanted dead x
 
@@ -91,8 +91,9 @@ spares_from ring plan dead n (x ∷ xs) = are_spared dead (touched (served_befor
 abbrev pub spares : RingValue → List Planned → List NodeId → Bool
 spares ring plan dead = spares_from ring plan dead 0 plan
 
--- the rings differ in owners and members alone, the plan and the certificate are of the first; once the plan is done each partition has the owners that it shall have, and the ring the members;
--- and no step touches a dead node
+-- the rings differ only in owners and members, and the plan and the certificate are of the first. Once the plan
+-- is done, each partition has the owners that it should have, and the ring the members. No step touches a dead
+-- node
 pub record Leads (ring wanted : RingValue) (dead : List NodeId) (plan : List Planned) (cert : Cert) : Type 0 where
   pub alike : IsLike ring wanted
   pub plan_suits : PlanSuits ring plan
@@ -101,14 +102,14 @@ pub record Leads (ring wanted : RingValue) (dead : List NodeId) (plan : List Pla
   pub members : HasMembers ring wanted dead plan
   pub spared : spares ring plan dead ≡ true
 
--- the plan leads there, and the checker accepts it by the certificate, so that it keeps its promises
+-- the plan leads there, and the checker accepts it by the certificate, so the plan keeps its promises
 pub record IsReached (ring wanted : RingValue) (dead : List NodeId) (plan : List Planned) (cert : Cert) : Type 0 where
   pub leads : Leads ring wanted dead plan cert
   pub certified : IsCertified ring plan cert
   pub keeps : KeepsPromises ring plan
 
--- why there is none: memory ran out, no plan was found, or the checker refused one that leads there, for this reason; by some certificate, since the
--- search, which gives both, promises nothing
+-- why there is none: memory ran out, no plan was found, or for this reason the checker refused a plan that
+-- leads there. That is by some certificate, since the search, which gives both, promises nothing
 pub data IsUnreached (ring wanted : RingValue) (dead : List NodeId) (e : Refusal) : Type 0 where
   no_memory : e ≡ OutOfMemory → IsUnreached ring wanted dead e
   none_found : e ≡ NoPlan → IsUnreached ring wanted dead e

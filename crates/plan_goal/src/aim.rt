@@ -1,4 +1,4 @@
-//! Where a plan should lead.
+//! The goal of a plan.
 
 ghost use Rattle.std.specs.Prelude.{◌≡◌, not, ◌&&◌};
 ghost use Rattle.std.specs.List.{list_any};
@@ -14,7 +14,7 @@ use ring_names::{NodeId, Refusal, Slot};
 use ring_table::{Node, Ring};
 use std::alloc::Global;
 
-/// A ring, the ring that it should become, and the nodes that are dead for good.
+/// A ring, the goal ring, and the dead nodes.
 #[derive(Clone, Copy)]
 pub struct Aim<'a> {
     pub alloc: Global,
@@ -23,22 +23,21 @@ pub struct Aim<'a> {
     pub dead: &'a [NodeId],
 }
 
-/// Why no plan leads there, whatever its steps.
+/// Why no plan can lead there.
 #[derive(Clone, Copy, Debug, PartialEq, Eq)]
 pub enum Unfit {
-    /// The rings have other numbers of partitions or slots, other quorums, or other losses.
+    /// The rings differ in partitions, slots, quorums or losses.
     Space,
-    /// The node of that number has another name, another allowance, or stands in one of the rings alone.
+    /// The node has another name or allowance, or is in only one of the rings.
     Node(u32),
-    /// The node of that number should join, and is dead.
+    /// The node should join, and is dead.
     DeadJoiner(u32),
-    /// That slot should go to a node that is dead.
+    /// The slot should go to a dead node.
     DeadOwner(Slot),
-    /// A slot of a dead node in that partition should go to another node, and fewer slots than a read asks for have other owners.
+    /// A dead node's slot in the partition should move, and fewer other slots can be read than a read asks.
     Unread(u32),
 }
 
-// Whether both are there, and have one name and one allowance.
 fn is_same(one: Option<&Node>, other: Option<&Node>) -> bool {
     match (one, other) {
         (Some(one), Some(other)) => is_node(one, other),
@@ -46,7 +45,6 @@ fn is_same(one: Option<&Node>, other: Option<&Node>) -> bool {
     }
 }
 
-// The first node that the rings do not declare alike.
 fn other_node(ring: &Ring, wanted: &Ring) -> Option<u32> {
     let (ours, theirs) = (ring.nodes(), wanted.nodes());
     for number in 0..ours.len().max(theirs.len()) {
@@ -70,12 +68,10 @@ fn rows<'a>(aim: &Aim<'a>, partition: usize) -> (&'a [NodeId], &'a [NodeId]) {
     (ours, theirs)
 }
 
-// Whether the node becomes a member.
 fn is_joiner(aim: &Aim, node: NodeId) -> bool {
     !aim.ring.is_member(node) && aim.wanted.is_member(node)
 }
 
-// The first dead node that becomes a member.
 fn dead_joiner(aim: &Aim, dead: &Dead) -> Option<u32> {
     for number in 0..small(aim.ring.nodes().len()) {
         let node = NodeId(number);
@@ -86,7 +82,6 @@ fn dead_joiner(aim: &Aim, dead: &Dead) -> Option<u32> {
     None
 }
 
-// The first slot of a partition that goes to a dead node.
 fn dead_owner(aim: &Aim, dead: &Dead, partition: usize) -> Option<Slot> {
     let (ours, theirs) = rows(aim, partition);
     for index in 0..theirs.len() {
@@ -102,14 +97,12 @@ fn dead_owner(aim: &Aim, dead: &Dead, partition: usize) -> Option<Slot> {
     None
 }
 
-// How many of these nodes live.
 fn live(dead: &Dead, row: &[NodeId]) -> usize
     ensures { result ≡ live dead.now.nodes.now row.now }
 {
     row.iter().filter(|node| !dead.has(**node)).count()
 }
 
-// Whether a dead node of the row is not in the other one.
 fn is_left(dead: &Dead, before: &[NodeId], after: &[NodeId]) -> bool
     ensures { result ≡ list_any (λ x. has x.0 (numbers dead.now.nodes.now) && not (has x.0 (numbers after.now))) before.now }
 {
@@ -118,14 +111,15 @@ fn is_left(dead: &Dead, before: &[NodeId], after: &[NodeId]) -> bool
         .any(|node| dead.has(*node) && !is_among(after, *node))
 }
 
-/// Whether a slot of a dead node goes to another one, and fewer owners live than a read asks. The rows are a partition's owners before and after.
+/// Whether a dead node's slot moves, and fewer owners live than a read asks. The rows are a partition's owners before
+/// and after.
 pub fn is_unread(reads: u32, dead: &Dead, before: &[NodeId], after: &[NodeId]) -> bool
     ensures { result ≡ is_unread reads dead.now.nodes.now before.now after.now }
 {
     live(dead, before) < reads as usize && is_left(dead, before, after)
 }
 
-/// Why no plan leads there, if it is for one of these causes.
+/// Returns why no plan can lead there, for a known cause.
 pub fn why_unfit(aim: &Aim) -> Option<Unfit> {
     if !has_space(aim.ring, aim.wanted) {
         return Some(Unfit::Space);
@@ -149,7 +143,7 @@ pub fn why_unfit(aim: &Aim) -> Option<Unfit> {
     None
 }
 
-/// The partitions in which a slot of a dead node should go to another one, and fewer owners live than a read asks; ascending.
+/// Returns the partitions in which a dead node's slot should move, and fewer owners live than a read asks; ascending.
 pub fn unread_partitions(aim: &Aim) -> Result<Vec<u32>, Refusal> {
     let dead = Dead::of(aim.dead);
     let mut unread = Vec::new(aim.alloc);
@@ -162,7 +156,7 @@ pub fn unread_partitions(aim: &Aim) -> Result<Vec<u32>, Refusal> {
     Ok(unread)
 }
 
-/// The nodes that become members, by number.
+/// Returns the nodes that join, by number.
 pub fn joins(aim: &Aim) -> Result<Vec<u32>, Refusal> {
     let mut nodes = Vec::new(aim.alloc);
     for number in 0..small(aim.ring.nodes().len()) {
@@ -173,7 +167,7 @@ pub fn joins(aim: &Aim) -> Result<Vec<u32>, Refusal> {
     Ok(nodes)
 }
 
-/// The members that retire, by number: those that should be members no longer and are not dead.
+/// Returns the live members that retire, by number.
 pub fn retires(aim: &Aim) -> Result<Vec<u32>, Refusal> {
     let mut nodes = Vec::new(aim.alloc);
     for number in 0..small(aim.ring.nodes().len()) {

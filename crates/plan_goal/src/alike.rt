@@ -1,4 +1,4 @@
-//! Whether two rings differ in owners and members alone.
+//! Checks that two rings differ only in owners and members.
 
 ghost use Rattle.std.specs.Prelude.{◌≡◌, IsTrue, map};
 ghost use Rattle.plan_goal.specs.Reached.{IsLike, declared};
@@ -34,7 +34,6 @@ fn is_name(one: &[u8], other: &[u8]) -> bool
     }
 }
 
-/// Whether two nodes have one name and one allowance.
 pub(crate) fn is_node(one: &Node, other: &Node) -> bool
     ensures { IsTrue result → declared other.now ≡ declared one.now }
 {
@@ -54,7 +53,7 @@ fn are_nodes(ours: &[Node], theirs: &[Node]) -> bool
     }
 }
 
-/// Whether the two rings have as many partitions, slots, quorums and losses.
+/// Whether the rings have the same numbers of partitions and slots, quorums and losses.
 pub(crate) fn has_space(ring: &Ring, other: &Ring) -> bool
     ensures q { IsTrue result → other.now.q ≡ ring.now.q }
     ensures n { IsTrue result → other.now.n ≡ ring.now.n }
@@ -69,7 +68,7 @@ pub(crate) fn has_space(ring: &Ring, other: &Ring) -> bool
         && other.loss() == ring.loss()
 }
 
-/// Whether the two rings have as many partitions, slots, quorums and losses, and declare the same nodes in the same order.
+/// Whether the rings differ only in owners and members.
 pub fn is_like(ring: &Ring, other: &Ring) -> bool
     ensures { IsTrue result → IsLike ring.now other.now }
 {

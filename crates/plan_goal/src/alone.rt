@@ -15,7 +15,6 @@ use ring_names::{NodeId, Refusal, Rows};
 use ring_table::Ring;
 use std::alloc::Global;
 
-// The steps that join the nodes, in their order, of which none waits for another.
 fn joins_alone(alloc: Global, nodes: &[NodeId]) -> Result<Plan, Refusal>
     requires { length nodes.now ≤ 131072 }
     ensures plan { IfOk result (λ p. p ≡ joins_alone nodes.now) }
@@ -28,7 +27,6 @@ fn joins_alone(alloc: Global, nodes: &[NodeId]) -> Result<Plan, Refusal>
     Ok(plan)
 }
 
-// A certificate without facts and chains.
 fn no_claims(alloc: Global) -> Cert
     ensures { result ≡ no_claims }
 {
@@ -38,7 +36,7 @@ fn no_claims(alloc: Global) -> Cert
     }
 }
 
-/// Proposes the plan by which the change's nodes join, if no node leaves. Its only refusal is `OutOfMemory`.
+/// Proposes the plan by which the change's nodes join, if no node leaves. Fails only with `OutOfMemory`.
 pub fn propose_joins(alloc: Global, ring: Ring, change: &Change) -> Result<Proposed, Refusal>
     requires change { IsChange ring change.now }
     requires nobody { change.now.leaves ≡ [] }

@@ -1,4 +1,4 @@
-//! Dead nodes with a flag for each number, so that a node is not looked for among their names.
+//! Dead nodes, with a flag for each number, for fast look-ups.
 
 ghost use Rattle.std.specs.Prelude.{◌≡◌, ◌<◌, ℕ, Some, slice_get};
 ghost use Rattle.ring_names.specs.Lists.{has};
@@ -7,10 +7,10 @@ ghost use Rattle.plan_text.specs.Changes.{numbers};
 use crate::sparing::is_among;
 use ring_names::NodeId;
 
-// How many nodes have flags: as many as a ring may have, so that the flags need no memory.
+// As many flags as a ring may have nodes, so that they need no memory.
 const FLAGS: usize = 1_024;
 
-/// Dead nodes, and for each of the first numbers whether it is that of one of them.
+/// Dead nodes, and a flag for each of the first numbers.
 #[derive(Drop)]
 pub struct Dead<'a> {
     pub nodes: &'a [NodeId],
@@ -19,7 +19,7 @@ pub struct Dead<'a> {
 }
 
 impl<'a> Dead<'a> {
-    /// These nodes. Costs a look at each of them for each flag.
+    /// Makes the flags of these nodes. Costs a look at each node for each flag.
     pub fn of(nodes: &'a [NodeId]) -> Dead<'a>
         ensures { result.nodes.now ≡ nodes.now }
     {

@@ -1,4 +1,4 @@
-//! The plan itself, of which nothing is promised.
+//! Finds the plan. Nothing is proved of it.
 
 use crate::aim::{Aim, joins, retires};
 use find_rounds::{Handover, Turnover};
@@ -6,7 +6,6 @@ use plan_cert::Cert;
 use plan_text::Plan;
 use ring_names::Refusal;
 
-// The plan with this change of members.
 fn find_by<'a>(aim: &'a Aim<'a>, turnover: Turnover<'a>) -> Result<(Plan, Cert), Refusal> {
     let handover = Handover {
         alloc: aim.alloc,
@@ -18,7 +17,7 @@ fn find_by<'a>(aim: &'a Aim<'a>, turnover: Turnover<'a>) -> Result<(Plan, Cert),
     handover.plan()
 }
 
-/// A plan that leads there, with its certificate.
+/// Finds a plan that leads there, with its certificate.
 pub fn find(aim: &Aim) -> Result<(Plan, Cert), Refusal> {
     let (joins, retires) = (joins(aim)?, retires(aim)?);
     let turnover = Turnover {

@@ -1,4 +1,4 @@
-//! Whether a plan may be proposed for a change.
+//! Checks that a plan may be proposed for a change.
 
 ghost use Rattle.std.specs.Prelude.{◌≡◌, ◌↔◌, IsTrue, IfOk, IfErr};
 ghost use Rattle.ring_names.specs.declared.refusal.Refusal.TheVariants.{OutOfMemory};
@@ -14,14 +14,13 @@ use ring_names::Refusal;
 use ring_table::Ring;
 use std::alloc::Global;
 
-/// A ring that is given back, and why.
+/// A ring that is returned, and why.
 #[derive(Drop)]
 pub struct Rejected {
     pub ring: Ring,
     pub refusal: Refusal,
 }
 
-// Whether the plan is one of the ring that makes the change, and the certificate is one of the ring.
 fn makes(ring: &Ring, change: &Change, plan: &Plan, cert: &Cert) -> bool
     ensures { IsTrue result ↔ Makes ring.now change.now plan.now cert.now }
 {
@@ -30,8 +29,11 @@ fn makes(ring: &Ring, change: &Change, plan: &Plan, cert: &Cert) -> bool
         && plan.fulfils(change.joins.as_slice(), change.leaves.as_slice())
 }
 
-/// Proposes the plan if it makes the change and the checker accepts it by the certificate. Otherwise the ring comes back with the refusal: `NoPlan`
-/// if the plan does not suit the ring or make the change, or if the certificate does not suit the ring; otherwise the checker's.
+/// Proposes the plan if it makes the change and the checker accepts it with the certificate. Otherwise returns
+/// the ring and the refusal.
+///
+/// That is `NoPlan` if plan or certificate do not suit the ring, or the plan does not make the change; then the
+/// checker's.
 pub fn judge(
     alloc: Global,
     ring: Ring,

@@ -1,4 +1,4 @@
-//! Whether a plan leads to a ring.
+//! Checks that a plan leads to a ring.
 
 ghost use Rattle.std.specs.Prelude.{◌≡◌, true, IsTrue, IfOk, IfErr};
 ghost use Rattle.ring_names.specs.declared.refusal.Refusal.TheVariants.{OutOfMemory};
@@ -14,21 +14,18 @@ use plan_moves::last_owners;
 use plan_text::Plan;
 use ring_names::{Listed, NodeId, Refusal};
 
-// Whether each of the nodes is among the others.
 fn are_among(nodes: &[NodeId], others: &[NodeId]) -> bool
     ensures { result ≡ are_among nodes.now others.now }
 {
     nodes.iter().all(|x| is_among(others, *x))
 }
 
-// Whether the two have the same nodes, in any order.
 fn is_alike(found: &[NodeId], wanted: &[NodeId]) -> bool
     ensures { result ≡ is_alike found.now wanted.now }
 {
     are_among(found, wanted) && are_among(wanted, found)
 }
 
-// Whether each partition has the same owners, in any order.
 fn are_alike(found: &[Listed<NodeId>], wanted: &[Listed<NodeId>]) -> bool
     ensures { result ≡ are_alike found.now wanted.now }
 {
@@ -41,21 +38,19 @@ fn are_alike(found: &[Listed<NodeId>], wanted: &[Listed<NodeId>]) -> bool
     }
 }
 
-// Whether the node is a member once the plan is done.
 fn is_member_after(aim: &Aim, plan: &Plan, node: NodeId) -> bool
     ensures { result ≡ member_after aim.now.ring.now plan.now node.0 }
 {
     (aim.ring.is_member(node) || plan.is_joined(node)) && !plan.is_retired(node)
 }
 
-// Whether the node should be a member: if it is wanted, or if it is dead and is a member.
+// Whether the node should be a member: it is wanted, or is a dead member.
 fn is_member_wanted(aim: &Aim, node: NodeId) -> bool
     ensures { result ≡ member_wanted aim.now.ring.now aim.now.wanted.now aim.now.dead.now node.0 }
 {
     aim.wanted.is_member(node) || (is_among(aim.dead, node) && aim.ring.is_member(node))
 }
 
-// Whether the plan leaves the members that are wanted.
 fn has_members(aim: &Aim, plan: &Plan) -> bool
     ensures { IsTrue result → HasMembers aim.now.ring.now aim.now.wanted.now aim.now.dead.now plan.now }
 {
@@ -70,7 +65,6 @@ fn has_members(aim: &Aim, plan: &Plan) -> bool
     true
 }
 
-// Whether the slots have the owners that are wanted once the plan is done.
 fn has_owners(aim: &Aim, plan: &Plan) -> Result<bool, Refusal>
     requires { PlanSuits aim.now.ring.now plan.now }
     ensures memory { IfErr result (λ e. e ≡ OutOfMemory) }
@@ -80,7 +74,8 @@ fn has_owners(aim: &Aim, plan: &Plan) -> Result<bool, Refusal>
     Ok(are_alike(found.as_slice(), aim.wanted.rows()))
 }
 
-/// Whether the rings differ in owners and members alone, the plan and the certificate are of the first one, and the plan leads where it should and spares the dead.
+/// Whether the plan leads to the second ring and spares dead nodes. The rings may differ only in owners and
+/// members, and plan and certificate must suit the first.
 pub fn leads(aim: &Aim, plan: &Plan, cert: &Cert) -> Result<bool, Refusal>
     ensures ok { IfOk result (λ b. IsTrue b → Leads aim.now.ring.now aim.now.wanted.now aim.now.dead.now plan.now cert.now) }
     ensures memory { IfErr result (λ e. e ≡ OutOfMemory) }

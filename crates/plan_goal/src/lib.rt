@@ -1,5 +1,4 @@
-//! Plans that the checker accepts: of a change of a ring's members, and from a ring to another one, with any placement of the same slots, also around
-//! nodes that are dead for good.
+//! Plans that the checker accepts: for a change of members, and from a ring to another with any owners, also around dead nodes.
 #![tactic(auto)]
 
 mod aim;

@@ -15,7 +15,7 @@ use ring_names::Refusal;
 use ring_table::Ring;
 use std::alloc::Global;
 
-// The planner's plan, if the planner finds one that makes the change and that the checker accepts.
+// The planner's plan, if it makes the change and the checker accepts it.
 fn propose_made(alloc: Global, ring: Ring, change: &Change) -> Result<Proposed, Rejected>
     ensures ring { IfOk result (λ p. p.approved.ring ≡ ring) }
     ensures proposed { IfOk result (λ p. IsProposed ring change.now p.approved.plan p.cert) }
@@ -36,16 +36,16 @@ fn propose_made(alloc: Global, ring: Ring, change: &Change) -> Result<Proposed, 
     }
 }
 
-/// Proposes a plan that makes the change, with a certificate by which the checker accepts it. If the planner has none and no node leaves, the change's
-/// nodes join and nothing else happens.
+/// Proposes a plan that makes the change, with a certificate that the checker accepts. If the planner has none and no
+/// node leaves, the change's nodes only join.
 ///
-/// If the planner finds no plan, the refusal is `NoPlan`. If the checker refuses the plan, it is the checker's. If no node leaves, only memory is refused.
+/// Fails with `NoPlan` if the planner finds no plan, then as the checker does. If no node leaves, only memory can fail.
 pub fn propose(alloc: Global, ring: Ring, change: &Change) -> Result<Proposed, Refusal>
     requires { IsChange ring change.now }
     ensures ring { IfOk result (λ p. p.approved.ring ≡ ring) }
     ensures proposed { IfOk result (λ p. IsProposed ring change.now p.approved.plan p.cert) }
     ensures refused { IfErr result (IsTurnedAway ring change.now) }
-    // Where nobody leaves, there is always a plan.
+    // If no node leaves, there is always a plan.
     ensures joins { change.now.leaves ≡ [] → IfErr result (λ e. e ≡ OutOfMemory) }
 {
     match propose_made(alloc, ring, change) {

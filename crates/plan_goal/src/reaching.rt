@@ -1,4 +1,4 @@
-//! A plan that leads from a ring to another one, once the checker has accepted it.
+//! Plans from a ring to another one, accepted by the checker.
 
 ghost use Rattle.std.specs.Prelude.{◌≡◌, ◌⊎◌, Some, IfOk, IfErr, OnOk};
 ghost use Rattle.ring_names.specs.declared.refusal.Refusal.TheVariants.{NoPlan, OutOfMemory};
@@ -20,7 +20,7 @@ use ring_names::{NodeId, Refusal};
 use ring_table::Ring;
 use std::alloc::Global;
 
-/// Why the planner has no plan: for want of memory, or because it found none, whatever it says of the cause.
+/// Maps the planner's refusal to lack of memory or `NoPlan`.
 pub(crate) fn cause(refusal: Refusal) -> Refusal
     ensures { (result ≡ OutOfMemory) ⊎ (result ≡ NoPlan) }
 {
@@ -30,7 +30,6 @@ pub(crate) fn cause(refusal: Refusal) -> Refusal
     }
 }
 
-// The plan and its certificate, if it leads to the ring that is wanted.
 fn judged(aim: &Aim, plan: Plan, cert: Cert) -> Result<(Plan, Cert), Refusal>
     ensures leads { IfOk result (λ f. Leads aim.now.ring.now aim.now.wanted.now aim.now.dead.now f.0 f.1) }
     ensures refused { IfErr result (λ e. (e ≡ OutOfMemory) ⊎ (e ≡ NoPlan)) }
@@ -41,7 +40,6 @@ fn judged(aim: &Aim, plan: Plan, cert: Cert) -> Result<(Plan, Cert), Refusal>
     Err(Refusal::NoPlan)
 }
 
-// A plan that leads to the ring that is wanted, with its certificate.
 fn found_by(aim: &Aim) -> Result<(Plan, Cert), Refusal>
     ensures leads { IfOk result (λ f. Leads aim.now.ring.now aim.now.wanted.now aim.now.dead.now f.0 f.1) }
     ensures refused { IfErr result (λ e. (e ≡ OutOfMemory) ⊎ (e ≡ NoPlan)) }
@@ -55,7 +53,6 @@ fn found_by(aim: &Aim) -> Result<(Plan, Cert), Refusal>
     }
 }
 
-// The plan with its certificate, if the checker accepts it.
 fn checked(alloc: Global, ring: Ring, plan: Plan, cert: Cert) -> Result<Proposed, Refusal>
     requires plan_suits { PlanSuits ring plan }
     requires cert_suits { CertSuits ring cert }
@@ -70,11 +67,13 @@ fn checked(alloc: Global, ring: Ring, plan: Plan, cert: Cert) -> Result<Proposed
     }
 }
 
-/// Finds a plan that leads from the ring to the wanted one, with a certificate by which the checker accepts it. The slots of a partition are compared as
-/// a set, so only slots that need to move do. A dead node gives nothing and takes nothing: its slots are read from R others, it is not dropped from, and
-/// it does not retire.
+/// Finds a plan from the ring to the wanted one, with a certificate that the checker accepts.
 ///
-/// If no plan can lead there, or none is found, the refusal is `NoPlan`; otherwise it is the checker's, or `OutOfMemory`.
+/// The slots of a partition are compared as a set, so only slots that must move do.
+///
+/// A dead node gives and takes nothing: its slots are read from R others, and it neither drops nor retires.
+///
+/// Fails with `NoPlan` if no plan can lead there or none is found, then as the checker does, or with `OutOfMemory`.
 pub fn reach(alloc: Global, ring: Ring, wanted: &Ring, dead: &[NodeId]) -> Result<Proposed, Refusal>
     ensures ring { IfOk result (λ p. p.approved.ring ≡ ring) }
     ensures reached { IfOk result (λ p. IsReached ring wanted.now dead.now p.approved.plan p.cert) }

@@ -1,4 +1,4 @@
-//! A ring and the ring that it should become, in one text.
+//! A ring and its goal ring, in one text.
 
 ghost use Rattle.std.specs.Prelude.{◌≡◌, IfOk, IfErr};
 ghost use Rattle.ring_names.specs.declared.refusal.Refusal.TheVariants.{OutOfMemory};
@@ -13,14 +13,13 @@ use ring_table::{Ring, read_ring_section};
 use std::alloc::Global;
 use texts::Lines;
 
-/// A ring, and the ring that it should become.
+/// A ring, and its goal ring.
 #[derive(Drop)]
 pub struct Goal {
     pub ring: Ring,
     pub wanted: Ring,
 }
 
-// The two, one behind the other. A fault of the first comes before one of the second.
 #[tactic(auto, unfolding(crate::specs::Goals::goal_at))]
 fn read_both(alloc: Global, lines: &mut Lines) -> Result<Goal, Refusal>
     ensures read { Reads result lines.new (goal_at lines.old) }
@@ -32,13 +31,12 @@ fn read_both(alloc: Global, lines: &mut Lines) -> Result<Goal, Refusal>
     Ok(Goal { ring, wanted })
 }
 
-/// The two rings of a bundle, and nothing behind them. The first line at fault decides. `OutOfMemory` comes only where memory ran out,
-/// behind the first four lines of the first.
+/// Reads the two rings of a bundle, which must end there. The first faulty line decides. `OutOfMemory` comes only after
+/// the first four lines.
 pub fn read_goal(alloc: Global, bytes: &[u8]) -> Result<Goal, Refusal>
     // Which rings they are, or which fault.
     ensures read { Gives result (whole_text goal_at bytes.now) }
     ensures found { IfOk result (λ g. IsRing g.ring × IsRing g.wanted) }
-    // Memory may run out only if the first four lines have no fault.
     ensures late { IfErr result (λ e. e ≡ OutOfMemory → NoFaultBefore 5 (whole_text goal_at bytes.now)) }
 {
     let mut lines = Lines::of(bytes);

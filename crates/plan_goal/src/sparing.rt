@@ -1,4 +1,4 @@
-//! Whether a plan leaves dead nodes alone.
+//! Checks that a plan involves no dead node.
 
 ghost use Rattle.std.specs.Prelude.{◌≡◌, ◌<◌, ◌==◌, true, map, nat_lt, IsTrue, IfOk, IfErr};
 ghost use Rattle.std.specs.List.{list_all, list_any};
@@ -17,7 +17,6 @@ use ring_names::{NodeId, Refusal, Slot};
 use ring_table::Ring;
 use std::alloc::Global;
 
-// Whether the number is that of one of these.
 fn is_number_of(nodes: &[NodeId], number: u32) -> bool
     ensures { result ≡ list_any (λ x. number == x.0) nodes.now }
 {
@@ -38,7 +37,6 @@ pub fn is_spared(dead: &Dead, node: NodeId) -> bool
     !dead.has(node)
 }
 
-// Whether no owner of the listed slots of a partition is dead.
 fn are_owners_spared(
     dead: &Dead,
     ring: &Ring,
@@ -83,7 +81,6 @@ pub fn is_copy_spared(
     }
 }
 
-// Whether the step touches no dead node.
 fn is_step_spared(dead: &Dead, ring: &Ring, present: &Present, step: &Step) -> bool
     requires { step_suits ring.now step.now ≡ true }
     ensures { result ≡ are_spared dead.now.nodes.now (touched (serving_at ring.now present.now) step.now) }
@@ -96,7 +93,7 @@ fn is_step_spared(dead: &Dead, ring: &Ring, present: &Present, step: &Step) -> b
     }
 }
 
-/// Whether no step of the plan lets one of these nodes join, reads from it, gives it a slot, drops what it has or retires it. Costs one pass over the plan.
+/// Whether no step joins, reads, gives a slot to, drops data of or retires one of these nodes. Costs one pass over the plan.
 pub fn spares(alloc: Global, ring: &Ring, plan: &Plan, dead: &[NodeId]) -> Result<bool, Refusal>
     requires { Suits ring.now plan.now }
     ensures ok { IfOk result (λ b. IsTrue b → spares ring.now plan.now dead.now ≡ true) }

@@ -20,7 +20,7 @@ use Rattle.plan_moves.specs.Moves.{served_before}
 use Rattle.plan_lines.specs.Lines.{node_data, owners_data, mirror_data, copy_object, step_data, line_at, lines_from, steps_text}
 use Rattle.plan_lines.specs.MoveLines.{move_data, move_lines}
 
--- what a line says hangs on who serves the slots alone
+-- what a line says depends only on who serves the slots
 owners-alike : (names : List (List ℕ)) (f g : Slot → Serving) (slots : List Slot) → ((slot : Slot) → f slot ≡ g slot)
     → map (λ (s : Slot). node_data names (f s).owner) slots ≡ map (λ (s : Slot). node_data names (g s).owner) slots
 owners-alike names f g [] same = refl

@@ -32,7 +32,8 @@ owners_data names serve slots = array (items_of (map (λ s. node_data names (ser
 abbrev pub mirror_data : List (List ℕ) → Option NodeId → Data
 mirror_data names o = elim o [ Some x ↦ node_data names x | None ↦ null ]
 
--- a step's object: what must be done before it and its kind, members of its own, and its number; the members stand by name
+-- a step's object: what must be done before it and its kind, the kind's own members, and the number. The
+-- members stand by name
 abbrev pub node_object : List ℕ → List ℕ → ℕ → Data → Data
 node_object word after n node = object (member (codes "after") (array (items_of (map number_data after))) (member (codes "do") (string word)
     (member (codes "node") node (member (codes "step") (number_data n) no_members))))
@@ -51,7 +52,8 @@ mirror_object after n s to = object (member (codes "after") (array (items_of (ma
     (member (codes "partition") (number_data s.partition) (member (codes "slot") (number_data s.index)
     (member (codes "step") (number_data n) (member (codes "to") to no_members))))))
 
--- the members, with the indexes of the listed slots from which a copy reads, in the plan's order; none more where it reads from its slot's owner
+-- the members, with the indexes of the listed slots from which a copy reads, in the plan's order. There are
+-- none more if it reads from its slot's owner
 abbrev pub with_listed : Source → Members → Members
 with_listed Owner ms = ms
 with_listed (Slots from) ms = put (codes "slots") (array (items_of (map number_data from))) ms
@@ -61,8 +63,8 @@ copy_object after n s source from to = object (with_listed source (member (codes
     (member (codes "do") (string (codes "copy")) (member (codes "from") from (member (codes "partition") (number_data s.partition)
     (member (codes "slot") (number_data s.index) (member (codes "step") (number_data n) (member (codes "to") to no_members))))))))
 
--- step n with what must be done before it, where the slots are served so: a copy goes from the owners of the slots that it reads to the slot's mirror,
--- and says which slots these are where they are listed
+-- step n with what must be done before it, if the slots are served so. A copy goes from the owners of the slots
+-- read to the slot's mirror, and names these slots if they are listed
 abbrev pub step_data : List (List ℕ) → (Slot → Serving) → ℕ → Step → List ℕ → Data
 step_data names serve n (Join x) after = node_object (codes "join") after n (node_data names x)
 step_data names serve n (Mirror s x) after = mirror_object after n s (node_data names x)

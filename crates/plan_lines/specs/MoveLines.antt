@@ -17,7 +17,7 @@ use Rattle.plan_lines.specs.Lines.{number_data, node_data}
 abbrev pub sets_mirror : List Planned → ℕ → Bool
 sets_mirror plan n = elim (slice_get plan n) [ Some x ↦ is_some (mirror_of x.step) | None ↦ false ]
 
--- the steps of a move: the one that sets its mirror, and the later ones of its slot up to the next that sets a mirror
+-- the steps of a move: the one that sets its mirror, and the slot's later steps up to the next mirror
 abbrev pub move_steps : List Planned → Move → List ℕ
 move_steps plan m = m.mirror ∷ take_while (λ s. not (sets_mirror plan s)) (filter (λ s. nat_lt m.mirror s) (steps_of plan m.slot))
 
@@ -29,7 +29,8 @@ is_awaited plan steps n = list_any (λ s. depends plan n s) steps && not (has n 
 abbrev pub move_after : List Planned → List ℕ → List ℕ
 move_after plan steps = filter (is_awaited plan steps) (range_with_len 0 (length plan))
 
--- a move's object: the steps that must be done before it, its number, its own steps, its slot, its slot's owner and the mirror; the members stand by name
+-- a move's object: the steps that must be done before, the number, the own steps, the slot, the slot's owner
+-- and the mirror. The members stand by name
 abbrev pub move_object : List ℕ → ℕ → List ℕ → Slot → Data → Data → Data
 move_object after k steps s from to = object (member (codes "after") (array (items_of (map number_data after))) (member (codes "from") from
     (member (codes "move") (number_data k) (member (codes "partition") (number_data s.partition) (member (codes "slot") (number_data s.index)

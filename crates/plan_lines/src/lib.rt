@@ -1,4 +1,4 @@
-//! A plan's steps, and its moves, as lines of JSON, for whoever carries them out on a store of his own.
+//! A plan's steps and moves as lines of JSON, for executors on other stores.
 #![tactic(auto)]
 
 mod move_lines;

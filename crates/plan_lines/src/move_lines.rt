@@ -18,7 +18,7 @@ use ring_table::Ring;
 use serde_json::{Map, Value, put};
 use std::alloc::{AllocError, Global};
 
-// A move's number, the numbers of the steps that must be done before it, and those of its own steps.
+// A move's number, the steps to be done before it, and its own steps.
 #[derive(Clone, Copy)]
 struct Head<'a> {
     alloc: Global,
@@ -27,7 +27,6 @@ struct Head<'a> {
     steps: &'a [u32],
 }
 
-// The object of a move.
 fn move_object(head: &Head, slot: Slot, from: Value, to: Value) -> Result<Value, AllocError>
     ensures { IfOk result (λ v. view v
         ≡ move_object head.now.after.now head.now.number head.now.steps.now slot (view from) (view to)) }
@@ -42,7 +41,6 @@ fn move_object(head: &Head, slot: Slot, from: Value, to: Value) -> Result<Value,
     Ok(Value::Object(map))
 }
 
-// The object of the plan's move of that number.
 fn move_value(
     alloc: Global,
     ring: &Ring,
@@ -67,11 +65,19 @@ fn move_value(
     Ok(move_object(&head, movement.slot, from, to)?)
 }
 
-/// The plan's moves as lines of JSON, one for each in the order of their mirrors, for whoever carries out one move behind the other: its number, its slot,
-/// who owns the slot until it is switched and the mirror to which it goes, the numbers of the slot's steps from the one that sets the mirror up to the next
-/// that sets one, and the numbers of the steps that must be done before: once these are, the move's steps can be done in a row without waiting for any
-/// other. Joins, retirements and the steps of a slot before its first mirror are in no move. Refused only for want of memory. Costs one pass over the plan
-/// and, for a move, a binary search in the slot's steps, a look at each dependency of the move's steps, and a sort of those.
+/// Writes the plan's moves as lines of JSON, in the order of their mirrors, for executors that do one move
+/// after another.
+///
+/// Each line has the number, the slot, the owner until the switch, the mirror, the steps, and those to be done
+/// before.
+///
+/// A move's steps are the slot's, from its mirror up to the next mirror. Once the earlier ones are done, they
+/// can be done in a row.
+///
+/// Joins, retirements and steps before a slot's first mirror are in no move.
+///
+/// Fails only if memory runs out. Costs a pass over the plan; and for each move a binary search in the slot's
+/// steps, looks at dependencies, and a sort.
 pub fn write_moves(alloc: Global, ring: &Ring, plan: &Plan) -> Result<Vec<u8>, Refusal>
     requires { Suits ring.now plan.now }
     ensures text { IfOk result (λ v. v.items ≡ moves_text ring.now plan.now) }

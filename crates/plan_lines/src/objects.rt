@@ -1,4 +1,4 @@
-//! The objects of steps. Their members come by name, so a line begins with what must be done before it.
+//! The objects of steps. Members are sorted by name, so a line begins with the steps to be done before.
 
 ghost use Rattle.std.specs.Prelude.{◌≡◌, codes, map, IfOk, OnOk};
 ghost use Rattle.serde_json.specs.View.{view, items_of, members_view};
@@ -11,7 +11,7 @@ use ring_names::Slot;
 use serde_json::{Map, Value, put};
 use std::alloc::{AllocError, Global};
 
-/// A step's number, and the numbers of the steps that must be done before it.
+/// A step's number, and the steps to be done before it.
 #[derive(Clone, Copy)]
 pub(crate) struct Head<'a> {
     pub alloc: Global,
@@ -19,7 +19,6 @@ pub(crate) struct Head<'a> {
     pub after: &'a [u32],
 }
 
-/// Puts the numbers among the members, under that name.
 pub(crate) fn put_numbers(
     members: &mut Map<String, Value>,
     alloc: Global,
@@ -33,7 +32,6 @@ pub(crate) fn put_numbers(
     put(members, alloc, name, Value::Array(list))
 }
 
-/// Puts the slot's partition and index among the members.
 pub(crate) fn put_slot(
     members: &mut Map<String, Value>,
     alloc: Global,
@@ -46,7 +44,7 @@ pub(crate) fn put_slot(
     put(members, alloc, "slot", Value::from(slot.index))
 }
 
-// Puts the indexes of the listed slots among the members, where a copy reads these.
+// Adds the indexes of the listed slots, if a copy reads them.
 fn put_listed(
     members: &mut Map<String, Value>,
     alloc: Global,
@@ -60,7 +58,6 @@ fn put_listed(
     }
 }
 
-// Puts a step's kind, its number, and what must be done before it among the members.
 fn put_step(members: &mut Map<String, Value>, head: &Head, kind: &str) -> Result<(), AllocError>
     ensures { OnOk result (members_view members.new.entries
         ≡ with_member (codes "after") (array (items_of (map number_data head.now.after.now)))
@@ -73,7 +70,7 @@ fn put_step(members: &mut Map<String, Value>, head: &Head, kind: &str) -> Result
     put_numbers(members, head.alloc, "after", head.after)
 }
 
-/// A step of that kind, of a node alone: that it joins, or that it retires.
+/// A step of one node: it joins or retires.
 pub(crate) fn node_object(head: &Head, kind: &str, node: Value) -> Result<Value, AllocError>
     ensures { IfOk result (λ v. view v ≡ node_object kind.now head.now.after.now head.now.step (view node)) }
 {
@@ -83,7 +80,6 @@ pub(crate) fn node_object(head: &Head, kind: &str, node: Value) -> Result<Value,
     Ok(Value::Object(map))
 }
 
-/// A step that switches the slot's owner.
 pub(crate) fn switch_object(head: &Head, slot: Slot) -> Result<Value, AllocError>
     ensures { IfOk result (λ v. view v ≡ slot_object (codes "switch") head.now.after.now head.now.step slot) }
 {
@@ -93,7 +89,6 @@ pub(crate) fn switch_object(head: &Head, slot: Slot) -> Result<Value, AllocError
     Ok(Value::Object(map))
 }
 
-/// A step that drops what a node has of the slot.
 pub(crate) fn drop_object(head: &Head, slot: Slot, node: Value) -> Result<Value, AllocError>
     ensures { IfOk result (λ v. view v ≡ drop_object head.now.after.now head.now.step slot (view node)) }
 {
@@ -104,7 +99,6 @@ pub(crate) fn drop_object(head: &Head, slot: Slot, node: Value) -> Result<Value,
     Ok(Value::Object(map))
 }
 
-/// A step that sets the slot's mirror.
 pub(crate) fn mirror_object(head: &Head, slot: Slot, to: Value) -> Result<Value, AllocError>
     ensures { IfOk result (λ v. view v ≡ mirror_object head.now.after.now head.now.step slot (view to)) }
 {

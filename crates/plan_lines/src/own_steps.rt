@@ -9,7 +9,6 @@ use plan_moves::Move;
 use plan_text::{Plan, Step};
 use std::alloc::{AllocError, Global};
 
-// Whether the step of that number sets a mirror.
 fn sets_mirror(plan: &Plan, number: u32) -> bool
     requires { number < length plan.now }
     ensures { result ≡ sets_mirror plan.now number }
@@ -17,7 +16,7 @@ fn sets_mirror(plan: &Plan, number: u32) -> bool
     matches!(plan.step(number), Step::Mirror(_, _))
 }
 
-// Those of the steps that are later than the one of that number.
+// The steps after this one.
 fn later(steps: &[u32], number: u32) -> &[u32]
     requires { ascending steps.now ≡ true }
     ensures { result.now ≡ filter (λ s. nat_lt number s) steps.now }
@@ -28,7 +27,8 @@ fn later(steps: &[u32], number: u32) -> &[u32]
     }
 }
 
-/// The numbers of the move's steps, ascending: the step that sets the mirror, and the later ones of the slot up to the next that sets a mirror.
+/// Returns the move's steps, ascending: its mirror, and the slot's later steps up to the next mirror.
+///
 /// Costs a binary search in the slot's steps, and a look at each step of the move.
 pub(crate) fn move_steps(
     alloc: Global,

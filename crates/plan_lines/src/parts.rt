@@ -1,4 +1,4 @@
-//! Names and numbers as values of JSON, and a value as a line.
+//! Names and numbers as JSON, and a value as a line.
 
 ghost use Rattle.std.specs.Prelude.{◌≡◌, ◌++◌, ◌∷◌, [], false, map, IfOk, IfErr, OnOk};
 ghost use Rattle.serde_json.specs.View.{view};
@@ -13,7 +13,6 @@ use ring_table::{Node, Ring};
 use serde_json::Value;
 use std::alloc::{AllocError, Global};
 
-/// The numbers, in order.
 pub(crate) fn numbers(alloc: Global, given: &[u32]) -> Result<Vec<Value>, AllocError>
     ensures { IfOk result (λ v. map view v.items ≡ map number_data given.now) }
 {
@@ -24,7 +23,6 @@ pub(crate) fn numbers(alloc: Global, given: &[u32]) -> Result<Vec<Value>, AllocE
     Ok(out)
 }
 
-// The bytes of a node's name.
 fn name_of(nodes: &[Node], node: NodeId) -> &[u8]
     ensures { result.now ≡ name_at (map (λ x. x.name) nodes.now) node }
 {
@@ -34,7 +32,7 @@ fn name_of(nodes: &[Node], node: NodeId) -> &[u8]
     }
 }
 
-/// The name of a node. It is plain text in every ring.
+/// Returns the name of a node, which is plain text in every ring.
 pub(crate) fn name_value(alloc: Global, ring: &Ring, node: NodeId) -> Result<Value, Refusal>
     ensures value { IfOk result (λ v. view v ≡ node_data (names_of ring.now) node) }
     ensures memory { IfErr result (λ e. e ≡ OutOfMemory) }
@@ -47,7 +45,7 @@ pub(crate) fn name_value(alloc: Global, ring: &Ring, node: NodeId) -> Result<Val
     }
 }
 
-/// The mirror's name, or null where there is none.
+/// Returns the mirror's name, or null if there is none.
 pub(crate) fn mirror_value(
     alloc: Global,
     ring: &Ring,
@@ -62,7 +60,6 @@ pub(crate) fn mirror_value(
     }
 }
 
-/// Adds the text of a value as a line.
 pub(crate) fn push_line(alloc: Global, out: &mut Vec<u8>, value: &Value) -> Result<(), AllocError>
     requires { has_float (view value.now) ≡ false }
     ensures { OnOk result (out.new.items ≡ out.old.items ++ (compact_text (view value.now) ++ 10 ∷ [])) }

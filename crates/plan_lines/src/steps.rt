@@ -21,7 +21,6 @@ use ring_table::Ring;
 use serde_json::Value;
 use std::alloc::Global;
 
-// The names of the owners of the listed slots of a partition.
 fn listed_owners(
     alloc: Global,
     ring: &Ring,
@@ -47,7 +46,6 @@ fn listed_owners(
     Ok(out)
 }
 
-// The names of the owners of the slots from which a copy reads.
 fn owners_value(
     alloc: Global,
     ring: &Ring,
@@ -75,7 +73,6 @@ fn owners_value(
     Ok(Value::Array(names))
 }
 
-// The object of a copy.
 fn copy_value(
     head: &Head,
     ring: &Ring,
@@ -93,7 +90,6 @@ fn copy_value(
     Ok(copy_object(head, slot, source, from, to)?)
 }
 
-// The object of a step of that kind, of a node alone.
 fn node_value(head: &Head, kind: &str, ring: &Ring, node: NodeId) -> Result<Value, Refusal>
     ensures value { IfOk result (λ v. view v
         ≡ node_object kind.now head.now.after.now head.now.step (node_data (names_of ring.now) node)) }
@@ -102,7 +98,7 @@ fn node_value(head: &Head, kind: &str, ring: &Ring, node: NodeId) -> Result<Valu
     Ok(node_object(head, kind, name_value(head.alloc, ring, node)?)?)
 }
 
-// The object of a step, where the slots are served so.
+// The object of a step, given who serves the slots.
 fn step_value(head: &Head, ring: &Ring, present: &Present, step: &Step) -> Result<Value, Refusal>
     requires suits { step_suits ring.now step.now ≡ true }
     ensures value { IfOk result (λ v. view v ≡ step_data (names_of ring.now) (serving_at ring.now present.now)
@@ -123,7 +119,6 @@ fn step_value(head: &Head, ring: &Ring, present: &Present, step: &Step) -> Resul
     }
 }
 
-// Adds the line of a step.
 fn push_step(
     out: &mut Vec<u8>,
     head: &Head,
@@ -141,10 +136,13 @@ fn push_step(
     Ok(())
 }
 
-/// The plan's steps as lines of JSON, one for each in order: its number, its kind, the numbers of the steps that must be done before it, and its
-/// slot and nodes: a copy goes from the owners of the slots that it reads, just before it, to the slot's mirror. A copy that reads listed slots
-/// has their indexes as well, in the plan's order. Refused only for want of memory.
-/// Costs one pass over the plan.
+/// Writes the plan's steps as lines of JSON, in order: number, kind, the steps to be done before, slot and
+/// nodes.
+///
+/// Fails only if memory runs out. Costs one pass over the plan.
+///
+/// A copy's line names the owners, just before it, of the slots read. It also has the slot's mirror, and the
+/// indexes of listed slots in the plan's order.
 pub fn write_steps(alloc: Global, ring: &Ring, plan: &Plan) -> Result<Vec<u8>, Refusal>
     requires { Suits ring.now plan.now }
     ensures text { IfOk result (λ v. v.items ≡ steps_text ring.now plan.now) }

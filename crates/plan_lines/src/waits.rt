@@ -1,4 +1,4 @@
-//! The steps for which a move waits.
+//! The steps that a move waits for.
 
 ghost use Rattle.std.specs.Prelude.{◌≡◌, ℕ, ◌<◌, ◌||◌, ◌&&◌, not, true, length, IfOk, IfErr, OnOk};
 ghost use Rattle.std.specs.List.{All};
@@ -12,7 +12,6 @@ use ring_names::Refusal;
 use std::alloc::{AllocError, Global};
 use std::collections::BTreeSet;
 
-// Whether the number is one of these.
 fn is_among(number: u32, steps: &[u32]) -> bool
     requires { ascending steps.now ≡ true }
     ensures { result ≡ has number steps.now }
@@ -20,7 +19,7 @@ fn is_among(number: u32, steps: &[u32]) -> bool
     steps.binary_search(&number).is_ok()
 }
 
-// Adds the dependencies of a step that are none of the move's own steps.
+// Adds the dependencies of a step that are not the move's own steps.
 fn add_waits(found: &mut BTreeSet<u32>, own: &[u32], after: &[u32]) -> Result<(), Refusal>
     requires { ascending own.now ≡ true }
     ensures ok { OnOk result ((n : ℕ)
@@ -35,7 +34,6 @@ fn add_waits(found: &mut BTreeSet<u32>, own: &[u32], after: &[u32]) -> Result<()
     Ok(())
 }
 
-// The numbers, ascending.
 fn in_order(alloc: Global, numbers: &BTreeSet<u32>) -> Result<Vec<u32>, AllocError>
     ensures value { IfOk result (λ v. v.items ≡ numbers.now.keys) }
     ensures ascending { ascending numbers.now.keys ≡ true }
@@ -43,8 +41,9 @@ fn in_order(alloc: Global, numbers: &BTreeSet<u32>) -> Result<Vec<u32>, AllocErr
     numbers.iter().copied().collect(alloc)
 }
 
-/// The numbers of the steps that one of a move's own steps directly waits for and that are none of these, ascending. Costs a look at each dependency,
-/// with a binary search in the own steps, and a place in order for each that is found.
+/// Returns the direct dependencies of a move's steps, except these steps, ascending.
+///
+/// Costs a look at each dependency with a binary search in the own steps, and an insertion for each found.
 pub(crate) fn move_after(alloc: Global, plan: &Plan, own: &[u32]) -> Result<Vec<u32>, Refusal>
     requires ascending { ascending own.now ≡ true }
     requires within { All (λ s. s < length plan.now) own.now }

@@ -15,7 +15,7 @@ use Rattle.plan_cover.proofs.Served.{whole}
 use Rattle.plan_moves.specs.declared.movement.Move.{Move}
 use Rattle.plan_moves.specs.Moves.{moved_by, served_before, moves_from, moves}
 
--- what a step begins hangs on who serves the slots alone
+-- what a step begins depends only on who serves the slots
 moved_alike : (f g : Slot → Serving) (n : ℕ) (s : Step) → ((slot : Slot) → f slot ≡ g slot) → moved_by f n s ≡ moved_by g n s
 moved_alike f g n (Join x) same = refl
 moved_alike f g n (Mirror s x) same =

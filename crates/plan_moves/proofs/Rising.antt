@@ -11,7 +11,7 @@ use Rattle.plan_text.specs.declared.step.Step.{Step}
 use Rattle.plan_text.specs.declared.step.Step.TheVariants.{Join, Mirror, Copy, Switch, Drop, Retire}
 use Rattle.plan_moves.specs.Rounds.{greatest, copies}
 
--- what is read in front hangs on what stands there alone
+-- what is read in front depends only on what stands there
 pub greatest-append : (rs ds : List ℕ) (r : ℕ) → list_all (λ d. nat_lt d (length rs)) ds ≡ true → greatest (rs ++ r ∷ []) ds ≡ greatest rs ds
 greatest-append rs [] r in_front = refl
 greatest-append rs (d ∷ ds) r in_front =

@@ -13,7 +13,7 @@ greatest values (p ∷ ps) = max (slice_index values p) (greatest values ps)
 abbrev pub copies : Step → ℕ
 copies s = elim (copy_of s) [ Some c ↦ 1 | None ↦ 0 ]
 
--- each step's round is the greatest among those of the steps that it waits for, and one more where it copies
+-- each step's round is the greatest round of the steps that it waits for, plus 1 if the step copies
 pub record AreRounds (plan : List Planned) (rounds : List ℕ) : Type 0 where
   pub len : length rounds ≡ length plan
   pub each : (n : ℕ) (x : Planned) → slice_get plan n ≡ Some x → slice_get rounds n ≡ Some (greatest rounds x.after + copies x.step)

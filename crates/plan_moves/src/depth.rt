@@ -1,4 +1,4 @@
-//! How many copies run one behind the other.
+//! How many copies run one after the other.
 
 ghost use Rattle.std.specs.Prelude.{◌≡◌, ◌<◌, ◌≤◌, true, nat_lt, nat_le, length, IfOk, IfErr};
 ghost use Rattle.std.specs.List.{list_all};
@@ -9,7 +9,6 @@ use plan_text::{Plan, Step};
 use ring_names::Refusal;
 use std::alloc::Global;
 
-// The greatest of the values at these places, or 0.
 fn greatest(values: &[u32], places: &[u32]) -> u32
     requires { list_all (λ place. nat_lt place (length values.now)) places.now ≡ true }
     ensures { result ≡ greatest values.now places.now }
@@ -23,7 +22,6 @@ fn greatest(values: &[u32], places: &[u32]) -> u32
     most
 }
 
-// 1 for a copy, and else 0.
 fn copies(step: &Step) -> u32
     ensures { result ≡ copies step.now }
 {
@@ -34,8 +32,10 @@ fn copies(step: &Step) -> u32
     }
 }
 
-/// The round of each step, by its number: the greatest number of copies, itself among them, on a path of dependencies that ends with it. So copies of
-/// one round may run side by side, and each waits for one of the round before. Costs a look at each dependency.
+/// Returns the round of each step: the most copies on a path of dependencies that ends with it, itself
+/// included. Costs a look at each dependency.
+///
+/// Copies of one round may run side by side, and each waits for one of the round before.
 pub fn rounds(alloc: Global, plan: &Plan) -> Result<Vec<u32>, Refusal>
     ensures ok { IfOk result (λ found. AreRounds plan.now found.items) }
     ensures memory { IfErr result (λ e. e ≡ OutOfMemory) }

@@ -1,11 +1,11 @@
-//! The hints that stand-ins keep after a history.
+//! The hints that remain after a history.
 
 use plan_runs::{Entry, Event, Reply};
 use ring_names::{NodeId, Refusal, Slot};
 use std::alloc::Global;
 use std::collections::BTreeSet;
 
-// A stand-in by its number, and the partition and the index of a slot for which it keeps hints.
+// A stand-in, and the partition and index of a slot for which it keeps hints.
 type Hint = (u32, u32, u32);
 
 /// Which nodes keep hints for which slots.
@@ -19,14 +19,14 @@ fn hint_of(node: NodeId, slot: Slot) -> Hint {
 }
 
 impl Kept {
-    /// Nobody keeps any.
+    /// No hints.
     pub fn new(alloc: Global) -> Kept {
         Kept {
             hints: BTreeSet::new(alloc),
         }
     }
 
-    /// Takes an entry more.
+    /// Applies an entry.
     pub fn note(&mut self, alloc: Global, entry: &Entry) -> Result<(), Refusal> {
         match &entry.event {
             Event::Hint(_, _, node) => {
@@ -38,13 +38,13 @@ impl Kept {
                 self.hints.remove(&hint_of(*node, *slot));
             }
             Event::Lose(node) => self.lose(alloc, *node)?,
-            // No other is about hints.
+            // Other events do not concern hints.
             _ => {}
         }
         Ok(())
     }
 
-    // The node loses what it keeps. A ring allows few losses.
+    // Removes the node's hints. A ring allows few losses.
     fn lose(&mut self, alloc: Global, node: NodeId) -> Result<(), Refusal> {
         let mut left = BTreeSet::new(alloc);
         for hint in self.hints.iter() {
@@ -56,7 +56,7 @@ impl Kept {
         Ok(())
     }
 
-    /// How many slots each of the nodes keeps hints for, summed, and those of the nodes that keep some.
+    /// Returns for how many slots the nodes keep hints, summed, and which of them keep some.
     pub fn of_nodes(&self, alloc: Global, nodes: &[u32]) -> Result<(u32, Vec<u32>), Refusal> {
         let mut count = 0u32;
         let mut keepers = Vec::new(alloc);

@@ -1,4 +1,4 @@
-//! What a plan does to its ring: which slots move from whom to whom, how many copies run one behind the other, and who owns the slots in the end.
+//! What a plan does to its ring: which slots move, how many copies run one after the other, and the final owners.
 #![tactic(auto)]
 
 mod depth;

@@ -16,15 +16,14 @@ use std::alloc::Global;
 #[derive(Clone, Copy, Debug)]
 pub struct Move {
     pub slot: Slot,
-    /// Who owns the slot until it is switched.
+    /// The owner until the switch.
     pub from: NodeId,
-    /// The mirror, which owns the slot once it is switched.
+    /// The mirror, which owns the slot after the switch.
     pub to: NodeId,
-    /// The number of the step that sets the mirror.
+    /// The step that sets the mirror.
     pub mirror: u32,
 }
 
-// Adds the move that the step begins, if it begins one.
 fn push_move(
     out: &mut Vec<Move>,
     present: &Present,
@@ -53,7 +52,7 @@ fn push_move(
     }
 }
 
-/// The moves that the plan begins, one for each mirror, in the order of its steps. Costs one pass over the plan.
+/// Returns the moves of the plan, one for each mirror, in order. Costs one pass over the plan.
 pub fn moves(alloc: Global, ring: &Ring, plan: &Plan) -> Result<Vec<Move>, Refusal>
     requires { Suits ring.now plan.now }
     ensures ok { IfOk result (λ found. found.items ≡ moves ring.now plan.now) }

@@ -1,4 +1,4 @@
-//! Who owns the slots behind a plan's last step, and how many slots each node owns.
+//! The owners of slots after a plan's last step.
 
 ghost use Rattle.std.specs.Prelude.{◌≡◌, ℕ, ◌<◌, ◌==◌, length, slice_get, count_by, IfOk, IfErr, if◌then◌else◌};
 ghost use Rattle.ring_names.specs.declared.refusal.Refusal.TheVariants.{OutOfMemory};
@@ -12,7 +12,7 @@ use ring_names::{Listed, NodeId, Refusal, Slot};
 use ring_table::Ring;
 use std::alloc::Global;
 
-/// Who serves each slot after the last step. Costs one pass over the plan.
+/// Returns who serves each slot after the last step. Costs one pass over the plan.
 pub fn present_after(alloc: Global, ring: &Ring, plan: &Plan) -> Result<Present, Refusal>
     requires { Suits ring.now plan.now }
     ensures ok { IfOk result (IsPast ring.now plan.now) }
@@ -25,7 +25,6 @@ pub fn present_after(alloc: Global, ring: &Ring, plan: &Plan) -> Result<Present,
     Ok(present)
 }
 
-// The owners of a partition's slots, as they are present.
 fn row_of(
     alloc: Global,
     ring: &Ring,
@@ -44,7 +43,7 @@ fn row_of(
     Ok(Listed::from_vec(row))
 }
 
-/// The owners of each partition's slots behind the plan's last step, by partition and then by index. Costs one pass over the plan.
+/// Returns the owners after the last step, by partition and index. Costs one pass over the plan.
 pub fn last_owners(alloc: Global, ring: &Ring, plan: &Plan) -> Result<Vec<Listed<NodeId>>, Refusal>
     requires { Suits ring.now plan.now }
     ensures ok { IfOk result (λ rows. rows.items ≡ last_owners ring.now plan.now) }
@@ -58,7 +57,6 @@ pub fn last_owners(alloc: Global, ring: &Ring, plan: &Plan) -> Result<Vec<Listed
     Ok(rows)
 }
 
-// One slot more of the node, up to the greatest number, if the node has a count.
 fn raise(counts: &mut Vec<u32>, node: NodeId)
     ensures counts { (x : ℕ)
         → CountsMore (if node.0 == x then 1 else 0) (slice_get counts.old.items x) (slice_get counts.new.items x) }
@@ -70,7 +68,6 @@ fn raise(counts: &mut Vec<u32>, node: NodeId)
     }
 }
 
-// The slots of a row more.
 fn count_row(counts: &mut Vec<u32>, row: &[NodeId])
     ensures counts { (x : ℕ)
         → CountsMore (count_by (λ y. y.0 == x) row.now) (slice_get counts.old.items x) (slice_get counts.new.items x) }
@@ -81,7 +78,7 @@ fn count_row(counts: &mut Vec<u32>, row: &[NodeId])
     }
 }
 
-/// How many of the slots each of that many nodes owns, by its number, where rows list the owners of slots; counts stop at 4,294,967,295.
+/// Counts the slots of each node, given rows of owners. Counts stop at 4,294,967,295.
 pub fn owned(alloc: Global, nodes: usize, rows: &[Listed<NodeId>]) -> Result<Vec<u32>, Refusal>
     ensures ok { IfOk result (λ counts. AreOwned nodes rows.now counts.items) }
     ensures memory { IfErr result (λ e. e ≡ OutOfMemory) }

@@ -7,30 +7,30 @@ use plan_text::Plan;
 use ring_names::Refusal;
 use std::alloc::Global;
 
-/// A copy that is open, and how many of its 16 chunks were copied.
+/// An open copy, and how many of its 16 chunks were copied.
 #[derive(Clone, Copy, Debug)]
 pub struct OpenCopy {
     pub step: u32,
     pub chunks: u32,
 }
 
-/// Which steps of a plan a history has done, which copies it leaves open, and which nodes are down after its last entry.
+/// The done steps, the open copies, and the nodes that are down after a history.
 #[derive(Drop)]
 pub struct Progress {
     // by step
     done: Vec<bool>,
-    // by step, how many chunks were copied
+    // by step, its copied chunks
     chunks: Vec<u32>,
     // by step
     is_open: Vec<bool>,
     // by node, as far as one was ever down
     is_down: Vec<bool>,
-    /// The hints that nodes keep.
+    /// The remaining hints.
     pub kept: Kept,
 }
 
 impl Progress {
-    /// The progress after the history, which is a run of the plan.
+    /// Returns the progress after the history, which is a run of the plan.
     pub fn of(alloc: Global, plan: &Plan, history: &[Entry]) -> Result<Progress, Refusal> {
         let steps = plan.len() as usize;
         let mut progress = Progress {
@@ -47,7 +47,6 @@ impl Progress {
         Ok(progress)
     }
 
-    // An event more.
     fn note(&mut self, event: &Event) -> Result<(), Refusal> {
         match event {
             Event::Do(step) => put(self.done.as_mut_slice(), *step, true),
@@ -60,13 +59,12 @@ impl Progress {
             Event::AbortCopy(step) => put(self.is_open.as_mut_slice(), *step, false),
             Event::Down(node) => self.put_down(node.0)?,
             Event::Up(node) => put(self.is_down.as_mut_slice(), node.0, false),
-            // No other is a step's or a node's.
+            // Other events concern no step and no node.
             _ => {}
         }
         Ok(())
     }
 
-    // The node is down.
     fn put_down(&mut self, node: u32) -> Result<(), Refusal> {
         for number in self.is_down.len()..(node as usize).saturating_add(1) {
             self.is_down.push(false)?;
@@ -90,12 +88,12 @@ impl Progress {
         is_set(self.is_down.as_slice(), node)
     }
 
-    /// How many chunks of the copy are copied, of 16.
+    /// Returns how many chunks of the copy are copied, of 16.
     pub fn chunks(&self, step: u32) -> u32 {
         at(self.chunks.as_slice(), step as usize).min(16)
     }
 
-    /// How many steps are done.
+    /// Counts the done steps.
     pub fn count(&self) -> u32 {
         let mut count = 0u32;
         for is_done in self.done.as_slice() {
@@ -106,7 +104,7 @@ impl Progress {
         count
     }
 
-    /// Whether the step is neither done nor open, and each step that it waits for is done.
+    /// Whether the step is neither done nor open, and all its dependencies are done.
     pub fn is_ready(&self, plan: &Plan, step: u32) -> bool {
         if step >= plan.len() || self.is_done(step) || self.is_open(step) {
             return false;

@@ -13,8 +13,10 @@ pub fn is_link(plan: &Plan, a: u32, b: u32) -> bool
     b < plan.len() && plan.depends(a, b)
 }
 
-/// Whether the path has at least two steps, each a direct dependency of the next. A step beyond the plan makes it none. Takes no
-/// memory, and costs a binary search for each link.
+/// Whether the path has at least two steps, each a direct dependency of the next. A step beyond the plan makes
+/// it false.
+///
+/// Takes no memory, and costs a binary search for each link.
 pub fn verify_fact(plan: &Plan, path: &[u32]) -> bool
     ensures { result ≡ is_path plan.now path.now }
 {

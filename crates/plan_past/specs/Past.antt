@@ -23,18 +23,18 @@ number_in numbers n = unwrap_or (slice_get numbers n) None
 abbrev pub mirror_in : List Planned → ℕ → Option (Slot × NodeId)
 mirror_in plan n = option_and_then mirror_of (step_at plan n)
 
--- whether mirrors may be taken back
+-- whether mirrors may be undone
 abbrev pub allows : Back → Bool
 allows Never = false
 allows Allowed = true
 
 -- ---- steps
 
--- step k of the one plan is step n of the other: of the same kind, slot, sources and node
+-- step k in the one plan is step n in the other, with the same kind, slot, sources and node
 abbrev pub AreSame : List Planned → List Planned → ℕ → ℕ → Type 0
 AreSame old new k n = (s : Step) × (step_at old k ≡ Some s) × (step_at new n ≡ Some s)
 
--- where step k has a number in the other plan, the step of that number is the same, and by these numbers it is no other's
+-- if step k has a number in the other plan, the step of that number is the same. No other step has that number
 abbrev pub Keeps : List Planned → List Planned → List (Option ℕ) → List ℕ → ℕ → Type 0
 Keeps old new numbers olds k = (n : ℕ) → number_in numbers k ≡ Some n → AreSame old new k n × (slice_get olds n ≡ Some k)
 
@@ -56,26 +56,27 @@ renamed numbers (CloseCopy n) = option_map CloseCopy (number_in numbers n)
 renamed numbers (AbortCopy n) = option_map AbortCopy (number_in numbers n)
 renamed numbers e = Some e
 
--- whether the event may go where its step has no number: no copy that is done goes, and no other step but, where that is allowed, a mirror
+-- whether the event may go if its step has no number. No done copy goes, and of the other steps only a mirror,
+-- if that is allowed
 abbrev pub may_go : Back → List Planned → List (Option ℕ) → Event → Bool
 may_go back old numbers (Do n) = is_some (number_in numbers n) || (allows back && is_some (mirror_in old n))
 may_go back old numbers (CloseCopy n) = is_some (number_in numbers n)
 may_go back old numbers e = true
 
--- ---- mirrors that are taken back
+-- ---- undone mirrors
 
 -- whether step n sets a mirror of the slot
 abbrev pub sets_mirror : List Planned → ℕ → Slot → Bool
 sets_mirror plan n s = elim (mirror_in plan n) [ Some m ↦ is_slot s m.0 | None ↦ false ]
 
--- the slots of which a mirror was taken back, after an event: a mirror without a number is taken back there
+-- the slots with an undone mirror, after an event: a mirror without a number is undone there
 abbrev pub taken_after : List Planned → List (Option ℕ) → (Slot → Bool) → Event → Slot → Bool
 taken_after old numbers taken (Do n) s = (not (is_some (number_in numbers n)) && sets_mirror old n s) || taken s
 taken_after old numbers taken e s = taken s
 
 -- ---- entries
 
--- another ticket of a slot of which a mirror was taken back
+-- another ticket of a slot with an undone mirror
 abbrev pub IsOtherTicket : (Slot → Bool) → Reply → Reply → Type 0
 IsOtherTicket taken (Ticket s g) (Ticket t h) = (t ≡ s) × (taken s ≡ true)
 IsOtherTicket taken r q = ⊥
@@ -101,21 +102,23 @@ abbrev pub StandFor : Event → List Entry → Type 0
 StandFor (ChunkCopy n c) told = list_all is_write told ≡ true
 StandFor e told = told ≡ []
 
--- the entry is told by these: by one of its event by the other plan, with a reply that tells its reply; or, if it is left out, by what stands in its place
+-- the entry is told by these: by its event in the other plan, with a reply that tells its reply. An entry that
+-- is left out is told by what stands in its place
 abbrev pub IsToldBy : List (Option ℕ) → (Slot → Bool) → Entry → List Entry → Type 0
 IsToldBy numbers taken x told = MatchOption (renamed numbers x.event) (StandFor x.event told)
     (λ e. (r : Reply) × (told ≡ record { event = e; reply = r } ∷ []) × TellsReply taken x.reply r)
 
 -- ---- histories
 
--- the later history tells the earlier one entry by entry, where mirrors of these slots were taken back before
+-- the later history tells the earlier one entry by entry, if mirrors of these slots were undone before
 abbrev pub Tells : List Planned → List (Option ℕ) → (Slot → Bool) → List Entry → List Entry → Type 0
 Tells old numbers taken [] later = later ≡ []
 Tells old numbers taken (x ∷ xs) later = (told rest : List Entry) × (later ≡ told ++ rest) × IsToldBy numbers taken x told
     × Tells old numbers (taken_after old numbers taken x.event) xs rest
 
--- the later history tells the earlier one by another plan: its steps are renamed one to one, each to the same step; entries of copies that are not done may be left out, and where that
--- is allowed those of mirrors, of whose slots the later tickets may be others; and writes may stand in the place of chunks that are left out
+-- the later history tells the earlier one by another plan. Steps are renamed one to one, each to the same step.
+-- Entries of copies that are not done may be left out. If that is allowed, so may those of mirrors, and later
+-- tickets of such slots may be others. Writes may stand in the place of chunks that are left out
 pub record IsSamePast (back : Back) (old new : List Planned) (earlier later : List Entry) : Type 0 where
   pub numbers : List (Option ℕ)
   pub same : (k n : ℕ) → number_in numbers k ≡ Some n → AreSame old new k n

@@ -1,5 +1,5 @@
-//! Whether a history by one plan tells what a history by another plan tells: its steps are renamed, entries of copies that begin again and of mirrors that are
-//! taken back are left out, and writes stand in the place of chunks.
+//! Checks that a history matches another one by another plan. Steps are renamed, entries of restarted copies and undone
+//! mirrors are left out, and writes replace chunks.
 #![tactic(auto)]
 
 mod names;

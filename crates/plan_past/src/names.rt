@@ -1,4 +1,4 @@
-//! What the steps of a plan are called in another one.
+//! The numbers of a plan's steps in another one.
 
 ghost use Rattle.std.specs.Prelude.{◌≡◌};
 ghost use Rattle.plan_past.specs.Past.{number_in, allows, mirror_in};
@@ -7,7 +7,6 @@ use plan_runs::Back;
 use plan_text::{Plan, Step};
 use ring_names::{NodeId, Slot};
 
-/// Whether mirrors may be taken back.
 pub(crate) fn allows(back: Back) -> bool
     ensures { result ≡ allows back }
 {
@@ -17,7 +16,6 @@ pub(crate) fn allows(back: Back) -> bool
     }
 }
 
-/// The step's number in the other plan, if it has one.
 pub(crate) fn number_in(numbers: &[Option<u32>], step: u32) -> Option<u32>
     ensures { result ≡ number_in numbers.now step }
 {
@@ -27,7 +25,6 @@ pub(crate) fn number_in(numbers: &[Option<u32>], step: u32) -> Option<u32>
     }
 }
 
-/// The slot and the node of a step that sets a mirror.
 pub(crate) fn mirror_in(plan: &Plan, step: u32) -> Option<(Slot, NodeId)>
     ensures { result ≡ mirror_in plan.now step }
 {

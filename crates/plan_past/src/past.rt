@@ -1,4 +1,4 @@
-//! Whether one history tells another.
+//! Checks that one history matches another.
 
 ghost use Rattle.std.specs.Prelude.{◌≡◌, ◌≤◌, ◌++◌, false, length, IsTrue, IfOk, IfSome, OnOk};
 ghost use Rattle.std.specs.List.{list_all};
@@ -15,7 +15,7 @@ use plan_text::Plan;
 use ring_names::Refusal;
 use std::alloc::Global;
 
-/// Two plans, and what the steps of the first are called in the second.
+/// Two plans, and the numbers of their steps in each other.
 #[derive(Clone, Copy)]
 pub struct SamePast<'a> {
     pub old: &'a Plan,
@@ -27,11 +27,11 @@ pub struct SamePast<'a> {
     pub back: Back,
 }
 
-/// A history that tells an earlier one.
+/// A history that matches an earlier one.
 #[derive(Clone, Copy)]
 pub struct Told<'a> {
     pub entries: &'a [Entry],
-    /// By entry of the earlier history, how many of these tell it.
+    /// By entry of the earlier history, the number of entries here.
     pub counts: &'a [u32],
 }
 
@@ -48,7 +48,7 @@ fn may_go(back: Back, old: &Plan, numbers: &[Option<u32>], event: &Event) -> boo
     }
 }
 
-// Whether nothing is left out but entries of copies that are not done, and where that is allowed of mirrors.
+// Whether only entries of unfinished copies, and of mirrors if allowed, are left out.
 fn may_all_go(back: Back, old: &Plan, numbers: &[Option<u32>], history: &[Entry]) -> bool
     ensures { result ≡ list_all (λ x. may_go back old.now numbers.now x.event) history.now }
 {
@@ -57,7 +57,7 @@ fn may_all_go(back: Back, old: &Plan, numbers: &[Option<u32>], history: &[Entry]
         .all(|entry| may_go(back, old, numbers, &entry.event))
 }
 
-// Adds the slot of a mirror that the event sets, if the mirror is taken back.
+// Adds the slot of a mirror that the event sets, if the mirror is undone.
 fn take_back(
     taken: &mut SlotSet,
     old: &Plan,
@@ -78,7 +78,6 @@ fn take_back(
     }
 }
 
-// The first entries, so many, and the others, if there are so many.
 fn cut(entries: &[Entry], count: u32) -> Option<(&[Entry], &[Entry])>
     ensures { IfSome result (λ parts. entries.now ≡ parts.0.now ++ parts.1.now) }
 {
@@ -88,7 +87,7 @@ fn cut(entries: &[Entry], count: u32) -> Option<(&[Entry], &[Entry])>
     Some(entries.split_at(count as usize))
 }
 
-// Whether the entries tell the earlier ones, one after the other, where no mirror was taken back before.
+// Whether the entries match the earlier ones in order, if no mirror was undone before.
 fn are_told(
     taken: &mut SlotSet,
     old: &Plan,
@@ -120,8 +119,11 @@ fn are_told(
     Ok(left.is_empty())
 }
 
-/// Whether the entries tell the earlier history by the second plan. `false` if a step is not the same in both plans, if an entry is left out that may not be: of
-/// a step that is done, but for a mirror that may be taken back; or if an entry is not told by as many of these as is said. Costs one pass over both histories.
+/// Whether the entries match the earlier history, by the second plan. Costs one pass over both histories.
+///
+/// False if a step differs in both plans, or if the counts do not fit.
+///
+/// False if an entry of a done step other than an undone mirror is left out.
 pub fn is_same_past(
     alloc: Global,
     it: &SamePast,

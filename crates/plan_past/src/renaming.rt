@@ -1,4 +1,4 @@
-//! An event with its step renamed.
+//! Events with renamed steps.
 
 ghost use Rattle.std.specs.Prelude.{◌≡◌, true, IfOk};
 ghost use Rattle.plan_past.specs.Past.{is_of_step, renamed};
@@ -7,7 +7,6 @@ use crate::names::number_in;
 use plan_runs::Event;
 use ring_names::Refusal;
 
-// The event of a step, by the number that it has in the other plan.
 fn renamed_step(numbers: &[Option<u32>], event: &Event) -> Option<Event>
     requires { is_of_step event.now ≡ true }
     ensures { result ≡ renamed numbers.now event.now }
@@ -24,7 +23,6 @@ fn renamed_step(numbers: &[Option<u32>], event: &Event) -> Option<Event>
     }
 }
 
-// Whether the event is a step's.
 fn is_of_step(event: &Event) -> bool
     ensures { result ≡ is_of_step event.now }
 {
@@ -38,7 +36,7 @@ fn is_of_step(event: &Event) -> bool
     )
 }
 
-/// The event by the number that its step has in the other plan; none if its step has none. An event that is not a step's stays as it is. Takes no memory.
+/// Returns the event with its step's number in the other plan, or none if it has none. Other events stay. Takes no memory.
 pub fn renamed(numbers: &[Option<u32>], event: &Event) -> Result<Option<Event>, Refusal>
     ensures { IfOk result (λ v. v ≡ renamed numbers.now event.now) }
 {

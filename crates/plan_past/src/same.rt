@@ -1,4 +1,4 @@
-//! Whether steps of two plans are the same.
+//! Compares the steps of two plans.
 
 ghost use Rattle.std.specs.Prelude.{◌≡◌, ℕ, IsTrue};
 ghost use Rattle.plan_past.specs.Past.{AreSame, Keeps};
@@ -17,7 +17,6 @@ fn is_source(a: &Source, b: &Source) -> bool
     }
 }
 
-// Whether the two steps are of one kind, with equal slots, sources and nodes.
 fn is_step(a: &Step, b: &Step) -> bool
     ensures { IsTrue result → b.now ≡ a.now }
 {
@@ -32,7 +31,7 @@ fn is_step(a: &Step, b: &Step) -> bool
     }
 }
 
-/// Whether the two plans have one step by these numbers: of one kind, with equal slots, sources and nodes. A number that is no step's is `false`.
+/// Whether the two steps are equal: kind, slots, sources and nodes. False if a step does not exist.
 pub fn have_same(old: &Plan, new: &Plan, step: u32, number: u32) -> bool
     ensures { IsTrue result → AreSame old.now new.now step number }
 {
@@ -44,7 +43,7 @@ pub fn have_same(old: &Plan, new: &Plan, step: u32, number: u32) -> bool
     is_step(mine, theirs)
 }
 
-// Whether the step is the same in the other plan, where it has a number there, and the other plan's step has that number alone.
+// Whether the step is the same in the other plan, if it has a number there, and no other step has that number.
 fn keeps(old: &Plan, new: &Plan, numbers: &[Option<u32>], olds: &[u32], step: u32) -> bool
     ensures { IsTrue result → Keeps old.now new.now numbers.now olds.now step }
 {
@@ -54,7 +53,7 @@ fn keeps(old: &Plan, new: &Plan, numbers: &[Option<u32>], olds: &[u32], step: u3
     olds.get(number as usize) == Some(&step) && have_same(old, new, step, number)
 }
 
-/// Whether each step that has a number in the other plan is the same there, and no other has that number.
+/// Whether each step with a number is the same in the other plan, and no two share a number.
 pub(crate) fn keep_all(old: &Plan, new: &Plan, numbers: &[Option<u32>], olds: &[u32]) -> bool
     ensures { IsTrue result → (k : ℕ) → Keeps old.now new.now numbers.now olds.now k }
 {

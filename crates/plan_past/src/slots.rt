@@ -9,7 +9,7 @@ use ring_names::{Refusal, Slot};
 use std::alloc::Global;
 use std::collections::HashSet;
 
-/// Whether the two are one slot.
+/// Whether the two slots are equal.
 pub fn is_slot(a: Slot, b: Slot) -> bool
     ensures value { result ≡ is_slot a b }
     ensures same { IsTrue result → b ≡ a }
@@ -33,7 +33,7 @@ impl SlotSet {
         }
     }
 
-    /// Whether the slot is one of them.
+    /// Whether the set has the slot.
     pub fn has(&self, slot: Slot) -> bool
         ensures { result ≡ is_in self.now slot }
     {

@@ -1,4 +1,4 @@
-//! Whether entries tell an entry.
+//! Checks that entries match an entry.
 
 ghost use Rattle.std.specs.Prelude.{◌≡◌, ◌∷◌, [], IsTrue, IfOk};
 ghost use Rattle.std.specs.List.{list_all};
@@ -11,7 +11,7 @@ use crate::slots::SlotSet;
 use plan_runs::{Entry, Event, Reply, is_same_event, is_same_reply};
 use ring_names::Refusal;
 
-// Whether both are tickets of one slot, of which a mirror was taken back.
+// Whether both are tickets of one slot with an undone mirror.
 fn is_other_ticket(taken: &SlotSet, reply: &Reply, other: &Reply) -> bool
     ensures { IsTrue result → IsOtherTicket (is_in taken.now) reply.now other.now }
 {
@@ -23,28 +23,25 @@ fn is_other_ticket(taken: &SlotSet, reply: &Reply, other: &Reply) -> bool
     }
 }
 
-// Whether the second reply tells the first.
 fn tells_reply(taken: &SlotSet, reply: &Reply, other: &Reply) -> bool
     ensures { IsTrue result → TellsReply (is_in taken.now) reply.now other.now }
 {
     is_same_reply(reply, other) || is_other_ticket(taken, reply, other)
 }
 
-// Whether the entry is a write that got a ticket.
 fn is_write(entry: &Entry) -> bool
     ensures { result ≡ is_write entry.now }
 {
     matches!(&entry.event, Event::Write(_, _)) && matches!(&entry.reply, Reply::Ticket(_, _))
 }
 
-// Whether they all are writes that got tickets.
 fn are_writes(told: &[Entry]) -> bool
     ensures { result ≡ list_all is_write told.now }
 {
     told.iter().all(|entry| is_write(entry))
 }
 
-// Whether the entries may stand in the place of the event, which is left out.
+// Whether the entries may replace the event, which is left out.
 fn stand_for(event: &Event, told: &[Entry]) -> bool
     ensures { IsTrue result → StandFor event.now told.now }
 {
@@ -54,7 +51,7 @@ fn stand_for(event: &Event, told: &[Entry]) -> bool
     }
 }
 
-// Whether they are one entry of that event, with a reply that tells that one.
+// Whether they are one entry of the event, with a matching reply.
 fn is_one(taken: &SlotSet, event: &Event, reply: &Reply, told: &[Entry]) -> bool
     ensures { IsTrue result → (r : TheReply) × (told.now ≡ record { event = event.now; reply = r } ∷ []) × TellsReply (is_in taken.now) reply.now r }
 {
@@ -64,7 +61,7 @@ fn is_one(taken: &SlotSet, event: &Event, reply: &Reply, told: &[Entry]) -> bool
     more.is_empty() && is_same_event(event, &first.event) && tells_reply(taken, reply, &first.reply)
 }
 
-/// Whether these entries tell the entry.
+/// Whether these entries match the entry.
 pub(crate) fn is_told(
     numbers: &[Option<u32>],
     taken: &SlotSet,

@@ -23,7 +23,7 @@ by_answer None v u s r e =
     let p : (v, s) ≡ (u, r) = cc in
     (refl, ap (λ (q : World × Reply). q.0) p, ap (λ (q : World × Reply). q.1) p)
 
--- an event that is answered passes its guards, and leads to its effect with its reply
+-- an event that is answered passes its guards, and leads to its effect with that reply
 pub answered : (ring : RingValue) (plan : List Planned) (w u : World) (e : Event) (r : Reply) → answer ring plan w e ≡ Ok (u, r)
     → (first_failing (guards ring plan w e) ≡ None) × (effect ring plan w e ≡ u) × (reply_to ring plan w e ≡ r)
 answered ring plan w u e r h = by_answer (first_failing (guards ring plan w e)) (effect ring plan w e) u (reply_to ring plan w e) r h

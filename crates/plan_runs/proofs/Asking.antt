@@ -13,7 +13,7 @@ use Rattle.plan_runs.proofs.Frames.{same_gets}
 
 -- ---- a get
 
--- it is there, of the same key, and what it found at a slot it had found, or finds now
+-- the get is there, with the same key. What it found at a slot, it had found before or finds now
 pub record StaysAsked (ring : RingValue) (plan : List Planned) (w u : World) (g : ℕ) : Type 0 where
   pub exists : g < length u.gets
   pub key : key_of_get u g ≡ key_of_get w g
@@ -27,7 +27,7 @@ unasked ring plan w u g same l = record {
   found = λ i vs e. inl (sym (ap (λ (gs : List GetRecord). read_at (λ (x : GetRecord). x.found i) None gs g) same) ∙ e);
 }
 
--- where one more comes
+-- if another one comes
 more_gets : (ring : RingValue) (plan : List Planned) (w : World) (a : GetRecord) (g : ℕ) → g < length w.gets
     → StaysAsked ring plan w (record w { gets = w.gets ++ a ∷ [] }) g
 more_gets ring plan w a g l = record {
@@ -36,7 +36,7 @@ more_gets ring plan w a g l = record {
   found = λ i vs e. inl (sym (part_before (λ (x : GetRecord). x.found i) None w.gets (a ∷ []) g l) ∙ e);
 }
 
--- where one has its reply
+-- if one has its reply
 ended_get : (ring : RingValue) (plan : List Planned) (w : World) (h : ℕ) (reply : List ℕ) (g : ℕ) → g < length w.gets
     → StaysAsked ring plan w (record w { gets = changed w.gets h (λ x. record x { reply = Some reply }) }) g
 ended_get ring plan w h reply g l = record {
@@ -56,7 +56,7 @@ changed_found_at (x ∷ gs) zero f (suc g) i vs e = inl e
 changed_found_at (x ∷ gs) (suc n) f zero i vs e = inl e
 changed_found_at (x ∷ gs) (suc n) f (suc g) i vs e = elim (changed_found_at gs n f g i vs e) [ inl h ↦ inl h | inr h ↦ inr (ap suc h.0, h.1, h.2, h.3) ]
 
--- where one reads a slot
+-- if one reads a slot
 read_get : (ring : RingValue) (plan : List Planned) (w : World) (h j g : ℕ) → g < length w.gets
     → StaysAsked ring plan w (record w { gets = changed w.gets h (λ x. record x { found = with_value x.found j (finds ring plan w h j) }) }) g
 read_get ring plan w h j g l = record {

@@ -1,4 +1,4 @@
--- Records by number, where one is changed or one more comes.
+-- Records by number, if one is changed or another one comes.
 use Rattle.std.proofs.Common.{◌≡◌, ◌≢◌, ℕ, zero, suc, ◌<◌, List, [], ◌∷◌, ◌++◌, length, refl, ap, arith}
 use Rattle.std.specs.Prelude.{Some, None, slice_get, option_map}
 use Rattle.plan_runs.specs.Effects.{changed}

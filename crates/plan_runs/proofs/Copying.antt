@@ -55,7 +55,7 @@ apart plan n m h g = elim (eqb_tells m n) [
   | inr t ↦ t.0
 ]
 
--- a step that is no copy is done
+-- a step that is not a copy is done
 pub do_copies : (plan : List Planned) (D o : ℕ → Bool) (m : ℕ → ℕ → Bool) (n : ℕ) → CopiesFit plan D o m → has_copy plan n ≡ false → CopiesFit plan (with_number D n) o m
 do_copies plan D o m n i none = record {
   copies = i.copies;

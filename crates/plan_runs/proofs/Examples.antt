@@ -23,12 +23,12 @@ use Rattle.plan_runs.specs.Guards.{guards}
 use Rattle.plan_runs.specs.Effects.{effect, lose_effect}
 use Rattle.plan_runs.specs.Answers.{answer}
 
--- what each event is answered, where a refused one changes nothing
+-- what each event is answered; a refused one changes nothing
 abbrev replies : RingValue → List Planned → World → List Event → List (Result Reply Refusal)
 replies ring plan w [] = []
 replies ring plan w (e ∷ es) = elim (answer ring plan w e) [ Ok x ↦ Ok x.1 ∷ replies ring plan x.0 es | Err r ↦ Err r ∷ replies ring plan w es ]
 
--- the world to which the events lead, where a refused one changes nothing
+-- the world to which the events lead; a refused one changes nothing
 abbrev world_after : RingValue → List Planned → World → List Event → World
 world_after ring plan w [] = w
 world_after ring plan w (e ∷ es) = elim (answer ring plan w e) [ Ok x ↦ world_after ring plan x.0 es | Err r ↦ world_after ring plan w es ]
@@ -73,7 +73,8 @@ moves_to_d = step (Join (the 3)) [] ∷ step (Mirror (at 0 1) (the 3)) (0 ∷ []
 abbrev to_third_slot : List Planned
 to_third_slot = step (Mirror (at 0 2) (the 3)) [] ∷ step (Copy (at 0 2) Owner) (0 ∷ []) ∷ step (Switch (at 0 2)) (1 ∷ []) ∷ []
 
--- a node that keeps a hint for a slot may not serve another slot of the partition, nor a node that serves one keep a hint for another
+-- a node that keeps a hint for a slot may not serve another slot of the partition. Nor may a node that serves
+-- one keep a hint for another
 keeper_in_the_way : replies (ring_of_four true) to_third_slot (opening_world (ring_of_four true))
     (StartPut (record { 0 = 0 }) (codes "a") (49 ∷ []) ([]) ∷ Hint 0 1 (the 3) ∷ Hint 0 2 (the 3) ∷ Do 0 ∷ Handoff (the 3) (at 0 1) ∷ Do 0 ∷ Hint 0 1 (the 3) ∷ [])
     ≡ Ok (reply.Put 0) ∷ Ok (reply.Ticket (at 0 1) 0) ∷ Err KeeperTaken ∷ Err HintsLeft ∷ Ok reply.Plain ∷ Ok reply.Plain ∷ Err KeeperInPartition ∷ []
@@ -109,7 +110,7 @@ ring_of_five = record {
 abbrev moves_to_e : List Planned
 moves_to_e = step (Join (the 4)) [] ∷ step (Mirror (at 0 1) (the 4)) (0 ∷ []) ∷ step (Copy (at 0 1) Owner) (1 ∷ []) ∷ step (Switch (at 0 1)) (2 ∷ []) ∷ step (Drop (at 0 1) (the 1)) (3 ∷ []) ∷ []
 
--- a hint is handed to whoever owns its slot by then, and the put is found there
+-- a hint is handed to the node that owns its slot by then, and the put is found there
 hint_follows_its_slot : replies ring_of_five moves_to_e (opening_world ring_of_five)
     (Down (the 1) ∷ StartPut (record { 0 = 0 }) (codes "a") (49 ∷ []) ([]) ∷ Write 0 0 ∷ Write 0 1 ∷ Hint 0 1 (the 3) ∷ Ack 0 ∷ Up (the 1) ∷ Do 0 ∷ Do 1 ∷ OpenCopy 2 ∷ ChunkCopy 2 0 ∷ ChunkCopy 2 1 ∷ ChunkCopy 2 2 ∷ ChunkCopy 2 3 ∷ ChunkCopy 2 4 ∷ ChunkCopy 2 5 ∷ ChunkCopy 2 6 ∷ ChunkCopy 2 7 ∷ ChunkCopy 2 8 ∷ ChunkCopy 2 9 ∷ ChunkCopy 2 10 ∷ ChunkCopy 2 11 ∷ ChunkCopy 2 12 ∷ ChunkCopy 2 13 ∷ ChunkCopy 2 14 ∷ ChunkCopy 2 15 ∷ CloseCopy 2 ∷ Do 3 ∷ Handoff (the 3) (at 0 1) ∷ Down (the 3) ∷ StartGet (codes "a") ∷ Read 0 1 ∷ Read 0 2 ∷ EndGet 0 ∷ [])
     ≡ Ok reply.Plain ∷ Ok (reply.Put 0) ∷ Ok (reply.Ticket (at 0 0) 0) ∷ Err (NodeDown 1) ∷ Ok (reply.Ticket (at 0 1) 0) ∷ Ok reply.Plain ∷ Ok reply.Plain ∷ Ok reply.Plain ∷ Ok reply.Plain ∷ Ok reply.Plain ∷ Ok reply.Plain ∷ Ok reply.Plain ∷ Ok reply.Plain ∷ Ok reply.Plain ∷ Ok reply.Plain ∷ Ok reply.Plain ∷ Ok reply.Plain ∷ Ok reply.Plain ∷ Ok reply.Plain ∷ Ok reply.Plain ∷ Ok reply.Plain ∷ Ok reply.Plain ∷ Ok reply.Plain ∷ Ok reply.Plain ∷ Ok reply.Plain ∷ Ok reply.Plain ∷ Ok reply.Plain ∷ Ok reply.Plain ∷ Ok reply.Plain ∷ Ok reply.Plain ∷ Ok (reply.Get 0) ∷ Ok (reply.Found (0 ∷ [])) ∷ Ok (reply.Found ([])) ∷ Ok (reply.Answer (0 ∷ [])) ∷ []
@@ -135,7 +136,8 @@ kept ring plan w = record { holders = passing_below ring.n (λ i. is_held ring p
 abbrev handed_over : List Event
 handed_over = Down (the 1) ∷ StartPut (record { 0 = 0 }) (codes "a") (49 ∷ []) ([]) ∷ Write 0 0 ∷ Hint 0 1 (the 3) ∷ Ack 0 ∷ Up (the 1) ∷ Do 0 ∷ Do 1 ∷ Handoff (the 3) (at 0 1) ∷ StartGet (codes "a") ∷ Read 0 1 ∷ Read 0 2 ∷ EndGet 0 ∷ []
 
--- two of three slots hold an acknowledged put, so each two slots have one of them; a get that starts after it is answered it
+-- two of three slots hold an acknowledged put, so each two slots include one of them. A get that starts
+-- afterwards is answered the put
 held_and_read : kept ring_of_five moves_to_e (world_after ring_of_five moves_to_e (opening_world ring_of_five) handed_over) ≡ record { holders = 0 ∷ 1 ∷ []; acked = true; reply = Some (0 ∷ []) }
 unfolding guards effect log2 block_words rounds compress hash_after digest_bytes md5
 held_and_read = refl
@@ -143,12 +145,12 @@ held_and_read = refl
 abbrev overwritten : List Event
 overwritten = StartPut (record { 0 = 0 }) (codes "a") (49 ∷ []) ([]) ∷ Write 0 0 ∷ Write 0 1 ∷ Ack 0 ∷ StartPut (record { 0 = 0 }) (codes "a") (50 ∷ []) ([]) ∷ Write 1 2 ∷ StartGet (codes "a") ∷ Read 0 0 ∷ Read 0 2 ∷ EndGet 0 ∷ []
 
--- a slot that has a put of the same writer after it holds it too, and a get is answered that one
+-- a slot that has a later put of the same writer holds the put too, and a get is answered the later put
 held_by_a_successor : kept (ring_of_four false) [] (world_after (ring_of_four false) [] (opening_world (ring_of_four false)) overwritten) ≡ record { holders = 0 ∷ 1 ∷ 2 ∷ []; acked = true; reply = Some (1 ∷ []) }
 unfolding guards effect log2 block_words rounds compress hash_after digest_bytes md5
 held_by_a_successor = refl
 
--- puts that know nothing of one another are both answered, and one that has seen both hides them
+-- concurrent puts are both answered, and one that has seen both hides them
 two_writers : replies (ring_of_four false) [] (opening_world (ring_of_four false))
     (StartPut (record { 0 = 0 }) (codes "abc") (49 ∷ []) ([]) ∷ StartPut (record { 0 = 1 }) (codes "abc") (50 ∷ []) ([]) ∷ Write 0 0 ∷ Write 0 1 ∷ Write 1 0 ∷ Write 1 1 ∷ Ack 0 ∷ Ack 1 ∷ StartGet (codes "abc") ∷ Read 0 1 ∷ Read 0 2 ∷ EndGet 0 ∷ StartPut (record { 0 = 0 }) (codes "abc") (51 ∷ []) (0 ∷ []) ∷ Write 2 0 ∷ Write 2 2 ∷ Ack 2 ∷ StartGet (codes "abc") ∷ Read 1 0 ∷ Read 1 1 ∷ EndGet 1 ∷ [])
     ≡ Ok (reply.Put 0) ∷ Ok (reply.Put 1) ∷ Ok (reply.Ticket (at 2 0) 0) ∷ Ok (reply.Ticket (at 2 1) 0) ∷ Ok (reply.Ticket (at 2 0) 0) ∷ Ok (reply.Ticket (at 2 1) 0) ∷ Ok reply.Plain ∷ Ok reply.Plain ∷ Ok (reply.Get 0) ∷ Ok (reply.Found (0 ∷ 1 ∷ [])) ∷ Ok (reply.Found ([])) ∷ Ok (reply.Answer (0 ∷ 1 ∷ [])) ∷ Ok (reply.Put 2) ∷ Ok (reply.Ticket (at 2 0) 0) ∷ Ok (reply.Ticket (at 2 2) 0) ∷ Ok reply.Plain ∷ Ok (reply.Get 1) ∷ Ok (reply.Found (2 ∷ [])) ∷ Ok (reply.Found (0 ∷ 1 ∷ [])) ∷ Ok (reply.Answer (2 ∷ [])) ∷ []
@@ -164,8 +166,8 @@ too_few_slots = refl
 
 -- ---- a node loses its store
 
--- of put 0 and slot 1 of partition 0: the nodes that store it and those that keep it as a hint; and the generations of the
--- partition's slots, and how many stores were lost
+-- for put 0 and slot 1 of partition 0, the nodes that store the put and those that keep it as a hint. Also the
+-- generations of the partition's slots, and how often nodes lost their data
 record Left : Type 0 where
   storers : List ℕ
   keepers : List ℕ
@@ -188,7 +190,7 @@ before_a_loss : left [] stored_and_hinted ≡ record { storers = 1 ∷ []; keepe
 unfolding guards effect log2 block_words rounds compress hash_after digest_bytes md5
 before_a_loss = refl
 
--- an owner that loses its store has nothing of its slot, whose generation is one more
+-- an owner that loses its data has nothing of its slot, and the slot's generation grows by 1
 owner_loses : left [] (lose_effect (ring_of_four true) [] stored_and_hinted (the 1)) ≡ record { storers = []; keepers = 3 ∷ []; generations = 0 ∷ 1 ∷ 0 ∷ []; losses = 1 }
 unfolding guards effect log2 block_words rounds compress hash_after digest_bytes md5
 owner_loses = refl
@@ -217,12 +219,12 @@ one_of_all_loses : left [] (lose_effect (ring_of_four true) [] all_have_it (the 
 unfolding guards effect log2 block_words rounds compress hash_after digest_bytes md5
 one_of_all_loses = refl
 
--- a mirror that loses its store: one generation is of the mirror's beginning, and one of the loss
+-- a mirror that loses its data: one generation is of the mirror's beginning, and another of the loss
 mirror_loses : left moves_to_d (lose_effect (ring_of_four false) moves_to_d (world_after (ring_of_four false) moves_to_d (opening_world (ring_of_four false)) (Do 0 ∷ Do 1 ∷ [])) (the 3)) ≡ record { storers = []; keepers = []; generations = 0 ∷ 2 ∷ 0 ∷ []; losses = 1 }
 unfolding guards effect
 mirror_loses = refl
 
--- a node that is no member loses nothing
+-- a node that is not a member loses nothing
 outsider_loses_nothing : replies (ring_of_four false) [] (opening_world (ring_of_four false)) (Lose (the 3) ∷ []) ≡ Err (NotMember 3) ∷ []
 unfolding guards effect
 outsider_loses_nothing = refl

@@ -33,7 +33,7 @@ do_is plan w n = by (step_at plan n)
     by (Some (Join x)) = refl
     by o = refl
 
--- where there is that step, this is all that is done
+-- if there is that step, this is all that is done
 pub done_is : (ring : RingValue) (plan : List Planned) (w : World) (n : ℕ) (s : Step) → step_at plan n ≡ Some s → effect ring plan w (Do n) ≡ step_effect (record w { done = with_number w.done n }) s
 unfolding effect
 done_is ring plan w n s at = ap (λ (o : Option Step). elim o as (λ _. World) [ Some t ↦ step_effect (record w { done = with_number w.done n }) t | None ↦ w ]) at

@@ -25,7 +25,7 @@ module _ (w : World) (key : List ℕ) (list : List Cause) (are : AreCausesOf w (
   rise : (i j : ℕ) → i < j → j < length ns → at i < at j
   rise i j l m = ascends-below ns (passing_ascend 0 (length w.puts) (is_of_key w key)) i j l m
 
-  -- a place among the puts of the key is that of a put of the key
+  -- a place among the key's puts has a put of the key
   of_key : (k : ℕ) → k < length ns → (at k < length w.puts) × (is_of_key w key (at k) ≡ true)
   of_key k l = below_is (length w.puts) (is_of_key w key) (at k) (at_place ns k l)
 

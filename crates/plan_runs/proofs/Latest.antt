@@ -51,7 +51,7 @@ is_latest_of w all (x ∷ vs) v h n = by (some_succeeds w x all) refl (or_cases 
     by false e (inl f) later = or_left (v == x) (has v (latest_of w all vs)) f
     by false e (inr f) later = or_right (v == x) (has v (latest_of w all vs)) (later f)
 
--- a put is one of the latest where it is one of the puts and no other of them succeeds it
+-- a put is among the latest if the puts have it and no other of them succeeds it
 pub latest_is : (w : World) (vs : List ℕ) (v : ℕ) → has v (latest w vs) ≡ true → (has v vs ≡ true) × ((u : ℕ) → has u vs ≡ true → (u == v) ≡ false → Succeeds w u v → ⊥)
 latest_is w vs v h =
     let r = latest_of_is w vs vs v h in

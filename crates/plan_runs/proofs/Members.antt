@@ -20,7 +20,7 @@ read_within [] x e = absurd cc
 read_within (y ∷ ys) zero e = omega arith
 read_within (y ∷ ys) (suc x) e = (let l = read_within ys x e in omega arith)
 
--- so has whoever is a member now, of a plan that suits the ring
+-- so has every node that is a member now, of a plan that suits the ring
 pub member_within : (ring : RingValue) (plan : List Planned) (w : World) (x : ℕ) → Suits ring plan → is_member_now ring plan w x ≡ true
     → x < length ring.nodes
 member_within ring plan w x suits h =

@@ -49,7 +49,7 @@ passing k (suc n) test m l r t = elim (eqb_tells m k) [
     by false h = h
     by true h = or_right (m == k) (has m (passing_from (k + 1) n test)) h
 
--- a number is among those below n that pass where it is below n and passes
+-- a number is among those below n that pass if it is below n and passes
 pub below_is : (n : ℕ) (test : ℕ → Bool) (m : ℕ) → has m (passing_below n test) ≡ true → (m < n) × (test m ≡ true)
 below_is n test m h = (let r = passes 0 n test m h in let l = r.1 in (omega arith, r.2))
 

@@ -1,4 +1,4 @@
--- The place of a key is a partition of the ring, and one of its 16 chunks.
+-- A key lies in one of the ring's partitions, and in one chunk of 16.
 use Rattle.std.proofs.Common.{◌≡◌, ℕ, zero, suc, ◌+◌, ◌-◌, ◌^◌, ◌<◌, true, List, [], ◌∷◌, ◌++◌, get_or, sym, subst, arith}
 use Rattle.std.specs.Prelude.{◌%◌}
 use Rattle.std.specs.Int.{w32, w128, to_le_bytes, from_be_bytes}

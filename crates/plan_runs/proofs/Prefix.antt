@@ -42,7 +42,7 @@ rising ss r i (suc j) l m = elim (cases_lt i j) [
   | inr h ↦ (let e : i ≡ j = omega arith in rw e (r j m))
 ]
 
--- where one passes, the one before it does
+-- if a number passes, the number before it passes
 abbrev pub Down : (ℕ → Bool) → List ℕ → Type 0
 Down D ss = (k : ℕ) → suc k < length ss → D (get_or ss (suc k) 0) ≡ true → D (get_or ss k 0) ≡ true
 
@@ -99,7 +99,7 @@ count_in D E (s ∷ ss) h = by (D s) (E s) (h s (rw (eq-eqb s s refl) refl)) (co
     by true false f l = absurd (let g = f refl in cc)
     by true true f l = omega arith
 
--- and more do where one passes the other alone
+-- and more do if one passes only the other
 pub count_less : (D E : ℕ → Bool) (n : ℕ) (ss : List ℕ) → ((m : ℕ) → has m ss ≡ true → D m ≡ true → E m ≡ true) → has n ss ≡ true → D n ≡ false → E n ≡ true
     → count D ss < count E ss
 count_less D E n [] h i off on = absurd cc

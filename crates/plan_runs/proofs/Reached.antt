@@ -181,7 +181,7 @@ answers_fit ring w g v i e =
     let s = some_found ring.n (has_found w g v) b.1 in
     i.found g s.0 v s.2
 
--- what was found, read once more
+-- what was found, read again
 abbrev has_one : Option (List ℕ) → ℕ → Bool
 has_one o v = elim o [ Some vs ↦ has v vs | None ↦ false ]
 

@@ -22,7 +22,7 @@ ticket_exists [] v i g e = absurd cc
 ticket_exists (x ∷ ps) zero i g e = omega arith
 ticket_exists (x ∷ ps) (suc v) i g e = (let l = ticket_exists ps v i g e in omega arith)
 
--- a ticket passes as current where it is of that generation
+-- a ticket passes as current if it is of that generation
 of_generation : (o : Option ℕ) (n : ℕ) → (elim o [ Some g ↦ g == n | None ↦ false ]) ≡ true → o ≡ Some n
 of_generation None n e = absurd cc
 of_generation (Some g) n e = (let s : g ≡ n = eqb-true g n e in ap (λ (m : ℕ). Some m) s)

@@ -143,7 +143,7 @@ ack_effect w v = record w { puts = changed w.puts v (λ x. record x { acked = tr
 abbrev pub start_get_effect : World → List ℕ → World
 start_get_effect w key = record w { gets = w.gets ++ record { key = key; found = λ i. None; reply = None } ∷ [] }
 
--- the puts that a read of the slot finds for the get: the latest of those of its key that the slot has
+-- the puts that a read of the slot finds for the get: the latest that the slot has of its key
 abbrev pub finds : RingValue → List Planned → World → ℕ → ℕ → List ℕ
 finds ring plan w g i =
     latest w (passing_below (length w.puts) (λ v. is_of_key w (key_of_get w g) v && slot_has ring plan w (get_slot ring w g i) v))

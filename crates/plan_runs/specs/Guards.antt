@@ -60,7 +60,8 @@ has_other plan n = elim (step_at plan n) [ Some s ↦ not (is_some (copy_of s)) 
 abbrev pub is_ready : List Planned → World → ℕ → Bool
 is_ready plan w n = elim (slice_get plan n) [ Some x ↦ list_all w.done x.after | None ↦ false ]
 
--- a node that is mirrored is up and keeps no hint for another slot of the partition; a node that drops is up; one that retires keeps none
+-- a node that is mirrored is up and keeps no hint for another slot of the partition. A node that drops is up,
+-- and a node that retires keeps no hint
 abbrev pub step_guards : RingValue → World → Step → List Guard
 step_guards ring w (step.Join x) = []
 step_guards ring w (step.Mirror s x) = up_guard w.up x ∷ (not (keeps_other ring w x.0 s), HintsLeft) ∷ []
@@ -69,7 +70,7 @@ step_guards ring w (step.Switch s) = []
 step_guards ring w (step.Drop s x) = up_guard w.up x ∷ []
 step_guards ring w (step.Retire x) = (not (keeps_any ring w x.0), HintsLeft) ∷ []
 
--- a step that is no copy, new and ready, and what it needs by its kind
+-- a step that is not a copy, new and ready, and what it needs by its kind
 abbrev pub do_guards : RingValue → List Planned → World → ℕ → List Guard
 do_guards ring plan w n = (has_other plan n, UnknownNumber) ∷ (not (w.done n), AlreadyDone) ∷ (is_ready plan w n, NotReady)
     ∷ elim (step_at plan n) [ Some s ↦ step_guards ring w s | None ↦ [] ]
@@ -167,7 +168,8 @@ slots_read ring w g = length (passing_below ring.n (λ i. is_some (found_at w g 
 abbrev pub keeps_of_key : World → List ℕ → Slot → ℕ → Bool
 keeps_of_key w key slot x = some_below (length w.puts) (λ v. is_of_key w key v && w.hinted x slot v)
 
--- the get has not ended and not read the slot; the slot's owner and the keepers of hints of the key for it are up
+-- the get has not ended and not read the slot. The slot's owner and the keepers of the key's hints for the slot
+-- are up
 abbrev pub read_guards : RingValue → List Planned → World → ℕ → ℕ → List Guard
 read_guards ring plan w g i = (get_exists ring w g i, UnknownNumber) ∷ (not (has_ended w g), AlreadyDone) ∷ (not (is_some (found_at w g i)), AlreadyDone)
     ∷ up_guard w.up (stage_now ring plan w (get_slot ring w g i)).owner

@@ -17,7 +17,7 @@ abbrev pub starts_put : Event → Bool
 starts_put (StartPut writer key value seen) = true
 starts_put e = false
 
--- whether it starts a put, gives one a ticket or acknowledges one
+-- whether the event starts a put, gives a put a ticket or acknowledges a put
 abbrev pub changes_puts : Event → Bool
 changes_puts (StartPut writer key value seen) = true
 changes_puts (Write v i) = true
@@ -30,7 +30,7 @@ abbrev pub starts_get : Event → Bool
 starts_get (StartGet key) = true
 starts_get e = false
 
--- whether it starts a get, reads for one or ends one
+-- whether the event starts a get, reads for a get or ends a get
 abbrev pub changes_gets : Event → Bool
 changes_gets (StartGet key) = true
 changes_gets (Read g i) = true

@@ -15,11 +15,12 @@ Leads ring plan w (x ∷ xs) v = (u : World) × (answer ring plan w x.event ≡ 
 abbrev pub IsRun : RingValue → List Planned → List Entry → World → Type 0
 IsRun ring plan run w = Leads ring plan (opening_world ring) run w
 
--- at every moment of every run the store is so; a moment is what some first events of a run lead to, so the end of a run too
+-- at every moment of every run the store is so. A moment is what some first events of a run lead to, so the end
+-- of a run too
 abbrev pub Always : RingValue → List Planned → (World → Type 0) → Type 0
 Always ring plan Holds = (run : List Entry) (w : World) → IsRun ring plan run w → Holds w
 
--- two parts lead somewhere exactly where the first leads to a world from which the second leads there
+-- two parts lead to a world exactly if the first leads to one from which the second leads there
 abbrev pub SplitAnywhere : RingValue → List Planned → Type 0
 SplitAnywhere ring plan = (w v : World) (first second : List Entry)
     → Leads ring plan w (first ++ second) v ↔ ((u : World) × Leads ring plan w first u × Leads ring plan u second v)

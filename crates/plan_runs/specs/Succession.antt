@@ -13,11 +13,11 @@ replied gets g v = elim (slice_get gets g) [
   | None ↦ false
 ]
 
--- whether the reply of one of the gets of these numbers has it
+-- whether the reply of a get with one of these numbers has it
 abbrev pub some_replied : List GetRecord → List ℕ → ℕ → Bool
 some_replied gets gs v = list_any (λ g. replied gets g v) gs
 
--- put v is an earlier one of u's key, and it is of u's writer, or the reply of a get that u names had it
+-- put v is an earlier put of u's key. Its writer is u's, or the reply of a get that u names had it
 abbrev pub is_direct : World → ℕ → ℕ → Bool
 is_direct w u v = nat_lt v u && nat_lt u (length w.puts) && bytes_eq (key_of_put w u) (key_of_put w v)
     && ((writer_of w u == writer_of w v) || some_replied w.gets (seen_of w u) v)

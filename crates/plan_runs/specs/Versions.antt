@@ -1,4 +1,4 @@
--- Where puts are.
+-- The places of puts.
 use Rattle.std.specs.Prelude.{◌≡◌, ℕ, Bool, true, ◌&&◌, ◌||◌, ◌==◌, List, length}
 use Rattle.std.specs.Bool.{Decides}
 use Rattle.ring_names.specs.declared.ids.Slot.{Slot}

@@ -13,7 +13,7 @@ use Rattle.plan_stage.specs.declared.stage.Stage.{Stage}
 use Rattle.plan_stage.specs.Stage.{stage}
 use Rattle.plan_stage.specs.Each.{some_step, step_at, sibling}
 
--- a put: of each slot of its key's partition the generation at which it was last written or hinted there, if it was
+-- a put. A slot's ticket is the generation at which the put was last written or hinted there, if it was
 pub record PutRecord : Type 0 where
   pub writer : ℕ
   pub key : List ℕ
@@ -22,15 +22,16 @@ pub record PutRecord : Type 0 where
   pub ticket : ℕ → Option ℕ
   pub acked : Bool
 
--- a get: what it found at each slot that it read, and its reply once it has ended
+-- a get: what it found at each slot read, and the reply once it has ended
 pub record GetRecord : Type 0 where
   pub key : List ℕ
   pub found : ℕ → Option (List ℕ)
   pub reply : Option (List ℕ)
 
--- which steps are finished, which copies are open and which of their chunks are marked, which nodes are up, the puts and gets in
--- order of their start, the puts that nodes store for slots, and those that they keep as hints for slots; how many stores were lost,
--- and for each slot of how many of these losses the node was in its group; nothing else is kept
+-- which steps are finished, which copies are open, which of their chunks are marked, and which nodes are up.
+-- The puts and gets in order of their start, the puts that nodes store for slots, and those that they keep as
+-- hints. How often nodes lost their data, and for each slot how often the node was in its group. Nothing more
+-- is kept
 pub record World : Type 0 where
   pub done : ℕ → Bool
   pub is_open : ℕ → Bool
@@ -178,6 +179,6 @@ mirrors a x = elim a.mirror [ Some y ↦ x == y.0 | None ↦ false ]
 abbrev pub is_served : Stage → ℕ → Bool
 is_served a x = (x == a.owner.0) || mirrors a x
 
--- the slot's group: its owner, its mirror, and the keepers of hints for it
+-- the slot's group: the owner, the mirror, and the keepers of hints for the slot
 abbrev pub is_in_group : RingValue → List Planned → World → Slot → ℕ → Bool
 is_in_group ring plan w slot x = is_served (stage_now ring plan w slot) x || keeps w x slot

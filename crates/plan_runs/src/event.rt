@@ -1,4 +1,4 @@
-//! What can happen to a store, and what it answers.
+//! Events of a store, and their replies.
 
 ghost use Rattle.std.specs.Prelude.{◌≡◌, ◌++◌, IfOk, OnOk, map};
 ghost use Rattle.std.specs.Fmt.{decimal};
@@ -11,44 +11,44 @@ use ring_names::{Listed, NodeId, Slot, Value, WriterId};
 use std::alloc::AllocError;
 use texts::push_numbers;
 
-/// One event. Steps, puts and gets are named by their numbers, puts and gets in order of their start.
+/// One event. Steps, puts and gets are named by number, puts and gets in order of their start.
 #[derive(Debug)]
 pub enum Event {
-    /// A step that is no copy is done.
+    /// A step that is not a copy is done.
     Do(u32),
-    /// A copy begins, or goes on after it was broken off.
+    /// A copy begins, or continues after an abort.
     OpenCopy(u32),
-    /// One chunk of an open copy is given to the mirror.
+    /// The mirror gets one chunk of an open copy.
     ChunkCopy(u32, u32),
     /// An open copy ends, with all its chunks marked.
     CloseCopy(u32),
-    /// An open copy is broken off; the marks of its chunks stay.
+    /// An open copy is aborted; its chunks stay marked.
     AbortCopy(u32),
     /// A writer starts a put, knowing the replies of these gets.
     StartPut(WriterId, Key, Value, Seen),
-    /// A put is written to the slot of that index.
+    /// A put is written to the slot of the index.
     Write(u32, u32),
-    /// A put is left with a stand-in, as a hint for the slot of that index.
+    /// A stand-in keeps a put as a hint for the slot of the index.
     Hint(u32, u32, NodeId),
     /// A put is acknowledged.
     Ack(u32),
     /// A get starts.
     StartGet(Key),
-    /// A get reads the slot of that index.
+    /// A get reads the slot of the index.
     Read(u32, u32),
     /// A get ends with its reply.
     EndGet(u32),
-    /// A node goes down; what it holds stays.
+    /// A node goes down, and keeps its data.
     Down(NodeId),
     /// A node is up again.
     Up(NodeId),
-    /// A stand-in hands the hints that it keeps for a slot to the slot's owner and mirror.
+    /// A stand-in hands its hints for a slot to the slot's owner and mirror.
     Handoff(NodeId, Slot),
-    /// A node loses all that it stores and keeps; it stays up or down.
+    /// A node loses its data and hints, and stays up or down.
     Lose(NodeId),
 }
 
-// Dropped by a call, so that no crate above goes through the sixteen kinds wherever an event ends.
+// Dropping is a call, so crates above need not check all sixteen kinds.
 impl Drop for Event {
     fn drop(self) {
         match self {
@@ -76,7 +76,7 @@ impl Drop for Event {
     }
 }
 
-/// What an event is answered.
+/// The reply to an event.
 #[derive(Debug)]
 pub enum Reply {
     /// It is done.
@@ -89,11 +89,11 @@ pub enum Reply {
     Get(u32),
     /// The puts that a read found, ascending.
     Found(Listed<u32>),
-    /// The puts that a get answers, ascending.
+    /// The puts that a get returns, ascending.
     Answer(Listed<u32>),
 }
 
-// By a call, as an event.
+// As for events.
 impl Drop for Reply {
     fn drop(self) {
         match self {
@@ -103,7 +103,7 @@ impl Drop for Reply {
     }
 }
 
-/// An event with the reply that it got.
+/// An event with its reply.
 #[derive(Debug, Drop)]
 pub struct Entry {
     pub event: Event,
@@ -111,7 +111,7 @@ pub struct Entry {
 }
 
 impl Event {
-    /// A copy of the event, which shares key, value and gets. Takes no memory. Refused only where 2^64 events would share them.
+    /// Copies the event, which shares key, value and gets. Takes no memory. Fails only if 2^64 events would share them.
     pub fn try_copy(&self) -> Result<Event, AllocError>
         ensures { IfOk result (λ event. event ≡ self.now) }
     {
@@ -138,7 +138,6 @@ impl Event {
     }
 }
 
-// The start of a put, of the same words.
 fn copied_put(writer: WriterId, key: &Key, value: &Value, seen: &Seen) -> Result<Event, AllocError>
     ensures { IfOk result (λ event. event ≡ StartPut writer key.now value.now seen.now) }
 {
@@ -149,7 +148,7 @@ fn copied_put(writer: WriterId, key: &Key, value: &Value, seen: &Seen) -> Result
 }
 
 impl Reply {
-    /// Adds the reply's text, as `ticket 0 1 2`; a list of puts without any is its word alone.
+    /// Adds the reply's text, such as `ticket 0 1 2`; an empty list is only its word.
     pub fn write_text(&self, out: &mut Vec<u8>) -> Result<(), AllocError>
         ensures { OnOk result (out.new.items ≡ out.old.items ++ reply_text self.now) }
     {

@@ -1,4 +1,4 @@
-//! What can happen in a run of a plan: events and replies, the world that they change, and what holds of each run, be the plan sound or not.
+//! Events and replies of a run, the world that they change, and what holds of each run, whether or not its plan is sound.
 #![tactic(auto)]
 
 mod back;

@@ -1,4 +1,4 @@
-//! Whether two events or replies are the same.
+//! Compares events and replies.
 
 ghost use Rattle.std.specs.Prelude.{◌≡◌, ◌↔◌, IsTrue};
 
@@ -11,7 +11,7 @@ fn is_same_slot(a: Slot, b: Slot) -> bool
     a.partition == b.partition && a.index == b.index
 }
 
-/// Whether the two are the same event. Takes no memory.
+/// Whether the two events are equal. Takes no memory.
 pub fn is_same_event(a: &Event, b: &Event) -> bool
     ensures { IsTrue result ↔ (a.now ≡ b.now) }
 {
@@ -41,7 +41,7 @@ pub fn is_same_event(a: &Event, b: &Event) -> bool
     }
 }
 
-/// Whether two replies are the same: of one kind, with equal numbers, slots and puts. Takes no memory.
+/// Whether the two replies are equal. Takes no memory.
 pub fn is_same_reply(a: &Reply, b: &Reply) -> bool
     ensures { IsTrue result ↔ (a.now ≡ b.now) }
 {

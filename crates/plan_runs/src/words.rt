@@ -1,4 +1,4 @@
-//! The words of an event, which keep their limits by their types.
+//! The words of an event. Their types keep the limits.
 
 ghost use Rattle.std.specs.Prelude.{◌≡◌, IfOk, IfSome, is_some, true};
 ghost use Rattle.std.specs.List.{list_all};
@@ -10,7 +10,7 @@ use std::marker::Model;
 use std::sync::Arc;
 use texts::are_name_bytes;
 
-/// A key: 1 to 64 bytes of `a-z0-9_.:-`. Copies share the bytes.
+/// A key: 1 to 64 bytes of `a-z0-9_.:-`, shared by copies.
 #[derive(Debug, Drop)]
 pub struct Key {
     bytes: Arc<Vec<u8>>,
@@ -29,7 +29,7 @@ impl Model for Key {
 }
 
 impl Key {
-    /// The key of these bytes, where they are one. Takes memory for the block that counts who shares them.
+    /// Makes a key of the bytes, if valid. Takes memory for one reference count.
     pub fn of(alloc: Global, bytes: Vec<u8>) -> Result<Option<Key>, AllocError>
         ensures some { IfOk result (λ key. is_some key ≡ is_key bytes.items) }
         ensures same { IfOk result (λ key. IfSome key (λ k. k ≡ bytes.items)) }
@@ -48,7 +48,7 @@ impl Key {
         self.bytes.as_slice()
     }
 
-    /// A copy of the key, which shares the bytes. Takes no memory. Refused only where 2^64 keys would share them.
+    /// Copies the key, which shares the bytes. Takes no memory. Fails only if 2^64 keys would share them.
     pub fn try_copy(&self) -> Result<Key, AllocError>
         ensures { IfOk result (λ key. key ≡ self.now) }
     {
@@ -57,10 +57,10 @@ impl Key {
     }
 }
 
-/// The gets whose replies a put knows: at most 16 numbers, strictly ascending. Copies share the numbers.
+/// The gets whose replies a put knows: at most 16 numbers, strictly ascending, shared by copies.
 #[derive(Debug, Drop)]
 pub struct Seen {
-    // None where there are none.
+    // None if empty.
     gets: Option<Arc<Vec<u32>>>,
 }
 
@@ -76,7 +76,6 @@ impl Model for Seen {
     ghost invariant = { λ a. is_seen (shared_items a.gets) ≡ true };
 }
 
-// Whether each is less than the next.
 fn are_ascending(numbers: &[u32]) -> bool
     ensures { result ≡ ascending numbers.now }
 {
@@ -95,7 +94,7 @@ fn are_ascending(numbers: &[u32]) -> bool
 }
 
 impl Seen {
-    /// The gets of these numbers, where a put may name them. Takes memory for the block that counts who shares them, if there are any.
+    /// Makes a list of gets, if valid. Takes memory for one reference count, unless empty.
     pub fn of(alloc: Global, gets: Vec<u32>) -> Result<Option<Seen>, AllocError>
         ensures some { IfOk result (λ seen. is_some seen ≡ is_seen gets.items) }
         ensures same { IfOk result (λ seen. IfSome seen (λ s. s ≡ gets.items)) }
@@ -111,7 +110,7 @@ impl Seen {
         Ok(None)
     }
 
-    /// The numbers of the gets, ascending, at most 16.
+    /// Returns the numbers of the gets, ascending, at most 16.
     pub fn as_slice(&self) -> &[u32]
         ensures value { result.now ≡ self.now }
         ensures valid { is_seen result.now ≡ true }
@@ -122,7 +121,7 @@ impl Seen {
         }
     }
 
-    /// A copy, which shares the numbers. Takes no memory. Refused only where 2^64 copies would share them.
+    /// Copies the list, which shares the numbers. Takes no memory. Fails only if 2^64 copies would share them.
     pub fn try_copy(&self) -> Result<Seen, AllocError>
         ensures { IfOk result (λ seen. seen ≡ self.now) }
     {

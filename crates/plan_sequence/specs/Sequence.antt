@@ -18,8 +18,9 @@ use Rattle.plan_check.specs.Sound.{Sound}
 abbrev pub without_tickets : PutRecord → PutRecord
 without_tickets x = record x { ticket = λ i. None }
 
--- what a plan hands on where another one takes its place: puts and gets, what nodes store and keep as hints, who is up, and how many stores were lost. No step of the
--- other one is done, no copy is open, a mirror is one no longer, and no ticket that was given counts any more
+-- what a plan hands on if another takes its place: puts, gets, what nodes store and keep as hints, who is up,
+-- and losses. No step of the other one is done, and no copy is open. A mirror is one no longer, and no ticket
+-- that was given counts any more
 abbrev pub handed_on : World → World
 handed_on w = record w {
   done = λ n. false;
@@ -52,8 +53,8 @@ pub record IsSoundPlan (ring : RingValue) (plan : List Planned) : Type 0 where
   pub is_plan : IsPlan plan
   pub sound : Sound ring plan
 
--- a store goes on from a world: a run of the plan that is under way leads to another world; or, sound plans later, a run of the last of them, which began with what
--- the one before handed on
+-- a store goes on from a world: a run of the plan that is under way leads to another world. Or, sound plans
+-- later, a run of the last of them leads there, which began with what the plan before handed on
 pub data GoesOn (ring : RingValue) (plan : List Planned) (w : World) : RingValue → List Planned → World → Type 0 where
   within : (run : List Entry) (u : World) → Leads ring plan w run u → GoesOn ring plan w ring plan u
   later : (last next : RingValue) (its more : List Planned) (run : List Entry) (v u : World) → GoesOn ring plan w last its v → IsSoundPlan next more → HasNumbers last next
@@ -66,7 +67,8 @@ pub record InTurn (ring : RingValue) (plan : List Planned) (w : World) : Type 0 
   pub sound : IsSoundPlan first its
   pub goes_on : GoesOn first its (opening_world first) ring plan w
 
--- a get sees each put of its key that was acknowledged before it started, also where plans took turns while it was under way
+-- a get sees each put of its key that was acknowledged before the get started, also if plans took turns
+-- meanwhile
 abbrev pub GetsSeePuts : RingValue → List Planned → World → Type 0
 GetsSeePuts ring plan start = (key : Key) (g : ℕ) (begun : World) → answer ring plan start (StartGet key) ≡ Ok (begun, reply.Get g)
     → (last : RingValue) (its : List Planned) (mid w : World) (found : List ℕ) → GoesOn ring plan begun last its mid → answer last its mid (EndGet g) ≡ Ok (w, reply.Answer found)

@@ -10,10 +10,20 @@ ghost use Rattle.plan_check.specs.Safe.{Safe};
 ghost use Rattle.plan_sequence.specs.Sequence.{GetsSeePuts, HasOwners, InTurn, IsDone, handed_on};
 ghost use Rattle.plan_moves.specs.Owners.{last_owners};
 
-/// A store that goes through sound plans one after the other keeps the promises of one plan, whichever of the plans was under way when a put was acknowledged.
-/// At every moment, for each acknowledged put, any R slots of its partition include one whose owner or hint keeper holds it or a causal successor, no two
-/// slots of a partition share a node, and no node has more transfers open than its allowance. The reply of each get has, for each put of its key that was acknowledged
-/// before the get started, that put or a causal successor, also if the get started under an earlier plan. What was acknowledged stays so.
+/// A store that goes through sound plans one after the other keeps the promises of one plan.
+///
+/// It does not matter which plan was under way when a put was acknowledged.
+///
+/// For each acknowledged put, any R slots of its partition include one whose owner or hint keeper holds the put
+/// or a causal successor.
+///
+/// No two slots of a partition share a node. No node has more transfers open than its allowance. What was
+/// acknowledged stays so.
+///
+/// For each put of the key that was acknowledged before a get started, the get's reply has that put or a causal
+/// successor.
+///
+/// A get may have started under an earlier plan.
 pub fn plans_in_turn_keep_promises()
     ensures safe { (ring : RingValue) (plan : List Planned) (w : World) → InTurn ring plan w → Safe ring plan w }
     ensures fresh { (ring : RingValue) (plan : List Planned) (start : World) → InTurn ring plan start → GetsSeePuts ring plan start }

@@ -147,7 +147,7 @@ stood size s id k v u c kept at below held finished known same =
 spelled : (P : ℕ → ℕ → Type 0) (k w : ℕ) → P k w → (i x : ℕ) → k ≡ i → w ≡ x → P i x
 spelled P k w p i x e f = subst (λ (z : ℕ × ℕ). P z.0 z.1) (λ t. (e t, f t)) p
 
--- the step k is worker w's now, and was nobody's
+-- the step k is worker w's now, and no worker had it before
 won : (size : Size) (s : Board) (id k w : ℕ) (v : View) (c : Taken) → Kept size s → get_elem? s.views id ≡ some v → k < size.steps → w < size.workers → w < 65
     → v.parts ≢ [] → word_of s.words k ≡ 0 → Kept size (stepped s (k + 1) (w + 1) id c (with_held k w v) keeps)
 won size s id k w v c kept at below own small some_part free =
@@ -228,7 +228,7 @@ module _ (size : Size) (s : Board) (id k w : ℕ) (v : View) (c : Taken) (ks : L
   was : word_of s.words k ≡ w + 1
   was = had-word claimed v.held k w (word_of s.words k) ks ((sees size s id v k kept at).held w small) own here
 
-  -- the word becomes one that is nobody's claim, and the step is held no more
+  -- the word becomes one that no worker claims, and the step is held no more
   unheld : (n : ℕ) (f : List Mark) → ((x : ℕ) → x < 65 → once n (x + 1) ≡ 0) → k + 1 < length s.words
       → Turns (λ (x : View). x.held) claimed s.words (set s.words (k + 1) n) v (record v { held = unmarked k v.held; finished = f })
   unheld n f nobody's long =
@@ -296,7 +296,7 @@ module _ (size : Size) (slots id k w : ℕ) (below : k < size.steps) (small : w 
     λ i x e f. (let k_is : k ≡ i = omega arith in let w_is : w ≡ x = omega arith in λ t. (with_finished (k_is t) (w_is t) v, c)),
   )
 
--- the sum where a view gives a part to a new one
+-- the sum after a view gives a part to a new one
 sum-split : (f : View → ℕ) (views : List View) (id : ℕ) (v left right : View) → get_elem? views id ≡ some v → sum_by f (set views id left ++ right ∷ []) + f v ≡ sum_by f views + f left + f right
 sum-split f views id v left right at =
     let first = sum-set f views id v left at in
@@ -331,7 +331,7 @@ seating size id v s kept at =
           (at_snoc (set s.views id left) right x i there);
     }
 
--- the sum where one view takes in another
+-- the sum after one view takes in another
 sum-joined : (f : View → ℕ) (views : List View) (id other : ℕ) (v u b n : View) → get_elem? views id ≡ some v → get_elem? (set views id b) other ≡ some u → f b ≡ f v + f u → f n ≡ 0
     → sum_by f (set (set views id b) other n) ≡ sum_by f views
 sum-joined f views id other v u b n at there both empty =

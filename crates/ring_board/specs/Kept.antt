@@ -11,7 +11,7 @@ use Rattle.ring_board.specs.Seats.{parts}
 use Rattle.ring_board.specs.Words.{claimed, finished_word, IsWord}
 use Rattle.ring_board.specs.Views.{marked, with_held, without_held, with_finished, with_known, with_seen}
 
--- once where the numbers are the same, and else never
+-- once if the numbers are the same, and otherwise never
 abbrev pub once : ℕ → ℕ → ℕ
 once m n = if m == n then 1 else 0
 
@@ -19,7 +19,7 @@ once m n = if m == n then 1 else 0
 abbrev pub word_of : List ℕ → ℕ → ℕ
 word_of words k = slice_index words (k + 1)
 
--- over these lists of all views, each step stands as a worker's once where its word says so, and else never
+-- over these lists of all views, each step stands as a worker's once if its word says so, and otherwise never
 abbrev pub Matches : (View → List Mark) → (ℕ → ℕ) → List ℕ → List View → Type 0
 Matches list says words views = (k w : ℕ) → w < 65 → sum_by (λ v. marked k w (list v)) views ≡ once (word_of words k) (says w)
 
@@ -53,7 +53,8 @@ Knower = Me (Option (Unit {0})) View
 abbrev pub Turn : Type 0
 Turn = Step (Option (Unit {0}))
 
--- what a claim of step k by worker w finds: it wins where the step is free, and else it changes nothing but that the word was seen
+-- what a claim of step k by worker w finds: it wins if the step is free, and otherwise it changes nothing but
+-- that the word was seen
 pub record Claims (slots : ℕ) (m : Knower) (k w word : ℕ) (after : Knower) : Type 0 where
   pub proper : IsWord slots word
   pub sees : Sees m.0 k word

@@ -1,7 +1,7 @@
 -- The words of a board: what each says of its step.
 use Rattle.std.specs.Prelude.{◌≡◌, ◌⊎◌, ℕ, ◌+◌, ◌<◌}
 
--- the word of a step that nobody has
+-- the word of a step that no worker has
 abbrev pub free : ℕ
 free = 0
 

@@ -15,13 +15,13 @@ use ring_names::Refusal;
 use std::alloc::Global;
 use std::marker::Model;
 
-/// The most workers that a board may have.
+/// The most workers of a board.
 pub const MAX_WORKERS: u32 = 65;
 
-// The word of a step that worker w finished is this and w.
+// The word of a step finished by worker w is this plus w.
 const FINISHED: u64 = 128;
 
-/// The steps of a plan, each free, claimed by a worker or finished by one. It takes 8 bytes a step. Threads share it by `&`.
+/// The steps of a plan, each free, claimed or finished. Takes 8 bytes a step. Threads share it by `&`.
 #[derive(Drop)]
 pub struct Board {
     pub(crate) alloc: Global,
@@ -42,7 +42,7 @@ impl Model for Board {
 }
 
 impl Board {
-    /// A board on which all steps are free, and its first seat, which is no worker's: it makes the seats of workers.
+    /// A board of free steps, and its first seat, which belongs to no worker and makes the workers' seats.
     pub fn new(alloc: Global, steps: u32, workers: u32) -> Result<(Board, Seat), Refusal>
         requires { workers ≤ 65 }
         ensures board { IfOk result (λ r. (r.0.steps ≡ steps) × (r.0.workers ≡ workers)) }
@@ -51,27 +51,27 @@ impl Board {
     {
         let size = Size { steps, workers };
         let words = vec![in alloc; 0u64; steps as usize + 1]?;
-        // A slot for each worker, which nothing is put into: by their number a seat knows that its worker is one of this board's.
+        // One empty slot for each worker: by their number, a seat proves that its worker is the board's.
         let (table, seat) = Table::vacant(alloc, words.as_slice(), workers as usize, &size)?;
         let seat = Seat { seat, worker: None };
         Ok((Board { alloc, table, size }, seat))
     }
 
-    /// How many steps the board has.
+    /// Returns the number of steps.
     pub fn steps(&self) -> u32
         ensures { result ≡ self.now.steps }
     {
         self.size.steps
     }
 
-    /// How many workers the board has.
+    /// Returns the number of workers.
     pub fn workers(&self) -> u32
         ensures { result ≡ self.now.workers }
     {
         self.size.workers
     }
 
-    /// A seat more, of that worker, with half of what the other seat has of the board. It takes no memory, and is never refused.
+    /// Makes a seat for the worker, with half of the other seat's share of the board. Takes no memory, and never fails.
     pub fn seat(&self, seat: &mut Seat, worker: u32) -> Result<Seat, Refusal>
         requires board { seat.old.board ≡ self.now.id }
         requires worker { worker < self.now.workers }
@@ -142,7 +142,7 @@ impl Board {
             .store::<Finishing>(&mut seat.seat, place, word);
     }
 
-    /// Whether the step is finished. One that is finished stays so.
+    /// Whether the step is finished. A finished step stays so.
     pub fn is_done(&self, seat: &mut Seat, step: u32) -> bool
         requires board { seat.old.board ≡ self.now.id }
         requires step { step < self.now.steps }

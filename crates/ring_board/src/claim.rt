@@ -1,11 +1,10 @@
-//! The answer to a claim.
+//! The result of a claim.
 
-/// What a claim of a step found.
+/// The result of a claim.
 #[derive(Clone, Copy, Debug, PartialEq, Eq)]
 pub enum Claim {
-    /// The step was free, and is the seat's now.
+    /// The step was free, and is now the seat's.
     Won,
-    /// The step is another's, or it was the seat's before: the word of the step, which is `w + 1` where worker `w` has claimed it,
-    /// and `128 + w` where worker `w` has finished it.
+    /// The step was claimed or finished before. The value is its word.
     Taken(u64),
 }

@@ -1,4 +1,4 @@
-//! The end of a board.
+//! Closes a board.
 
 ghost use Rattle.std.specs.Prelude.{◌≡◌, ◌+◌, ◌<◌, ◌≤◌, ℕ, All, [], length, slice_index, vec_len, IfOk, IfErr};
 ghost use Rattle.std.specs.List.{AllByRecursion};
@@ -16,7 +16,7 @@ use atomic_table::{Closed, Seat as TableSeat, Shared};
 use ring_names::Refusal;
 use std::alloc::Global;
 
-// One seat that knows all that the seats knew.
+// A seat that knows all that the seats knew.
 fn join(
     shared: &Shared<Option<()>, View, Size, Rule>,
     mut seats: Vec<Seat>,
@@ -44,7 +44,6 @@ fn join(
     seat
 }
 
-// The words of the steps, which are those behind the spare one.
 fn step_words(
     alloc: Global,
     closed: &Closed<Option<()>, Global>,
@@ -63,7 +62,7 @@ fn step_words(
     Ok(words)
 }
 
-// Gives the memory of the table back. Its slots hold nothing.
+// Frees the table. Its slots are empty.
 fn free(mut closed: Closed<Option<()>, Global>)
     requires { IsFull closed.slots }
 {
@@ -74,8 +73,7 @@ fn free(mut closed: Closed<Option<()>, Global>)
 }
 
 impl Board {
-    /// The words of the steps, in order: 0 where the step is free, `w + 1` where worker `w` has claimed it, and `128 + w` where worker
-    /// `w` has finished it. Refused where there is no memory for them.
+    /// Returns the words of the steps, in order. Fails if memory runs out.
     pub fn close(self, seats: Vec<Seat>) -> Result<Vec<u64>, Refusal>
         requires some { 0 < vec_len seats }
         requires boards { All (λ s. s.board ≡ self.id) seats.items }
@@ -96,7 +94,7 @@ impl Board {
         words
     }
 
-    /// The end of the board, as `close`, with its words in a value that nothing else makes. Refused where there is no memory for them.
+    /// Closes the board as `close` does, with its words in a value that nothing else makes. Fails if memory runs out.
     pub fn end(self, seats: Vec<Seat>) -> Result<ClosedBoard, Refusal>
         requires some { 0 < vec_len seats }
         requires boards { All (λ s. s.board ≡ self.id) seats.items }

@@ -1,5 +1,6 @@
-//! The board on which workers claim the steps of a plan, without a lock. A board has a word for each step, which changes in single
-//! atomic steps. A worker steps through a seat of its own, which knows what it holds, what it finished, and what it saw finished.
+//! The lock-free board on which workers claim the steps of a plan. Each step has an atomic word: 0 if free, `w + 1` if
+//! worker `w` has claimed it, `128 + w` if worker `w` has finished it. A worker uses its own seat, which knows what it
+//! holds, finished, and saw finished.
 #![tactic(auto)]
 
 mod board;

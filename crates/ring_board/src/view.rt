@@ -1,9 +1,9 @@
-//! What the seats of a board know, and the rule that ties it to the words. No value of a view is made.
+//! What seats know, for proofs only, and how it relates to the words.
 
 use atomic_table::{Join, Play, Split, TableRule};
 use std::collections::LinkedList;
 
-/// How many steps and workers a board has.
+/// The numbers of steps and workers of a board.
 #[derive(Clone, Copy)]
 pub struct Size {
     pub steps: u32,
@@ -16,14 +16,15 @@ pub struct Mark {
     pub worker: u32,
 }
 
-/// A step, and the word of it that a lost claim read.
+/// A step, and its word as read by a lost claim.
 pub struct Sight {
     pub step: u32,
     pub word: u64,
 }
 
-/// What a seat holds, what it finished, the steps that it knows done, what its lost claims read, and its parts of the board: the number e stands
-/// for one of 2 to the e equal parts. All seats together have the board once.
+/// What a seat holds, finished, knows to be done, and read by lost claims; and its parts.
+///
+/// Part e is one of 2^e equal ones. All seats together have the board once.
 pub struct View {
     pub held: LinkedList<Mark>,
     pub finished: LinkedList<Mark>,

@@ -1,4 +1,5 @@
--- Lists in order of a key, each of whose items has the counters of a class of writers: the entries of a clock, and its blocks.
+-- Lists in order of a key. Each item has the counters for a class of writers: a clock's entries, and its
+-- blocks.
 use Rattle.std.proofs.Common.{◌≡◌, ◌≢◌, ◌⊎◌, ◌∙◌, inl, inr, ℕ, zero, suc, ◌<◌, ◌≤◌, List, [], ◌∷◌, ◌++◌, ◌↔◌, length, drop, refl, sym, subst, arith}
 use Rattle.std.proofs.lemmas.Bool.{cases_lt}
 use Rattle.std.specs.Prelude.{max}
@@ -91,7 +92,7 @@ module _ {A : Type 0} {key : A → ℕ} {class : ℕ → ℕ} {one : A → ℕ �
         counters = λ w. (let at = other.counters w in omega arith);
       }
 
-  -- an item that has of each writer of its class the greater counter of two in front
+  -- an item that has, for each writer in its class, the greater counter of two in front
   pub joined_front : (x y z : A) (xs ys : List A) → key x ≡ key y → key z ≡ key x → ((w : ℕ) → one z w ≡ max (one x w) (one y w)) → Are (x ∷ xs) → Are (y ∷ ys) → Are (z ∷ xs) → Are (z ∷ ys) → Stand key Are count (x ∷ xs) (y ∷ ys) (z ∷ xs) (z ∷ ys)
   joined_front x y z xs ys same is counters a b c d = record {
     first = c;
@@ -182,7 +183,7 @@ module _ {A : Type 0} {key : A → ℕ} {class : ℕ → ℕ} {one : A → ℕ �
       let theirs = laws.here y ys w (subst Are other b) (at ∙ same) in
       omega arith
 
-  -- an item of the second list alone says nothing
+  -- an item that only the second list has says nothing
   passed : (y : A) (c ys : List A) → AllByRecursion (λ z. key y < key z) c → Are c → Are (y ∷ ys) → AtMost count c ys ↔ AtMost count c (y ∷ ys)
   passed y c ys above a b = (
     λ h w. by_equal (class w) (key y) (count c w ≤ count (y ∷ ys) w)

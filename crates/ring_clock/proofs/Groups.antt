@@ -49,7 +49,7 @@ pub some_counter : (b : List Entry) → IsBlock b → (w : ℕ) × (group w ≡ 
 some_counter [] block = absurd (omega (arith, block.1))
 some_counter (e ∷ es) block = (e.writer.0, refl, (let at = here e es e.writer.0 refl in omega (arith, block.0.0)))
 
--- each writer's greater counter of two blocks of one group is a block of it
+-- if two blocks have one group, each writer's greater counter in them is a block of the group
 pub merged_block : (a b c : List Entry) → IsBlock a → IsBlock b → group_in a ≡ group_in b → IsClock c → ((w : ℕ) → counter c w ≡ max (counter a w) (counter b w)) → IsBlock c × (group_in c ≡ group_in a)
 merged_block a b [] first second same clock counters = (let s = some_counter a first in let at = counters s.0 in absurd (omega (arith, s.2)))
 merged_block a b (e ∷ es) first second same clock counters =

@@ -30,6 +30,6 @@ pub data Succeeds (causes : List Cause) : ℕ → ℕ → Type 0 where
   itself : (k : ℕ) → Succeeds causes k k
   by : (k j v : ℕ) → IsDirect causes k j → Succeeds causes j v → Succeeds causes k v
 
--- of two puts the first one's clock is at most the second's exactly where the second succeeds the first
+-- of two puts the first one's clock is at most the second's exactly if the second succeeds the first
 abbrev pub IsSuccession : List Cause → (ℕ → List Entry) → Type 0
 IsSuccession causes clock = (v k : ℕ) → v < length causes → k < length causes → IsAtMost (clock v) (clock k) ↔ Succeeds causes k v

@@ -30,7 +30,7 @@ pub record IsBlockFor (g : ℕ) (es b : List Entry) : Type 0 where
   pub of : group_in b ≡ g
   pub counters : (w : ℕ) → group w ≡ g → counter b w ≡ counter es w
 
--- c is a block of the group of block a, with each writer's greater counter of a and b
+-- c is a block in the group of block a, with each writer's greater counter in a and b
 pub record IsRaisedBlock (a b c : List Entry) : Type 0 where
   pub block : IsBlock c
   pub group : group_in c ≡ group_in a

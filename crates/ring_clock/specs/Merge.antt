@@ -1,4 +1,4 @@
--- Two lists that are merged, of entries or of blocks of entries.
+-- Two merged lists, of entries or of blocks.
 use Rattle.std.specs.Prelude.{◌≡◌, ℕ, ◌<◌, List, max}
 use Rattle.std.specs.List.{AllByRecursion}
 use Rattle.ring_clock.specs.declared.entry.Entry.{Entry}

@@ -1,4 +1,4 @@
-//! The entries of one group of writers, which clocks share.
+//! The entries of one group of writers. Clocks share them.
 
 ghost use Rattle.std.specs.Prelude.{◌≡◌, ◌↔◌, ◌*◌, ◌<◌, ◌≤◌, ◌∷◌, ◌++◌, [], ℕ, true, false, IsTrue, IfOk, OnOk, OnErr, max};
 ghost use Rattle.ring_clock.specs.Clock.{IsClock, IsAtMost, counter};
@@ -15,17 +15,17 @@ use std::marker::Model;
 use std::slice;
 use std::sync::Arc;
 
-// From so many entries on, of 16 bytes each, the counters of the whole group, of 260 bytes, take no more memory than they.
+// From so many entries of 16 bytes on, the 260 bytes of a whole group are not more.
 const MANY: usize = 17;
 
-/// The group of a writer: sixty-four writers whose numbers follow one another, whose counters a clock keeps together.
+/// Returns the group of a writer: 64 consecutive writers, whose counters a clock keeps together.
 pub fn group_of(writer: WriterId) -> u32
     ensures { result ≡ group writer.0 }
 {
     writer.0 / GROUP
 }
 
-/// The entries of a block, where they are few, or else the counters of its whole group. One entry, as puts have of who knows no get, stands in the form.
+/// A few entries, or all counters of the group. One entry, as of a put without a get, is stored inline.
 #[derive(Drop)]
 pub enum Form {
     One(Entry),
@@ -33,7 +33,7 @@ pub enum Form {
     Full(Box<Full>),
 }
 
-// A form as it is looked at.
+// A form to read.
 #[derive(Clone, Copy)]
 pub enum Look<'a> {
     Few(&'a [Entry]),
@@ -52,8 +52,8 @@ impl Form {
         }
     }
 
-    // Raises each writer's counter to that in another form of the group where it stands, and tells whether it did: only where this one is full, and
-    // no counter of the other too great for that.
+    // Raises the counters in place, and returns true. Does nothing if not full, or if a counter of the other is too
+    // great for a full block.
     fn raise(&mut self, other: &Form) -> bool
         requires first { IsBlock (entries_in self.old) }
         requires second { IsBlock (entries_in other.now) }
@@ -73,7 +73,7 @@ impl Form {
     }
 }
 
-/// Entries of writers of one group. Copies share them.
+/// Entries of one group. Copies share them.
 #[derive(Drop)]
 pub struct Block {
     shared: Arc<Form>,
@@ -91,7 +91,7 @@ impl Model for Block {
 }
 
 impl Block {
-    /// The block of one entry.
+    /// Makes a block of one entry.
     pub fn one(alloc: Global, entry: Entry) -> Result<Block, AllocError>
         ensures { IfOk result (λ b. b ≡ entry ∷ []) }
     {
@@ -99,7 +99,6 @@ impl Block {
         Ok(Block { shared })
     }
 
-    // The block of a group's counters.
     fn full(alloc: Global, full: Full) -> Result<Block, AllocError>
         ensures { IfOk result (λ b. b ≡ full) }
     {
@@ -108,7 +107,6 @@ impl Block {
         Ok(Block { shared })
     }
 
-    // The block of these entries.
     fn of(alloc: Global, entries: Vec<Entry>) -> Result<Block, AllocError>
         requires { IsBlock entries.items }
         ensures block { IfOk result IsBlock }
@@ -125,7 +123,7 @@ impl Block {
         Block::full(alloc, Full::of(entries.as_slice()))
     }
 
-    /// A copy of the block. Takes no memory.
+    /// Copies the block. Takes no memory.
     pub fn try_copy(&self) -> Result<Block, AllocError>
         ensures { IfOk result (λ b. b ≡ self.now) }
     {
@@ -133,7 +131,7 @@ impl Block {
         Ok(Block { shared })
     }
 
-    /// The entries, to be taken one by one.
+    /// Iterates over the entries.
     pub fn part(&self) -> Part<'_>
         ensures { result ≡ self.now }
     {
@@ -143,7 +141,7 @@ impl Block {
         }
     }
 
-    /// Adds the entries to a list.
+    /// Appends the entries to a list.
     pub fn push_to(&self, out: &mut Vec<Entry>) -> Result<(), AllocError>
         ensures { OnOk result (out.new.items ≡ out.old.items ++ self.now) }
     {
@@ -153,7 +151,7 @@ impl Block {
         }
     }
 
-    /// The group of its writers.
+    /// Returns the group of its writers.
     pub fn group(&self) -> u32
         ensures { result ≡ group_in self.now }
     {
@@ -163,7 +161,7 @@ impl Block {
         }
     }
 
-    /// The counter of a writer, 0 where it has none.
+    /// Returns the counter of a writer, or 0.
     pub fn counter(&self, writer: WriterId) -> u64
         requires { IsClock self.now }
         ensures { result ≡ counter self.now writer.0 }
@@ -174,7 +172,7 @@ impl Block {
         }
     }
 
-    /// Whether each writer's counter is at most that in another block of the group.
+    /// Whether no counter exceeds that in the other block of the group.
     pub fn is_at_most(&self, other: &Block) -> bool
         requires first { IsBlock self.now }
         requires second { IsBlock other.now }
@@ -189,8 +187,7 @@ impl Block {
         }
     }
 
-    /// Whether each writer's counter is at most that in another block, of whatever group. Mostly both are full: then it looks at each block's
-    /// form once.
+    /// Whether no counter exceeds that in the other block, of any group. Fast if both are full, the usual case.
     pub fn passes(&self, other: &Block) -> bool
         requires first { IsBlock self.now }
         requires second { IsBlock other.now }
@@ -204,8 +201,8 @@ impl Block {
         self.group() == other.group() && self.is_at_most(other)
     }
 
-    /// Each writer's greater counter of two blocks of one group: the greater block itself, where there is one. Costs the entries of
-    /// both, and takes memory only where neither is at most the other.
+    /// Returns the greater counters of two blocks of one group. Costs the entries of both. Takes memory only if neither
+    /// is at most the other.
     pub fn join(&self, alloc: Global, other: &Block) -> Result<Block, AllocError>
         requires first { IsBlock self.now }
         requires second { IsBlock other.now }
@@ -227,8 +224,8 @@ impl Block {
         }
     }
 
-    // Raises each writer's counter to that in another block of the group where it stands, and tells whether it did: only where no other clock shares
-    // the block, it is full, and no counter of the other is too great for that.
+    // Raises the counters in place, and returns true. Does nothing if the block is shared or not full, or if a counter
+    // of the other is too great for it.
     fn raise_here(&mut self, other: &Block) -> bool
         requires first { IsBlock self.old }
         requires second { IsBlock other.now }
@@ -242,8 +239,10 @@ impl Block {
         }
     }
 
-    /// Raises each writer's counter to that in another block of the group. Costs the entries of both. Takes no memory where the block is full, no other
-    /// clock shares it, and no counter of the other is too great for that; else what `join` takes.
+    /// Raises the counters to those of another block of the group. Costs the entries of both.
+    ///
+    /// Takes memory as `join` does. Takes none if the block is full and unshared, and no counter of the other
+    /// is too great for it.
     pub fn raise(&mut self, alloc: Global, other: &Block) -> Result<(), AllocError>
         requires first { IsBlock self.old }
         requires second { IsBlock other.now }
@@ -258,8 +257,9 @@ impl Block {
         Ok(())
     }
 
-    /// Each writer's greater counter of the block and of entries of its group. Costs the entries of both, and takes memory for what it makes:
-    /// 260 bytes where the block is full, and 16 for each entry where one's counter is too great for that.
+    /// Merges entries of the group into a new block, by greater counters. Costs the entries of both.
+    ///
+    /// The result takes 260 bytes if full, or 16 for each entry if some counter is too great for that.
     pub fn merge(&self, alloc: Global, entries: &[Entry]) -> Result<Block, AllocError>
         requires first { IsBlock self.now }
         requires second { IsBlock entries.now }

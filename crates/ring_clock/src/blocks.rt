@@ -13,7 +13,7 @@ use std::alloc::{AllocError, Global};
 use std::slice;
 use std::sync::Arc;
 
-/// The blocks of a clock, in order of the group. One alone stands in the clock, more are shared once more.
+/// The blocks of a clock, ordered by group. One is stored inline, more are shared.
 #[derive(Drop)]
 pub enum Blocks {
     Empty,
@@ -22,7 +22,7 @@ pub enum Blocks {
 }
 
 impl Blocks {
-    /// The blocks as a slice.
+    /// Returns the blocks as a slice.
     pub fn as_slice(&self) -> &[Block]
         ensures { result.now ≡ listed self.now }
     {
@@ -33,7 +33,7 @@ impl Blocks {
         }
     }
 
-    /// A copy of the blocks. Takes no memory.
+    /// Copies the blocks. Takes no memory.
     pub fn try_copy(&self) -> Result<Blocks, AllocError>
         ensures { IfOk result (λ a. listed a ≡ listed self.now) }
     {
@@ -45,7 +45,6 @@ impl Blocks {
     }
 }
 
-// The place of the block of a group, where there is one.
 #[inline(always)]
 fn place_of(blocks: &[Block], group: u32) -> Option<usize>
     requires { AreBlocks blocks.now }
@@ -72,8 +71,8 @@ fn place_of(blocks: &[Block], group: u32) -> Option<usize>
     }
 }
 
-/// The block of a group, where there is one. Costs the logarithm of how many blocks there are. Where each lesser group has a block, or all other
-/// blocks are of lesser groups, one look takes the place of the search.
+/// Returns the block of a group. Costs the logarithm of the blocks, but one look if all lesser groups have blocks or
+/// all other blocks are lesser.
 pub fn block_of(blocks: &[Block], group: u32) -> Option<&Block>
     requires { AreBlocks blocks.now }
     ensures some { IfSome result (λ b. IsBlockFor group (entries_of blocks.now) b.now) }
@@ -83,7 +82,7 @@ pub fn block_of(blocks: &[Block], group: u32) -> Option<&Block>
     Some(&blocks[place])
 }
 
-/// The counter of a writer, 0 where it has none. Costs a look for the block of its group, and the logarithm of that block's entries.
+/// Returns the counter of a writer, or 0. Costs `block_of` and the logarithm of the block's entries.
 pub fn counter_in(blocks: &[Block], writer: WriterId) -> u64
     requires { AreBlocks blocks.now }
     ensures { result ≡ counter (entries_of blocks.now) writer.0 }
@@ -98,7 +97,6 @@ pub fn counter_in(blocks: &[Block], writer: WriterId) -> u64
     }
 }
 
-// Whether the counters of a block are at most its writers' in the blocks. Costs a look for the block of its group, and the entries of both.
 #[inline(always)]
 fn is_reached(block: &Block, blocks: &[Block]) -> bool
     requires one { IsBlock block.now }
@@ -111,8 +109,7 @@ fn is_reached(block: &Block, blocks: &[Block]) -> bool
     }
 }
 
-// Whether each writer's counter in the first is at most that in the second, the writers of one group left out if it is given. A look for each
-// group leaves the blocks of other groups unread.
+// Whether no counter in the first exceeds that in the second, except in the group `but`. Blocks of other groups stay unread.
 fn are_reached(but: Option<u32>, first: &[Block], second: &[Block]) -> bool
     requires first { AreBlocks first.now }
     requires second { AreBlocks second.now }
@@ -128,8 +125,10 @@ fn are_reached(but: Option<u32>, first: &[Block], second: &[Block]) -> bool
     true
 }
 
-/// Whether each writer's counter in the first is at most that in the second. Costs a look for each block of the first, the logarithm of the
-/// blocks of the second where not all lesser groups have one there, and the entries of those whose group both have.
+/// Whether no counter in the first exceeds that in the second.
+///
+/// Costs the entries of common groups. Each block of the first costs a look, or the logarithm of the second's
+/// blocks if lesser groups lack one there.
 pub fn are_at_most(first: &[Block], second: &[Block]) -> bool
     requires first { AreBlocks first.now }
     requires second { AreBlocks second.now }
@@ -141,7 +140,7 @@ pub fn are_at_most(first: &[Block], second: &[Block]) -> bool
     }
 }
 
-// Takes the block of the least group in front, the join of two where both lists have that group.
+// Takes the next block of the least group. Joins two of the same group.
 fn take_joined<'a>(
     alloc: Global,
     first: &mut &'a [Block],
@@ -182,7 +181,6 @@ fn take_joined<'a>(
     }
 }
 
-// Adds the blocks of both lists, one for each group.
 fn push_joined(
     alloc: Global,
     out: &mut Vec<Block>,
@@ -204,8 +202,9 @@ fn push_joined(
     Ok(())
 }
 
-/// Each writer's greater counter of two clocks. Costs the blocks of both and the entries of those whose group both have. Takes memory for
-/// the list of the blocks, where they are several, and for each block of which neither clock has the greater one.
+/// Returns the greater counters of two clocks. Costs the blocks of both and the entries of common groups.
+///
+/// Takes memory for a list of several blocks, and for each block greater than both.
 pub fn joined(alloc: Global, first: &[Block], second: &[Block]) -> Result<Blocks, AllocError>
     requires first { AreBlocks first.now }
     requires second { AreBlocks second.now }
@@ -227,8 +226,8 @@ pub fn joined(alloc: Global, first: &[Block], second: &[Block]) -> Result<Blocks
     }
 }
 
-/// The blocks in which a writer's counter is the greater one of what it was and what the entry tells. Makes the block of its group anew, and
-/// the list of the blocks, where they are several.
+/// Returns the blocks with the writer's counter raised to the entry's. Makes the block of its group again, and the list
+/// if there are several.
 pub fn raised(alloc: Global, blocks: &[Block], entry: Entry) -> Result<Blocks, AllocError>
     requires valid { AreBlocks blocks.now }
     requires some { 0 < entry.counter }
@@ -247,8 +246,10 @@ pub fn raised(alloc: Global, blocks: &[Block], entry: Entry) -> Result<Blocks, A
     }
 }
 
-/// Raises the block of one group in place, where both have it, and tells whether the others are then reached; if not, nothing has changed. Costs
-/// the blocks of both, and takes memory only for the one block, where other clocks share it or few of its writers have a counter.
+/// Raises the block of one group in place, if both have it. Returns whether the others are reached then; if
+/// not, nothing has changed.
+///
+/// Costs the blocks of both. Takes memory only for that block, if it is shared or has few entries.
 pub fn raise_one(
     alloc: Global,
     blocks: &mut Vec<Block>,
@@ -276,7 +277,7 @@ pub fn raise_one(
     Ok(true)
 }
 
-/// The entries of the blocks. Costs them, and takes the memory of the list.
+/// Lists the entries of the blocks. Costs their number, in memory too.
 pub fn list(alloc: Global, blocks: &[Block]) -> Result<Vec<Entry>, AllocError>
     ensures { IfOk result (λ v. v.items ≡ entries_of blocks.now) }
 {

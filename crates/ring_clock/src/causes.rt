@@ -13,14 +13,13 @@ use ring_names::{Refusal, WriterId};
 use std::alloc::Global;
 use std::collections::HashMap;
 
-/// What a put knows of the puts of its key before it: its writer, who knows its own, and the numbers of those that it has seen.
+/// What a put knows of earlier puts: all by its writer, and the seen ones, by number.
 #[derive(Debug, Drop)]
 pub struct Cause {
     pub writer: WriterId,
     pub seen: Vec<u32>,
 }
 
-// Raises a clock to the clocks of the puts that were seen.
 fn raise_to_seen(clock: &mut Clock, clocks: &[Clock], seen: &[u32]) -> Result<(), Refusal>
     requires none { clock.old ≡ [] }
     requires earlier { (v : ℕ) → has v seen.now ≡ true → v < length clocks.now }
@@ -35,7 +34,6 @@ fn raise_to_seen(clock: &mut Clock, clocks: &[Clock], seen: &[u32]) -> Result<()
     Ok(())
 }
 
-// Raises a clock to those of the puts that were seen, and of the writer's last.
 fn raise_to_inputs(
     clock: &mut Clock,
     cause: &Cause,
@@ -55,7 +53,6 @@ fn raise_to_inputs(
     Ok(())
 }
 
-// The clock of a put behind others, of which `last` is the writer's last.
 fn next_clock(
     alloc: Global,
     cause: &Cause,
@@ -75,7 +72,6 @@ fn next_clock(
     clock.bump(cause.writer)
 }
 
-// The last put of each writer.
 #[derive(Drop)]
 struct LastPuts {
     places: HashMap<u32, usize>,
@@ -109,7 +105,6 @@ impl LastPuts {
     }
 }
 
-// Adds the clocks of the puts in order.
 fn push_clocks(
     alloc: Global,
     out: &mut Vec<Clock>,
@@ -132,8 +127,10 @@ fn push_clocks(
     Ok(())
 }
 
-/// The clocks of puts of one key, in order of their start: each the join of those that it has seen and of its writer's put before
-/// it, with one more for its writer (DeCandia et al. 2007, section 4.4). Costs what each put joins.
+/// Returns the clocks of one key's puts, in the order of starts. Costs what each put joins.
+///
+/// Each joins the clocks seen and the writer's last, and counts one more for the writer (DeCandia et al. 2007,
+/// section 4.4).
 pub fn clocks(alloc: Global, causes: &[Cause]) -> Result<Vec<Clock>, Refusal>
     requires { IsEarlier causes.now }
     ensures each { IfOk result (λ clocks. length clocks.items ≡ length causes.now) }

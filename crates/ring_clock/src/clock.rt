@@ -1,4 +1,4 @@
-//! Clocks.
+//! Vector clocks.
 
 ghost use Rattle.std.specs.Prelude.{◌≡◌, ◌↔◌, ◌+◌, ◌<◌, ◌==◌, [], ℕ, true, false, IsTrue, IfOk, IfErr, OnOk, OnErr, max};
 ghost use Rattle.std.specs.Prelude.{if◌then◌else◌};
@@ -15,14 +15,15 @@ use std::alloc::Global;
 use std::marker::Model;
 use std::sync::Arc;
 
-/// A vector clock: writers with counters above 0; a writer that it has not counts as 0.
+/// A vector clock: the counters of writers, 0 by default.
 ///
-/// The entries of sixty-four writers whose numbers follow one another are a block: of 16 bytes for each one that has a counter, and from
-/// seventeen such writers on, where each counter is below 2^31, of 260 bytes for all of them. Copies share the blocks, and so does what
-/// `bump` and `join` make, for each group of writers in which nothing changed.
+/// Each 64 consecutive writers have a block. It takes 16 bytes for each counter above 0, or 260 bytes from 17
+/// counters on, if all are below 2^31.
+///
+/// Copies, `bump` and `join` share the blocks of groups that do not change.
 pub struct Clock {
     alloc: Global,
-    // The writer for whom it was last raised. Its put knows all that the clock tells, so its counter alone mostly decides a comparison.
+    // The writer of the last raise. Its put knows the whole clock, so its counter mostly decides a comparison.
     own: WriterId,
     blocks: Blocks,
 }
@@ -39,7 +40,7 @@ impl Model for Clock {
     ghost invariant = { λ a. AreBlocks (listed a.blocks) };
 }
 
-// Dropped by a call, so that no crate above goes through the cases wherever a clock ends.
+// Dropping is a call, so crates above need not check the cases.
 impl Drop for Clock {
     fn drop(self) {
         let Clock {
@@ -52,7 +53,7 @@ impl Drop for Clock {
 }
 
 impl Clock {
-    /// The clock that is 0 for every writer.
+    /// Returns the clock that is 0 for every writer.
     pub fn new(alloc: Global) -> Clock
         ensures { result ≡ [] }
     {
@@ -63,7 +64,6 @@ impl Clock {
         }
     }
 
-    // The blocks, in order of the group.
     pub(crate) fn blocks(&self) -> &[Block]
         ensures value { entries_of result.now ≡ self.now }
         ensures valid { AreBlocks result.now }
@@ -71,7 +71,7 @@ impl Clock {
         self.blocks.as_slice()
     }
 
-    /// The counters above 0, in order of the writer, to be taken one by one.
+    /// Iterates over the counters above 0, in the order of writers.
     pub fn entries(&self) -> Walk<'_>
         ensures value { result ≡ self.now }
         ensures valid { IsClock self.now }
@@ -79,7 +79,7 @@ impl Clock {
         Walk::of(self.blocks())
     }
 
-    /// A list of the counters above 0, in order of the writer. Costs the entries, and takes the memory of the list.
+    /// Lists the counters above 0, in the order of writers. Costs their number, in memory too.
     pub fn list(&self, alloc: Global) -> Result<Vec<Entry>, Refusal>
         ensures value { IfOk result (λ entries. entries.items ≡ self.now) }
         ensures memory { IfErr result (λ e. e ≡ OutOfMemory) }
@@ -87,27 +87,31 @@ impl Clock {
         Ok(list(alloc, self.blocks())?)
     }
 
-    /// The writer for whom the clock was last raised: a guide for those who look for it among others. What `join` makes has that of
-    /// the first clock, and a clock that no one raised writer 0.
+    /// Returns the writer of the last raise, a hint for lookups. `join` keeps that of the first clock; a new clock has
+    /// writer 0.
     pub fn own(&self) -> WriterId {
         self.own
     }
 
-    /// The counter of a writer. Takes no memory, and costs the logarithm of the entries; where all lesser writers have entries, two looks.
+    /// Returns the counter of a writer. Costs the logarithm of the entries, or two looks if all lesser writers have entries.
     pub fn counter(&self, writer: WriterId) -> u64
         ensures { result ≡ counter self.now writer.0 }
     {
         counter_in(self.blocks(), writer)
     }
 
-    /// Whether each writer's counter is at most that in the other clock: then a version of this clock is an ancestor of one of the other, or it is the
-    /// same (DeCandia et al. 2007, section 4.4). Takes no memory. Costs the entries of both, and for each group what `has_group` costs; where one has
-    /// several groups, the logarithm of the entries if the counter of the writer for whom this clock was last raised is less in the other.
+    /// Whether no counter exceeds that in the other clock: then this clock's version equals the other's or is its
+    /// ancestor (DeCandia et al. 2007, section 4.4).
+    ///
+    /// Takes no memory. Costs the entries of both, and `has_group` for each group.
+    ///
+    /// With several groups, costs only the logarithm of the entries if the counter of the last raised writer is
+    /// less in the other.
     pub fn le(&self, other: &Clock) -> bool
         ensures { IsTrue result ↔ IsAtMost self.now other.now }
     {
         let (blocks, others) = (self.blocks(), other.blocks());
-        // One block each are at most sixty-four counters: these are compared at once.
+        // One block each has at most 64 counters: compare them at once.
         if (blocks.len() > 1 || others.len() > 1)
             && counter_in(others, self.own) < counter_in(blocks, self.own)
         {
@@ -116,10 +120,13 @@ impl Clock {
         are_at_most(blocks, others)
     }
 
-    /// The least clock above both: of each writer the greater counter. Costs the entries of both. Where of a group's entries one clock's are
-    /// at most the other's, those of the greater one are shared. Takes memory for each of the other groups: 16 bytes for each entry of both
-    /// where these are few, or a counter is 2^31 or more, and else 260 bytes. Where there are several groups, it takes 8 bytes more for each,
-    /// or up to 16 where neither clock has all of them.
+    /// Returns the least clock above both. Costs the entries of both.
+    ///
+    /// Shares a group's entries if one clock's are at least the other's.
+    ///
+    /// Each other group takes 260 bytes, or 16 for each entry if these are few or a counter is 2^31 or more.
+    ///
+    /// Several groups take 8 bytes each besides, or up to 16 if neither clock has all.
     pub fn join(&self, other: &Clock) -> Result<Clock, Refusal>
         ensures least { IfOk result (λ c. IsJoin self.now other.now c) }
         ensures counters { IfOk result (λ c. (w : ℕ) → counter c w ≡ max (counter self.now w) (counter other.now w)) }
@@ -132,8 +139,8 @@ impl Clock {
         })
     }
 
-    // Raises the entries of one group in place, those of the group of the other's own writer, and tells whether that raises the clock to the other:
-    // only where no other clock shares the list of its blocks.
+    // Raises in place the group of the other's last raised writer. Returns whether the clock then reaches the other.
+    // Only if no clock shares the list of blocks.
     fn raise_own(&mut self, other: &Clock) -> Result<bool, Refusal>
         ensures raised { IfOk result (λ done. done ≡ true
             → (w : ℕ) → counter self.new w ≡ max (counter self.old w) (counter other.now w)) }
@@ -151,9 +158,14 @@ impl Clock {
         Ok(raise_one(alloc, blocks, other.blocks(), group_of(other.own))?)
     }
 
-    /// Raises the clock to another: of each writer the greater counter. Costs what `le` and `join` do, and takes memory only where neither is
-    /// at most the other: what `join` takes; but where no other clock shares the list of its groups, both have the group of the other's own writer, and
-    /// in all other groups its counters reach the other's, for that group alone, and none for 260 bytes that no other clock shares.
+    /// Raises the clock to another. Costs what `le` and `join` do.
+    ///
+    /// Takes no memory if one is at most the other, and otherwise what `join` takes.
+    ///
+    /// If only the group of the other's last raised writer is behind, takes memory only for it, and none for
+    /// unshared 260 bytes.
+    ///
+    /// For this, both must have the group, and the list of groups must be unshared.
     pub fn raise(&mut self, other: &Clock) -> Result<(), Refusal>
         ensures ok { OnOk result ((w : ℕ) → counter self.new w ≡ max (counter self.old w) (counter other.now w)) }
         ensures err { OnErr result (self.new ≡ self.old) }
@@ -169,9 +181,12 @@ impl Clock {
         Ok(())
     }
 
-    /// This clock with the writer's counter raised by one. Costs the entries of the writer's group, and the groups. Takes memory for those
-    /// entries, 260 bytes at most where each counter is below 2^31 and else 1024, and where there are several groups 8 bytes for each, or up
-    /// to 16 where the writer is the first one of its group; the other entries are shared.
+    /// Returns the clock with the writer's counter raised by one. Costs the entries of its group, and the groups.
+    ///
+    /// Takes memory for these entries, at most 260 bytes, or 1,024 if a counter is 2^31 or more. The other
+    /// entries are shared.
+    ///
+    /// Several groups take 8 bytes each besides, or up to 16 if the group is new.
     pub fn bump(&self, writer: WriterId) -> Result<Clock, Refusal>
         requires { counter self.now writer.0 < 18446744073709551615 }
         ensures counters { IfOk result
@@ -186,7 +201,7 @@ impl Clock {
         })
     }
 
-    /// A copy of the clock, which shares the entries. Takes no memory. Refused only where 2^64 clocks would share them.
+    /// Copies the clock, which shares the entries. Takes no memory. Fails only if 2^64 clocks would share them.
     pub fn try_copy(&self) -> Result<Clock, Refusal>
         ensures same { IfOk result (λ c. c ≡ self.now) }
         ensures memory { IfErr result (λ e. e ≡ OutOfMemory) }

@@ -5,7 +5,7 @@ ghost use Rattle.ring_clock.specs.Clock.{IsClock, counter};
 
 use ring_names::WriterId;
 
-/// How many writers, whose numbers follow one another, are a group. Entries of a group are shared together.
+/// How many consecutive writers form a group, whose entries are shared together.
 pub const GROUP: u32 = 64;
 
 /// How often a writer put, as a clock knows it: a counter above 0.
@@ -15,8 +15,7 @@ pub struct Entry {
     pub counter: u64,
 }
 
-// The counter of a writer whose entry stands as far behind the first one as its number is above the first one's: so it does where each
-// writer between has an entry.
+// The counter of a writer, if each writer since the first has an entry: then the difference of numbers is its place.
 fn guessed(entries: &[Entry], writer: WriterId) -> Option<u64>
     requires { IsClock entries.now }
     ensures { IfSome result (λ n. n ≡ counter entries.now writer.0) }
@@ -31,8 +30,8 @@ fn guessed(entries: &[Entry], writer: WriterId) -> Option<u64>
     }
 }
 
-/// The counter of a writer among entries, 0 where it has none. Costs the logarithm of how many there are, and one look where each writer
-/// between the first one and this one has an entry.
+/// Returns the counter of a writer among entries, or 0. Costs the logarithm of the entries, or one look if each writer
+/// since the first has an entry.
 pub fn counter_of(entries: &[Entry], writer: WriterId) -> u64
     requires { IsClock entries.now }
     ensures { result ≡ counter entries.now writer.0 }

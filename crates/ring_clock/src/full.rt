@@ -1,4 +1,4 @@
-//! The counters of a group of writers of whom many have one.
+//! The counters of a group with many counters.
 
 ghost use Rattle.std.specs.Prelude.{◌≡◌, ◌↔◌, ◌+◌, ◌*◌, ◌<◌, ◌≤◌, ◌++◌, ℕ, IsTrue, OnOk, slice_index, max};
 ghost use Rattle.std.specs.List.{All};
@@ -12,13 +12,13 @@ use ring_names::WriterId;
 use std::alloc::AllocError;
 use std::marker::Model;
 
-// How many places for counters a group has.
+// The places for counters in a group.
 const PLACES: usize = GROUP as usize;
 
-// The counters of a full block are below this: then the top bit of a difference of two tells which one is the greater.
+// Counters of a full block are below this, so that the top bit of a difference shows which one is greater.
 const LIMIT: u32 = 1 << 31;
 
-/// The counters of all writers of a group, each at its writer's place, 0 where one has none: counters below 2^31. Takes 260 bytes.
+/// The counters of all writers of a group, each below 2^31, 0 by default. Takes 260 bytes.
 #[derive(Drop)]
 pub struct Full {
     group: u32,
@@ -42,7 +42,7 @@ impl Model for Full {
 }
 
 impl Full {
-    /// The counters of a block.
+    /// Makes a full block of entries.
     pub fn of(entries: &[Entry]) -> Full
         requires block { IsBlock entries.now }
         requires low { All IsLow entries.now }
@@ -58,7 +58,6 @@ impl Full {
         }
     }
 
-    // A copy of the counters.
     fn copy(&self) -> Full
         ensures { result ≡ self.now }
     {
@@ -68,14 +67,14 @@ impl Full {
         }
     }
 
-    /// The group of its writers.
+    /// Returns the group of its writers.
     pub fn group(&self) -> u32
         ensures { result ≡ group_in self.now }
     {
         self.group
     }
 
-    /// The counter of a writer, 0 where it has none.
+    /// Returns the counter of a writer, or 0.
     pub fn counter(&self, writer: WriterId) -> u64
         ensures { result ≡ counter self.now writer.0 }
     {
@@ -86,7 +85,7 @@ impl Full {
         }
     }
 
-    /// The entries, to be taken one by one.
+    /// Iterates over the entries.
     pub fn part(&self) -> Part<'_>
         ensures { result ≡ self.now }
     {
@@ -96,7 +95,7 @@ impl Full {
         )
     }
 
-    /// Adds the entries to a list.
+    /// Appends the entries to a list.
     pub fn push_to(&self, out: &mut Vec<Entry>) -> Result<(), AllocError>
         ensures { OnOk result (out.new.items ≡ out.old.items ++ self.now) }
     {
@@ -111,7 +110,7 @@ impl Full {
         Ok(())
     }
 
-    /// Whether each writer's counter is at most that in another one of the group.
+    /// Whether no counter exceeds that in the other block of the group.
     #[inline(always)]
     pub fn is_at_most(&self, other: &Full) -> bool
         requires { group_in self.now ≡ group_in other.now }
@@ -120,7 +119,7 @@ impl Full {
         are_below(&self.counters, &other.counters)
     }
 
-    /// Whether each counter of entries is at most the writer's.
+    /// Whether no entry exceeds the writer's counter.
     pub fn is_above(&self, entries: &[Entry]) -> bool
         requires { IsClock entries.now }
         ensures { IsTrue result ↔ IsAtMost entries.now self.now }
@@ -133,7 +132,7 @@ impl Full {
         true
     }
 
-    /// Whether each writer's counter is at most that among entries. Costs a search among these for each writer that has a counter.
+    /// Whether no counter exceeds that among entries. Costs a search for each counter above 0.
     pub fn is_below(&self, entries: &[Entry]) -> bool
         requires { IsClock entries.now }
         ensures { IsTrue result ↔ IsAtMost self.now entries.now }
@@ -149,7 +148,7 @@ impl Full {
         true
     }
 
-    /// Each writer's greater counter of two of one group.
+    /// Returns the greater counters of two blocks of one group.
     pub fn join(&self, other: &Full) -> Full
         requires first { IsBlock self.now }
         requires second { IsBlock other.now }
@@ -163,7 +162,7 @@ impl Full {
         made
     }
 
-    /// Raises each writer's counter to that in another one of the group.
+    /// Raises the counters to those of another block of the group.
     pub fn raise(&mut self, other: &Full)
         requires first { IsBlock self.old }
         requires second { IsBlock other.now }
@@ -173,7 +172,7 @@ impl Full {
         raise_to(&mut self.counters, &other.counters);
     }
 
-    /// Raises each writer's counter to that among entries of the group.
+    /// Raises the counters to those of entries of the group.
     pub fn raise_to(&mut self, entries: &[Entry])
         requires first { IsBlock self.old }
         requires second { IsBlock entries.now }
@@ -184,7 +183,7 @@ impl Full {
         raise_to_entries(&mut self.counters, entries);
     }
 
-    /// Each writer's greater counter of these and of entries of the group.
+    /// Merges entries of the group into a new block, by greater counters.
     pub fn merge(&self, entries: &[Entry]) -> Full
         requires first { IsBlock self.now }
         requires second { IsBlock entries.now }
@@ -200,7 +199,7 @@ impl Full {
     }
 }
 
-// The group of a writer: there are 2^26 of them.
+// There are 2^26 groups.
 fn group_in_range(writer: WriterId) -> u32
     ensures value { result ≡ group writer.0 }
     ensures few { result < 67108864 }
@@ -208,7 +207,7 @@ fn group_in_range(writer: WriterId) -> u32
     writer.0 / GROUP
 }
 
-/// The group of the first entry's writer.
+/// Returns the group of the first entry.
 pub fn group_among(entries: &[Entry]) -> u32
     ensures value { result ≡ group_in entries.now }
     ensures few { result < 67108864 }
@@ -219,15 +218,15 @@ pub fn group_among(entries: &[Entry]) -> u32
     }
 }
 
-/// Whether a full block can have the counters of entries.
+/// Whether the counters of entries fit a full block.
 pub fn are_low(entries: &[Entry]) -> bool
     ensures { IsTrue result ↔ All IsLow entries.now }
 {
     entries.iter().all(|entry| entry.counter < u64::from(LIMIT))
 }
 
-// Whether each counter is at most that at its place in the other. Goes through all places, since so several of them are compared at once,
-// and stands where it is called, as does what calls it: a call would cost a tenth of what a block does.
+// Whether no counter exceeds the other at its place. Looks at all places, so that several are compared at once, and is
+// inlined: a call costs a tenth of the work.
 #[inline(always)]
 fn are_below(first: &[u32; PLACES], second: &[u32; PLACES]) -> bool
     requires first { (k : ℕ) → slice_index first.now k < 2147483648 }
@@ -241,7 +240,6 @@ fn are_below(first: &[u32; PLACES], second: &[u32; PLACES]) -> bool
     lost < LIMIT
 }
 
-// Raises each counter to that at its place in the other.
 fn raise_to(counters: &mut [u32; PLACES], others: &[u32; PLACES])
     ensures { (k : ℕ) → slice_index counters.new k ≡ max (slice_index counters.old k) (slice_index others.now k) }
 {
@@ -250,7 +248,6 @@ fn raise_to(counters: &mut [u32; PLACES], others: &[u32; PLACES])
     }
 }
 
-// Raises the counters of a group to those of entries of the group.
 fn raise_to_entries(counters: &mut [u32; PLACES], entries: &[Entry])
     requires block { IsBlock entries.now }
     requires low { All IsLow entries.now }

@@ -1,4 +1,6 @@
-//! Vector clocks of versions (DeCandia et al. 2007, section 4.4), whose actors are writers.
+//! Vector clocks of versions (DeCandia et al. 2007, section 4.4). Their actors are writers.
+//!
+//! A function without a `Result` takes no memory.
 #![tactic(auto)]
 
 mod block;

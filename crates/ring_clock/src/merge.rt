@@ -1,4 +1,4 @@
-//! Two lists of entries, gone through side by side.
+//! Merges two lists of entries.
 
 ghost use Rattle.std.specs.Prelude.{◌≡◌, ◌↔◌, ◌+◌, ◌<◌, ◌≤◌, ◌∷◌, [], ℕ, IsTrue, IfOk, IfNone, IfSome, OnOk, drop, length, max};
 ghost use Rattle.ring_clock.specs.Clock.{IsClock, IsAtMost, counter};
@@ -7,7 +7,7 @@ ghost use Rattle.ring_clock.specs.Merge.{EntriesStandFor};
 use crate::entry::{Entry, GROUP};
 use std::alloc::{AllocError, Global};
 
-// How many places in front have one writer in both lists. None where at one of them the first has the greater counter.
+// How many leading places have the same writer in both lists. None if the first has a greater counter there.
 fn aligned(first: &[Entry], second: &[Entry]) -> Option<usize>
     requires first { IsClock first.now }
     requires second { IsClock second.now }
@@ -30,7 +30,7 @@ fn aligned(first: &[Entry], second: &[Entry]) -> Option<usize>
     Some(first.len())
 }
 
-// Whether each writer's counter in the first is at most that in the second, at whatever places the writers stand.
+// Whether no counter in the first exceeds that in the second, wherever the writers are.
 fn unaligned(first: &[Entry], second: &[Entry]) -> bool
     requires first { IsClock first.now }
     requires second { IsClock second.now }
@@ -56,7 +56,7 @@ fn unaligned(first: &[Entry], second: &[Entry]) -> bool
     true
 }
 
-/// Whether each writer's counter in the first is at most that in the second. Mostly both have the same writers, at the same places.
+/// Whether no counter in the first exceeds that in the second. Mostly both have the same writers at the same places.
 pub fn is_at_most(first: &[Entry], second: &[Entry]) -> bool
     requires first { IsClock first.now }
     requires second { IsClock second.now }
@@ -71,7 +71,7 @@ pub fn is_at_most(first: &[Entry], second: &[Entry]) -> bool
     }
 }
 
-// Takes the entry of the least writer in front, the one of the greater counter where both lists have that writer.
+// Takes the entry of the least writer, with the greater counter if both have it.
 fn take_least<'a>(first: &mut &'a [Entry], second: &mut &'a [Entry]) -> Option<Entry>
     requires first { IsClock first.old.now }
     requires second { IsClock second.old.now }
@@ -109,7 +109,6 @@ fn take_least<'a>(first: &mut &'a [Entry], second: &mut &'a [Entry]) -> Option<E
     }
 }
 
-// Adds the entries of both lists.
 fn merge_into(out: &mut Vec<Entry>, first: &[Entry], second: &[Entry]) -> Result<(), AllocError>
     requires empty { out.old.items ≡ [] }
     requires first { IsClock first.now }
@@ -126,7 +125,7 @@ fn merge_into(out: &mut Vec<Entry>, first: &[Entry], second: &[Entry]) -> Result
     Ok(())
 }
 
-/// Each writer's greater counter of two clocks. Where their writers are of one group, it takes memory once, for at most as many entries.
+/// Returns the greater counters of two clocks. For writers of one group it takes memory once, for at most as many entries.
 pub fn merged(alloc: Global, first: &[Entry], second: &[Entry]) -> Result<Vec<Entry>, AllocError>
     requires first { IsClock first.now }
     requires second { IsClock second.now }

@@ -1,4 +1,4 @@
-//! What is left of a block that is gone through.
+//! Iterates over a block.
 
 ghost use Rattle.std.specs.Prelude.{◌≡◌, ◌∷◌, ◌+◌, ◌≤◌, [], MatchOption, length};
 ghost use Rattle.ring_clock.specs.Places.{entries_from};
@@ -7,7 +7,7 @@ use crate::entry::Entry;
 use ring_names::WriterId;
 use std::marker::Model;
 
-/// Entries of a block that were not taken yet: entries, or counters of writers that follow one another.
+/// The remaining entries of a block: entries, or counters of consecutive writers.
 #[derive(Drop)]
 pub struct Part<'a> {
     few: &'a [Entry],
@@ -28,7 +28,7 @@ impl<'a> Model for Part<'a> {
 }
 
 impl<'a> Part<'a> {
-    /// These entries.
+    /// Iterates over entries.
     pub fn few(entries: &'a [Entry]) -> Part<'a>
         ensures { result ≡ entries.now }
     {
@@ -39,7 +39,7 @@ impl<'a> Part<'a> {
         }
     }
 
-    /// The entries of the counters above 0, of which the first one is that of writer `first`.
+    /// Iterates over the counters above 0, the first of which is that of writer `first`.
     pub fn full(first: u64, counters: &'a [u32]) -> Part<'a>
         requires { first + length counters.now ≤ 4294967296 }
         ensures { result ≡ entries_from first counters.now }
@@ -51,7 +51,7 @@ impl<'a> Part<'a> {
         }
     }
 
-    /// Takes the next one, if there is one.
+    /// Takes the next entry.
     pub fn next(&mut self) -> Option<Entry>
         ensures { MatchOption result ((self.old ≡ []) × (self.new ≡ [])) (λ entry. self.old ≡ entry ∷ self.new) }
     {

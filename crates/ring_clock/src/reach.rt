@@ -1,4 +1,4 @@
-//! Clocks beside entries of several writers.
+//! Compares clocks with entries of several writers.
 
 ghost use Rattle.std.specs.Prelude.{◌↔◌, ◌<◌, IsTrue};
 ghost use Rattle.std.specs.List.{All};
@@ -11,16 +11,16 @@ use crate::clock::Clock;
 use crate::entry::Entry;
 
 impl Clock {
-    /// Whether some writer of the group has a counter. Takes no memory. Costs the logarithm of the groups; where all lesser groups have one,
-    /// a look.
+    /// Whether some writer of the group has a counter. Costs the logarithm of the groups, or one look if all lesser
+    /// groups have one.
     pub fn has_group(&self, group: u32) -> bool
         ensures { IsTrue result ↔ HasGroup group self.now }
     {
         block_of(self.blocks(), group).is_some()
     }
 
-    /// Whether each of these writers' counters is below that of its entry. Takes no memory. Costs the entries, of each the logarithm of those
-    /// of its group where these are few, and what `has_group` costs wherever their groups change.
+    /// Whether these writers' counters are all below their entries. Costs the entries, for each the logarithm of its
+    /// group's if few, and `has_group` for each change of the group.
     pub fn is_below_each(&self, entries: &[Entry]) -> bool
         ensures { IsTrue result ↔ All (λ e. counter self.now e.writer.0 < e.counter) entries.now }
     {

@@ -1,4 +1,4 @@
-//! The entries of a clock, one after the other.
+//! Iterates over a clock.
 
 ghost use Rattle.std.specs.Prelude.{◌≡◌, ◌∷◌, [], MatchOption};
 ghost use Rattle.ring_clock.specs.Blocks.{entries_of};
@@ -8,7 +8,7 @@ use crate::entry::Entry;
 use crate::part::Part;
 use std::marker::Model;
 
-/// The counters above 0 of a clock that were not taken yet, in order of the writer.
+/// The remaining counters above 0 of a clock, in the order of writers.
 #[derive(Drop)]
 pub struct Walk<'a> {
     part: Part<'a>,
@@ -26,7 +26,6 @@ impl<'a> Model for Walk<'a> {
 }
 
 impl<'a> Walk<'a> {
-    /// All entries of the blocks.
     pub(crate) fn of(blocks: &'a [Block]) -> Walk<'a>
         ensures { result ≡ entries_of blocks.now }
     {
@@ -36,7 +35,7 @@ impl<'a> Walk<'a> {
         }
     }
 
-    /// Takes the next one, if there is one. Takes no memory.
+    /// Takes the next entry.
     pub fn next(&mut self) -> Option<Entry>
         ensures { MatchOption result ((self.old ≡ []) × (self.new ≡ [])) (λ entry. self.old ≡ entry ∷ self.new) }
     {

@@ -43,7 +43,7 @@ pub never_full_there : (a : World) (e : Event) (refusal : Refusal) → Refuses a
 never_full_there a e refusal refuses =
     holds a.parts a.sound (hlevel props) (λ w m. never_full (ring_of a) (plan_of a) w e refusal (first_refused (ring_of a) (plan_of a) w e refusal (refuses w m)))
 
--- so where an event is refused there, the history is not full
+-- so if an event is refused there, the history is not full
 pub full_alone : {X : Type 0} (result : Result X Refusal) (refusal : Refusal) (n : ℕ) → result ≡ Err refusal → n < 1000000 → refusal ≢ HistoryFull
     → IfErr result (λ e. (e ≡ HistoryFull) ↔ (n ≡ 1000000))
 full_alone result refusal n is room other = subst (λ o. IfErr o (λ e. (e ≡ HistoryFull) ↔ (n ≡ 1000000))) (sym is) ((λ same. absurd (other same)), (λ full. absurd (omega arith)))

@@ -29,8 +29,8 @@ abbrev pub is_answer : Reply → Bool
 is_answer (Answer puts) = true
 is_answer r = false
 
--- a put that starts is answered its number, a write or a hint its ticket, a get that starts its number, a read what it found, a get that ends
--- its answer, and every other event that it is done
+-- a put or a get that starts is answered the number, and a write or a hint the ticket. A read is answered what
+-- it found, a get that ends the answer, and every other event that it is done
 abbrev pub fits_reply : Event → Reply → Bool
 fits_reply (event.StartPut w k v s) r = is_put r
 fits_reply (event.Write v i) r = is_ticket r

@@ -1,4 +1,4 @@
-//! The lock round a running store and its history.
+//! The lock around a running store and its history.
 
 ghost use Rattle.std.specs.Prelude.{◌≡◌, ◌<◌, ◌≤◌, IfSome};
 
@@ -14,7 +14,7 @@ use std::alloc::Global;
 use std::sync::ledger::Blank;
 use std::sync::{Mutex, Wait};
 
-/// A running store with its history, which threads share by `&`: each event is applied by one thread at a time.
+/// A running store with its history, shared by threads with `&`. One event is applied at a time.
 #[derive(Drop)]
 pub struct Executor<'a, L: RunLedger> {
     approved: &'a Approved,
@@ -23,7 +23,7 @@ pub struct Executor<'a, L: RunLedger> {
     ghost plan: { approved.now.plan ≡ L.plan },
 }
 
-// The first node, of those from that number on and below the end, with which the store lets the put be left for its slot of that index.
+// The first node in the range that may keep the put as a hint for the slot.
 fn first_keeper(world: &World, put: u32, index: u32, from: u32, end: u32) -> Option<NodeId>
     ensures { IfSome result (λ x. (from ≤ x.0) × (x.0 < end)) }
 {
@@ -48,7 +48,7 @@ impl<'a, L: RunLedger> Executor<'a, L> {
     ghost use Rattle.ring_exec.specs.Replies.{fits_reply};
     ghost use Rattle.ring_exec.specs.Rows.{AddsRow};
 
-    /// A store before the first event, and the one share of its ledger, which counts none and has all of the ledger's parts.
+    /// A store before the first event, and the only share of its ledger.
     pub fn new(
         alloc: Global,
         blank: Blank,
@@ -70,9 +70,11 @@ impl<'a, L: RunLedger> Executor<'a, L> {
         Ok((executor, share))
     }
 
-    /// The store behind a history that was recorded, as `Ledgered::restore`, and the one share of its ledger, which counts all entries and has
-    /// all of the ledger's parts. More than 1,000,000 entries are refused before all else; else `Mismatch` tells the first entry at which the
-    /// history is no run of the plan. Out of memory comes last at each entry.
+    /// Restores the store from a history, as `Ledgered::restore` does, and makes the only share of its ledger,
+    /// which counts all entries.
+    ///
+    /// Over 1,000,000 entries are refused first; then `Mismatch` names the first entry that is not part of a
+    /// run. Lack of memory comes last at each entry.
     pub fn restore(
         alloc: Global,
         blank: Blank,
@@ -98,7 +100,7 @@ impl<'a, L: RunLedger> Executor<'a, L> {
         Ok((executor, share))
     }
 
-    /// The plan that is run, with its ring.
+    /// Returns the plan and its ring.
     pub fn approved(&self) -> &'a Approved
         ensures ring { result.now.ring ≡ L.ring }
         ensures plan { result.now.plan ≡ L.plan }
@@ -106,7 +108,7 @@ impl<'a, L: RunLedger> Executor<'a, L> {
         self.approved
     }
 
-    /// The event under the lock, as `Ledgered::apply`: its receipt, and the share counts it. Refused, the share is as it was.
+    /// Applies the event under the lock, as `Ledgered::apply` does. If refused, the share stays as it was.
     pub fn submit<R: Wait>(
         &self,
         rt: &R,
@@ -123,8 +125,10 @@ impl<'a, L: RunLedger> Executor<'a, L> {
         self.inside.lock(rt).apply(event, share)
     }
 
-    /// The events of a row in order under one hold of the lock, each as by `submit`, up to the first that is refused: those before it are answered.
-    /// Their receipts are put after the others, for which there is room before the lock is asked; where there is none, no event is answered.
+    /// Applies the events in order under one lock, up to the first refusal, and keeps the receipts of those
+    /// before.
+    ///
+    /// Room is reserved before the lock is taken; if there is none, no event is applied.
     pub fn submit_row<R: Wait>(
         &self,
         rt: &R,
@@ -142,30 +146,29 @@ impl<'a, L: RunLedger> Executor<'a, L> {
         self.inside.lock(rt).apply_row(events, share, receipts)
     }
 
-    /// The least step from that number on that could begin when it was looked at, if there was one: it was neither done nor open, and its direct
-    /// dependencies were done.
+    /// Returns the least step from `from` on that could begin at that moment: neither done nor open, with its
+    /// dependencies done.
     pub fn ready<R: Wait>(&self, rt: &R, from: u32) -> Option<u32>
         ensures { IfSome result (λ n. (from ≤ n) × (n < length L.plan)) }
     {
         self.inside.lock(rt).world().ready(from)
     }
 
-    /// How many steps were not done when it was looked at.
+    /// Counts the steps that were not done at that moment.
     pub fn left<R: Wait>(&self, rt: &R) -> u32
         ensures { result ≤ length L.plan }
     {
         self.inside.lock(rt).world().left()
     }
 
-    /// The n-th node with a slot for which it kept a hint when it was looked at, if there was one: a node and a slot of the ring.
+    /// Returns the n-th pair, at that moment, of a node and a slot for which it kept a hint.
     pub fn hint_at<R: Wait>(&self, rt: &R, n: u32) -> Option<(NodeId, Slot)>
         ensures { IfSome result (λ pair. (pair.0.0 < length L.ring.nodes) × (is_ring_slot L.ring pair.1 ≡ true)) }
     {
         self.inside.lock(rt).world().hint_at(n)
     }
 
-    /// The first node from that number on with which the put could be left for its slot of that index when it was looked at, if there was one. It
-    /// looks at each node up to it.
+    /// Returns the first node from `from` on that could keep the put as a hint at that moment. Looks at each node up to it.
     pub fn keeper_from<R: Wait>(&self, rt: &R, put: u32, index: u32, from: u32) -> Option<NodeId>
         ensures { IfSome result (λ x. (from ≤ x.0) × (x.0 < length L.ring.nodes)) }
     {
@@ -173,18 +176,18 @@ impl<'a, L: RunLedger> Executor<'a, L> {
         first_keeper(self.inside.lock(rt).world(), put, index, from, nodes)
     }
 
-    /// How many entries the history had when it was looked at.
+    /// Counts the history's entries at that moment.
     pub fn entry_count<R: Wait>(&self, rt: &R) -> u32
         ensures { result ≤ 1000000 }
     {
         self.inside.lock(rt).entries().len() as u32
     }
 
-    /// Gives up the store with its history, as where the threads that were to share it could not start.
+    /// Gives up the store and its history, for example if its threads could not start.
     pub fn give_up(self) {}
 
-    /// The store and its history, where the shares count as many events as the history has; else 70. Where they have all parts of the ledger
-    /// they do.
+    /// Returns the store and its history, if the shares count its events; otherwise fails with 70. With all parts of
+    /// the ledger they do.
     pub fn finish(self, shares: Vec<Share<L>>) -> Result<Ledgered<'a, L>, Refusal>
         ensures ok { IfOk result (λ a. vec_len a.history ≡ sum_by (λ s. s.count) shares.items) }
         ensures err { IfErr result (λ e. e ≡ Disagree) }

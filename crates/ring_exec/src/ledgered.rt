@@ -15,11 +15,12 @@ use ring_receipts::Receipt;
 use std::alloc::Global;
 use std::sync::ledger::{Blank, Book};
 
-/// The most entries that a history may have.
+/// The most entries of a history.
 pub const MAX_ENTRIES: usize = 1_000_000;
 
-/// A store that follows an approved plan, with its history: every event that it was answered, with the reply. The history is a run of the plan
-/// which leads to a world that the store is in, and the book counts its entries.
+/// A store that follows an approved plan, with its history: each accepted event and its reply.
+///
+/// The history is a run that leads to the store's world, and the book counts its entries.
 #[derive(Drop)]
 pub struct Ledgered<'a, L: RunLedger> {
     world: World<'a>,
@@ -48,7 +49,7 @@ impl<'a, L: RunLedger> Ledgered<'a, L> {
     ghost use Rattle.ring_exec.specs.Replies.{fits_reply};
     ghost use Rattle.ring_exec.specs.Rows.{AddsRow};
 
-    /// The store before the first event, with an empty history, and the one share of its ledger, which has all of its parts.
+    /// A store before the first event, and the only share of its ledger.
     pub fn new(
         alloc: Global,
         blank: Blank,
@@ -74,10 +75,13 @@ impl<'a, L: RunLedger> Ledgered<'a, L> {
         Ok((ledgered, Share { count: 0, token }))
     }
 
-    /// The store behind a history that was recorded, with that history, and the one share of its ledger, which counts all entries and has all of
-    /// the ledger's parts. More than 1,000,000 entries are refused before all else. Else the history is replayed: `Mismatch`, with the place of the
-    /// first entry, from 0, whose event is refused or has another reply, and with that refusal's number or 0. Each entry costs one `follow`
-    /// and one copy of its event; out of memory comes last at each entry.
+    /// Restores the store from a history, and makes the only share of its ledger, which counts all entries.
+    ///
+    /// Over 1,000,000 entries are refused first. Then the history is replayed. Each entry costs a `follow` and
+    /// a copy of the event.
+    ///
+    /// `Mismatch` has the place, from 0, of the first entry refused or with another reply, and that refusal's
+    /// number or 0. Lack of memory comes last at each entry.
     pub fn restore(
         alloc: Global,
         blank: Blank,
@@ -110,14 +114,14 @@ impl<'a, L: RunLedger> Ledgered<'a, L> {
         Ok((restored, Share { count, token }))
     }
 
-    /// The store.
+    /// Returns the store.
     pub fn world(&self) -> &World<'a>
         ensures { result.now ≡ self.now.world }
     {
         &self.world
     }
 
-    /// The history, in the order of its events: a run of the plan, of at most 1,000,000 entries, which leads to a world that the store is in.
+    /// Returns the history in order: a run of the plan, of at most 1,000,000 entries, that leads to the store's world.
     pub fn entries(&self) -> &[Entry]
         ensures items { result.now ≡ self.now.history.items }
         ensures run { Replays L.ring L.plan self.now.world result.now }
@@ -133,7 +137,7 @@ impl<'a, L: RunLedger> Ledgered<'a, L> {
         self.world.left() == 0
     }
 
-    /// The history alone, in the order of its events.
+    /// Returns only the history, in order.
     pub fn into_entries(self) -> Vec<Entry>
         ensures items { result.items ≡ self.entry.history.items }
     {
@@ -145,8 +149,10 @@ impl<'a, L: RunLedger> Ledgered<'a, L> {
         history
     }
 
-    /// The event, which the share counts and which then stands last in the history with its reply. Refused, all is as it was. A history of
-    /// 1,000,000 entries comes before all other refusals, and is the only one there; out of memory comes last.
+    /// Applies the event, counts it in the share, and appends event and reply to the history. If refused,
+    /// nothing changes.
+    ///
+    /// A history of 1,000,000 entries comes before other refusals, and lack of memory last.
     pub fn apply(&mut self, event: &Event, share: &mut Share<L>) -> Result<Receipt, Refusal>
         ensures entry { IfOk result
             (λ r. self.new.history.items ≡ self.old.history.items ++ entry event.now r.reply ∷ []) }
@@ -187,7 +193,7 @@ impl<'a, L: RunLedger> Ledgered<'a, L> {
         })
     }
 
-    /// The events in order, each as by `apply`, up to the first that is refused. Their receipts are put after the others, which takes no memory.
+    /// Applies the events in order, up to the first refusal, and appends the receipts, which takes no memory.
     pub(crate) fn apply_row(
         &mut self,
         events: &[Event],
@@ -208,7 +214,6 @@ impl<'a, L: RunLedger> Ledgered<'a, L> {
         Ok(())
     }
 
-    /// Whether the shares count as many events as the history has.
     pub(crate) fn is_counted_by(&mut self, shares: Vec<Share<L>>) -> bool
         ensures count { IsTrue result → vec_len self.old.history ≡ sum_by (λ s. s.count) shares.items }
         ensures whole { 0 < L.parts → sum_by (λ s. s.token.parts) shares.items ≡ L.parts → IsTrue result }

@@ -1,6 +1,5 @@
-//! A running store with its history, and the lock behind which threads share it. Each event that is answered stands in the history with its
-//! reply, and threads count the events that they were answered in shares of one ledger.
-//! A store can also begin behind a history that was recorded.
+//! A running store with its history, and the lock by which threads share it. Threads count their accepted events in
+//! shares of one ledger. A store can also be restored from a history.
 #![tactic(auto)]
 
 mod executor;

@@ -1,4 +1,4 @@
-//! The store behind a history that was recorded, with that history.
+//! Restores a store and its history.
 
 ghost use Rattle.std.specs.Prelude.{◌≡◌, ◌≢◌, ◌≤◌, ◌++◌, length, IfOk, IfErr, OnOk};
 ghost use Rattle.ring_names.specs.declared.refusal.Refusal.TheVariants.{OutOfMemory, HistoryFull};
@@ -13,7 +13,7 @@ use ring_core::{World, follow};
 use ring_names::Refusal;
 use std::alloc::Global;
 
-// The entry once more, with the store's own reply, where the store answers it so. Out of memory comes last.
+// Applies the entry again, and returns a copy, if the store gives the same reply. Lack of memory comes last.
 fn retell(world: &mut World, place: u32, entry: &Entry) -> Result<Entry, Refusal>
     requires { HasNumber world.old entry.now.event }
     ensures entry { IfOk result (λ x. x ≡ entry.now) }
@@ -29,7 +29,6 @@ fn retell(world: &mut World, place: u32, entry: &Entry) -> Result<Entry, Refusal
     Ok(Entry { event, reply })
 }
 
-// All entries in order, for which the vector is made ready once.
 fn retell_all(world: &mut World, history: &mut Vec<Entry>, entries: &[Entry]) -> Result<(), Refusal>
     requires few { length entries.now ≤ 1000000 }
     requires puts { put_count world.old ≡ 0 }
@@ -47,7 +46,7 @@ fn retell_all(world: &mut World, history: &mut Vec<Entry>, entries: &[Entry]) ->
     Ok(())
 }
 
-/// The store behind the entries, and the entries once more.
+/// Returns the store after the entries, and a copy of them.
 pub(crate) fn retold<'a>(
     alloc: Global,
     approved: &'a Approved,

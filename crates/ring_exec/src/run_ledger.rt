@@ -8,8 +8,7 @@ ghost use Rattle.ring_exec.specs.Ledgers.{no_ring};
 use std::marker::Brand;
 use std::sync::ledger::Ledger;
 
-/// The ledger of the events of one run: by its type it is known which ring and plan the run follows, also of what comes out of a lock or
-/// from another thread.
+/// The ledger of one run's events. Its type names the ring and the plan, also for what comes out of a lock or from a thread.
 pub trait RunLedger: Ledger {
     ghost ring: { RingValue };
 

@@ -5,7 +5,7 @@ ghost use Rattle.std.specs.List.{sum_by};
 
 use std::sync::ledger::{Book, Ledger, Share as Token};
 
-/// A ledger's count of the events that its thread was answered. It goes to one thread at a time.
+/// A ledger's count of one thread's accepted events. One thread has it at a time.
 #[derive(Drop)]
 pub struct Share<L: Ledger> {
     pub(crate) count: u64,
@@ -15,14 +15,14 @@ pub struct Share<L: Ledger> {
 }
 
 impl<L: Ledger> Share<L> {
-    /// How many events it counts.
+    /// Returns how many events it counts.
     pub fn count(&self) -> u64
         ensures { result ≡ self.now.count }
     {
         self.count
     }
 
-    /// A share more, which counts no event yet and has one part of this share's; this one keeps its count and its other parts.
+    /// Splits off a share without events and with one part. This one keeps the count and the other parts.
     pub fn split(&mut self) -> Share<L>
         requires { 2 ≤ self.old.token.parts }
         ensures new { (result.count ≡ 0) × (result.token.parts ≡ 1) }
@@ -34,7 +34,7 @@ impl<L: Ledger> Share<L> {
     }
 }
 
-/// How many events the shares count together: as many as the book has, where they have all parts of the ledger.
+/// Returns how many events the shares count together: as many as the book has if they have all parts of the ledger.
 pub(crate) fn count_of<L: Ledger>(book: &mut Book<L>, mut shares: Vec<Share<L>>) -> u64
     requires { book.old.total ≤ 1000000 }
     ensures count { result ≡ sum_by (λ s. s.count) shares.items }

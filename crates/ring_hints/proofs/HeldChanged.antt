@@ -79,7 +79,7 @@ held_left old new holders pair held takes none x s k = by (is_of pair x s) refl
         ∙ sym (ap has_any (takes x s k ∙ ap (λ (b : Bool). cond b [] (hinted_at old x s k)) e))
     by false e = held x s k ∙ sym (ap has_any (takes x s k ∙ ap (λ (b : Bool). cond b [] (hinted_at old x s k)) e))
 
--- what holds where there is no error
+-- what holds if there is no error
 pub ok_where : {A E : Type 0} (r : Result A E) (P : Type 0) → is_err r ≡ false → OnOk r P → P
 ok_where (Ok a) P e h = h
 ok_where (Err e) P h k = absurd cc

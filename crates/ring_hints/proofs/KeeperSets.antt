@@ -123,7 +123,7 @@ with_without : (d b : Bool) → (d ≡ true → b ≡ false) → (not d && (d ||
 with_without true b h = sym (h refl)
 with_without false b h = refl
 
--- a test that holds of the pair alone is false where a test that it passes is
+-- a test that fails for the pair fails for each equal pair
 pub only_where : (pair : KeptFor) (test : ℕ → Slot → Bool) → test pair.keeper.0 pair.slot ≡ false → (x : ℕ) (s : Slot) → is_of pair x s ≡ true → test x s ≡ false
 only_where pair test h x s y =
     let p = and_parts (pair.keeper.0 == x) ((pair.slot.partition == s.partition) && (pair.slot.index == s.index)) y in

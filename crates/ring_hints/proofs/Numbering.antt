@@ -24,7 +24,7 @@ other_pairs f p q m n e h ne = elim (same_or_apart p q) [ inl same ↦ absurd (n
 other_places : (ps : List KeptFor) (p q : KeptFor) (m n : ℕ) → slice_get ps m ≡ Some p → slice_get ps n ≡ Some q → is_of p q.keeper.0 q.slot ≡ false → m ≢ n
 other_places ps p q m n e h other k = let l = subst (λ (j : ℕ). slice_get ps j ≡ Some p) k e in let same : p ≡ q = cc in let y = itself p q same in cc
 
--- ---- a pair is in the list exactly where it has a number
+-- ---- a pair is in the list exactly if it has a number
 
 place_of : (p : KeptFor) (ps : List KeptFor) → in_order p.keeper.0 p.slot ps ≡ true → (n : ℕ) × (slice_get ps n ≡ Some p)
 place_of p [] h = absurd cc

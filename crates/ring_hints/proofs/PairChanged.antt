@@ -64,7 +64,7 @@ some_held q pair None h kept none = cc
 some_held q pair (Some m) h kept none = let s = kept m refl in s.used (λ k. false_from_ne_true (has_place_for m k) (λ y. s.filled k y (none k)))
 
 module _ (q : ℕ) (pairs : Pairs) (maps : BTreeMap KeptFor SlotMap) (paired : ArePaired pairs maps) (kept : AreKept q maps) where
-  -- a pair is there exactly where some key has versions
+  -- a pair is there exactly if some key has versions
   pub keeps_is : (x : ℕ) (s : Slot) → (is_pair pairs x s ≡ false) ↔ ((k : List ℕ) → held_by (map_of maps (pair_of x s)) k ≡ [])
   keeps_is x s = (
     λ h k. none_held (map_of maps (pair_of x s)) k (sym (paired x s) ∙ h),
@@ -128,7 +128,7 @@ module _ (old new : BTreeMap KeptFor SlotMap) (pair : KeptFor) (o : Option SlotM
   paired_still pairs same paired = by_pair (λ (other : KeptFor). is_pair pairs other.keeper.0 other.slot ≡ is_some (map_of new other))
       (paired pair.keeper.0 pair.slot ∙ sym same ∙ sym (ap is_some p.here)) (λ other e. paired other.keeper.0 other.slot ∙ sym (ap is_some (p.others other e)))
 
-  -- another map stands where one stood
+  -- another map stands in the place of one
   pub paired_stays : (pairs : Pairs) → is_some o ≡ is_some (map_of old pair) → ArePaired pairs old → ArePaired pairs new
   paired_stays pairs same paired x s = paired_still pairs same paired (pair_of x s)
 

@@ -13,7 +13,7 @@ abbrev pub has_any : List Version → Bool
 has_any [] = false
 has_any (v ∷ vs) = true
 
--- a node is a key's holder for a slot exactly where it keeps a version of it
+-- a node is a key's holder for a slot exactly if it keeps a version of it
 abbrev pub AreHeld : Maps → SlotHolders → Type 0
 AreHeld kept holders = (x : ℕ) (s : Slot) (k : List ℕ) → holds_for holders s k x ≡ has_any (hinted_at kept x s k)
 

@@ -14,7 +14,8 @@ use Rattle.ring_hints.specs.Views.{by_keeper, is_of, pair_of}
 abbrev pub map_of : BTreeMap KeptFor SlotMap → KeptFor → Option SlotMap
 map_of maps pair = get by_keeper maps pair
 
--- the slot is one that a partition may have, the map is of a hash space of q partitions, has a key, and versions of each of its keys
+-- the slot is one that a partition may have. The map is for a hash space with q partitions, has a key, and has
+-- versions of each key
 pub record IsKept (q : ℕ) (pair : KeptFor) (m : SlotMap) : Type 0 where
   pub few : pair.slot.index < 7
   pub space : space_of m ≡ q
@@ -28,7 +29,7 @@ AreKept q maps = (pair : KeptFor) (m : SlotMap) → map_of maps pair ≡ Some m 
 pub AreKept-prop : (q : ℕ) (maps : BTreeMap KeptFor SlotMap) → IsProp (AreKept q maps)
 AreKept-prop q maps = hlevel props
 
--- a pair is there exactly where its map is
+-- a pair is there exactly if its map is
 abbrev pub ArePaired : Pairs → BTreeMap KeptFor SlotMap → Type 0
 ArePaired pairs maps = (x : ℕ) (s : Slot) → is_pair pairs x s ≡ is_some (map_of maps (pair_of x s))
 

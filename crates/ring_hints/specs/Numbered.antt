@@ -5,7 +5,7 @@ use Rattle.ring_hints.specs.declared.kept_for.KeptFor.{KeptFor}
 use Rattle.ring_hints.specs.declared.numbered.Numbered.TheInside.{Inside}
 use Rattle.ring_hints.specs.Views.{by_keeper}
 
--- a pair has the number n exactly where it is the n-th
+-- a pair has the number n exactly if it is the n-th
 abbrev pub ArePlaces : (KeptFor → Option ℕ) → List KeptFor → Type 0
 ArePlaces number_of pairs = (pair : KeptFor) (n : ℕ) → (number_of pair ≡ Some n) ↔ (slice_get pairs n ≡ Some pair)
 

@@ -7,7 +7,7 @@ use Rattle.store_maps.specs.declared.holders.Holders.{Holders}
 use Rattle.store_maps.specs.Holders.{holds}
 use Rattle.ring_hints.specs.declared.slot_holders.SlotHolders.{SlotHolders}
 
--- whether the node has something of the key, nobody where there are no holders
+-- whether the node has something of the key; no node has if there are no holders
 abbrev pub has_key : Option Holders → List ℕ → ℕ → Bool
 has_key None k x = false
 has_key (Some a) k x = holds a k x

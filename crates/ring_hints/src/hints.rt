@@ -12,9 +12,11 @@ use std::alloc::Global;
 use std::collections::BTreeSet;
 use store_maps::{KeyMap, SlotMap};
 
-/// The versions that nodes keep for slots whose nodes were out of reach, by keeper, slot and key. A look-up costs the logarithm of the number
-/// of pairs of a keeper and a slot, the key's length times that of the number of keys of its chunk, and its digest where the call takes no
-/// chunk. A refused growth leaves every reading as it was.
+/// The versions that stand-ins keep for slots with unreachable nodes, by keeper, slot and key. A refused call
+/// changes no reading.
+///
+/// A look-up costs the logarithm of the pairs, and the key's length times the logarithm of its chunk's keys. It
+/// costs a digest too if no chunk is given.
 #[derive(Drop)]
 pub struct Hints {
     alloc: Global,
@@ -51,7 +53,7 @@ impl Hints {
         }
     }
 
-    /// How many partitions the hash space has.
+    /// Returns the number of partitions of the hash space.
     pub fn q(&self) -> u32
         ensures value { result ≡ partitions self.now }
         ensures space { is_space result ≡ true }
@@ -59,21 +61,21 @@ impl Hints {
         self.kept.q()
     }
 
-    /// Whether the node keeps anything for the slot. One look-up, no memory.
+    /// Whether the node keeps anything for the slot. One look-up.
     pub fn keeps(&self, keeper: NodeId, slot: Slot) -> bool
         ensures { (result ≡ false) ↔ ((k : List ℕ) → hinted_at self.now keeper.0 slot k ≡ []) }
     {
         self.kept.keeps(keeper, slot)
     }
 
-    /// Whether the node keeps anything for any slot. Takes no memory.
+    /// Whether the node keeps anything for any slot.
     pub fn keeps_any(&self, keeper: NodeId) -> bool
         ensures { (result ≡ false) ↔ ((s : Slot) (k : List ℕ) → hinted_at self.now keeper.0 s k ≡ []) }
     {
         self.kept.keeps_any(keeper)
     }
 
-    /// Whether the node keeps anything for another slot of the partition. At most seven look-ups, no memory.
+    /// Whether the node keeps anything for another slot of the partition. At most seven look-ups.
     pub fn keeps_other(&self, keeper: NodeId, slot: Slot) -> bool
         ensures { (result ≡ false) ↔ ((s : Slot) → s.partition ≡ slot.partition → s.index ≢ slot.index → (k : List ℕ)
             → hinted_at self.now keeper.0 s k ≡ []) }
@@ -81,7 +83,7 @@ impl Hints {
         self.kept.keeps_other(keeper, slot)
     }
 
-    /// The versions of a key that the node keeps for the slot, if it has any. Takes no memory.
+    /// Returns the key's versions that the node keeps for the slot, if any.
     pub fn key_versions(&self, keeper: NodeId, slot: Slot, key: &[u8]) -> Option<&Versions>
         ensures some { IfSome result (λ v. (v.now ≡ hinted_at self.now keeper.0 slot key.now) × (v.now ≢ [])) }
         ensures none { IfNone result (hinted_at self.now keeper.0 slot key.now ≡ []) }
@@ -89,7 +91,7 @@ impl Hints {
         self.kept.key_versions(keeper, slot, key)
     }
 
-    /// The versions of a key of the chunk that the pair's node keeps for its slot, if it has any. Takes no memory.
+    /// Returns the versions of a key of the chunk that the pair's node keeps for its slot, if any.
     pub fn key_versions_in(&self, pair: KeptFor, chunk: u32, key: &[u8]) -> Option<&Versions>
         requires { chunk_of (partitions self.now) key.now ≡ chunk }
         ensures some { IfSome result
@@ -99,7 +101,7 @@ impl Hints {
         self.kept.key_versions_in(pair, chunk, key)
     }
 
-    /// The nodes that keep anything for the slot, ascending by number. Takes no memory.
+    /// Returns the nodes that keep anything for the slot, ascending.
     pub fn keepers(&self, slot: Slot) -> Option<&BTreeSet<NodeId>>
         ensures some { IfSome result (λ nodes. (x : ℕ)
             → (in_keepers x nodes.now.keys ≡ false) ↔ ((k : List ℕ) → hinted_at self.now x slot k ≡ [])) }
@@ -108,7 +110,7 @@ impl Hints {
         self.kept.keepers(slot)
     }
 
-    /// The n-th node with a slot for which it keeps anything, in an order that stays while nothing is added or taken. Takes no memory.
+    /// Returns the n-th pair of a keeper and a slot. The order stays until something is added or taken.
     pub fn nth(&self, n: u32) -> Option<(NodeId, Slot)>
         ensures value { result ≡ option_map (λ pair. (pair.keeper, pair.slot)) (slice_get (kept_pairs self.now) n) }
         ensures some { IfSome result (λ pair. Keeps self.now pair.0.0 pair.1) }
@@ -117,7 +119,7 @@ impl Hints {
         self.kept.nth(n)
     }
 
-    /// All that the pair's node keeps for its slot, if it keeps anything. Takes no memory.
+    /// Returns all that the pair's node keeps for its slot, if anything.
     pub fn map(&self, pair: KeptFor) -> Option<&SlotMap>
         ensures some { IfSome result
             (λ m. (k : List ℕ) → held_for m.now k ≡ hinted_at self.now pair.keeper.0 pair.slot k) }
@@ -127,7 +129,7 @@ impl Hints {
         self.kept.map(pair)
     }
 
-    /// The map of a chunk of what the pair's node keeps for its slot, if it keeps anything. Takes no memory.
+    /// Returns the map of a chunk that the pair's node keeps for its slot, if it keeps anything.
     pub fn chunk_map(&self, pair: KeptFor, chunk: u32) -> Option<&KeyMap>
         requires { chunk < 16 }
         ensures some { IfSome result (λ m. (k : List ℕ) → held m.now k ≡ chunk_hints self.now pair chunk k) }
@@ -139,7 +141,8 @@ impl Hints {
         self.kept.chunk_map(pair, chunk)
     }
 
-    /// The keys of a chunk of which any node keeps versions for the slot, in ascending byte order. Walks the maps of that chunk alone.
+    /// Returns the keys of a chunk that any node keeps for the slot, in ascending byte order. Walks only the maps of
+    /// that chunk.
     pub fn chunk_keys(&self, slot: Slot, chunk: u32) -> Result<Vec<Listed<u8>>, Refusal>
         requires { chunk < 16 }
         ensures ok { IfOk result (λ keys. AreKeysBut (IsUnhinted self.now slot chunk) keys.items) }
@@ -148,7 +151,7 @@ impl Hints {
         self.kept.chunk_keys(slot, chunk)
     }
 
-    /// Whether the node keeps anything of a chunk for the slot. One look-up, no memory.
+    /// Whether the node keeps anything of a chunk for the slot. One look-up.
     pub fn keeps_chunk(&self, keeper: NodeId, slot: Slot, chunk: u32) -> bool
         requires { chunk < 16 }
         ensures { (result ≡ false) ↔ ((k : List ℕ) → chunk_hints self.now (pair_of keeper.0 slot) chunk k ≡ []) }
@@ -156,7 +159,7 @@ impl Hints {
         self.kept.keeps_chunk(keeper, slot, chunk)
     }
 
-    /// The nodes that keep versions of the key for the slot, ascending by number. Takes no memory, and looks at no other keeper.
+    /// Returns the nodes that keep the key for the slot, ascending. Looks at no other keeper.
     pub fn key_keepers(&self, slot: Slot, key: &[u8]) -> Option<&BTreeSet<NodeId>>
         ensures some { IfSome result (λ nodes. (x : ℕ)
             → (in_keepers x nodes.now.keys ≡ false) ↔ (hinted_at self.now x slot key.now ≡ [])) }
@@ -165,7 +168,7 @@ impl Hints {
         self.holders.of(slot, key)
     }
 
-    /// Merges versions of a key of the chunk into what the pair's node keeps for its slot. Refused, it has changed nothing.
+    /// Merges versions of a key of the chunk into what the pair's node keeps for its slot.
     pub fn add_set(
         &mut self,
         pair: KeptFor,
@@ -190,7 +193,7 @@ impl Hints {
         added
     }
 
-    /// Merges one version of a key into what the node keeps for the slot. Refused, it has changed nothing.
+    /// Merges one version of a key into what the node keeps for the slot.
     pub fn add(
         &mut self,
         keeper: NodeId,
@@ -211,7 +214,7 @@ impl Hints {
         self.add_set(KeptFor { keeper, slot }, chunk, key, &one)
     }
 
-    /// Takes out what the node keeps for the slot. Takes no memory, and costs a look-up for each key of it.
+    /// Removes and returns what the node keeps for the slot. Costs a look-up for each of its keys.
     pub fn take(&mut self, keeper: NodeId, slot: Slot) -> Option<SlotMap>
         ensures some { IfSome result (λ m. (k : List ℕ) → held_for m k ≡ hinted_at self.old keeper.0 slot k) }
         ensures map_space { IfSome result (λ m. space_of m ≡ partitions self.old) }
@@ -227,7 +230,7 @@ impl Hints {
         taken
     }
 
-    /// Forgets all that the node keeps, for any slot. Takes no memory.
+    /// Removes all that the node keeps.
     pub fn drop_keeper(&mut self, keeper: NodeId)
         ensures gone { (s : Slot) (k : List ℕ) → hinted_at self.new keeper.0 s k ≡ [] }
         ensures others { (x : ℕ) (s : Slot) (k : List ℕ) → x ≢ keeper.0
@@ -239,7 +242,7 @@ impl Hints {
         }
     }
 
-    /// A copy of the hints.
+    /// Copies the hints.
     pub fn try_copy(&self) -> Result<Hints, Refusal>
         ensures space { IfOk result (λ a. partitions a ≡ partitions self.now) }
         ensures same { IfOk result (AreSameHints self.now) }

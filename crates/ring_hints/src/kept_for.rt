@@ -1,4 +1,4 @@
-//! Who keeps hints for what.
+//! Keepers of hints, with their slots.
 
 use ring_names::{NodeId, Slot};
 

@@ -1,4 +1,6 @@
-//! What stand-ins keep for slots whose nodes were out of reach (hinted handoff: DeCandia et al. 2007, section 4.6).
+//! What stand-ins keep for slots with unreachable nodes (hinted handoff: DeCandia et al. 2007, section 4.6).
+//!
+//! A function without a `Result` takes no memory.
 #![tactic(auto)]
 
 mod hints;

@@ -13,7 +13,7 @@ use std::alloc::Global;
 use std::collections::{BTreeMap, BTreeSet};
 use store_maps::{KeyMap, SlotMap};
 
-/// What nodes keep for slots, a map for each keeper and slot.
+/// What nodes keep for slots, a map for each keeper and slot. Its methods are those of `Hints`, at the same cost.
 #[derive(Drop)]
 pub(crate) struct Maps {
     alloc: Global,
@@ -40,7 +40,6 @@ impl Maps {
     ghost use Rattle.ring_hints.specs.Kept.{map_of, IsKept, PutsMap};
     ghost use Rattle.ring_hints.specs.Views.{pair_of, in_keepers};
 
-    // No hints, in a hash space of q partitions.
     pub(crate) fn new(alloc: Global, q: u32) -> Maps
         requires { is_space q ≡ true }
         ensures space { partitions result ≡ q }
@@ -54,7 +53,6 @@ impl Maps {
         }
     }
 
-    // How many partitions the hash space has.
     pub(crate) fn q(&self) -> u32
         ensures value { result ≡ partitions self.now }
         ensures space { is_space result ≡ true }
@@ -62,21 +60,18 @@ impl Maps {
         self.q
     }
 
-    // Whether the node keeps anything for the slot. One look-up, no memory.
     pub(crate) fn keeps(&self, keeper: NodeId, slot: Slot) -> bool
         ensures { (result ≡ false) ↔ ((k : List ℕ) → hinted_at self.now keeper.0 slot k ≡ []) }
     {
         self.pairs.has(KeptFor { keeper, slot })
     }
 
-    // Whether the node keeps anything for any slot. Takes no memory.
     pub(crate) fn keeps_any(&self, keeper: NodeId) -> bool
         ensures { (result ≡ false) ↔ ((s : Slot) (k : List ℕ) → hinted_at self.now keeper.0 s k ≡ []) }
     {
         self.pairs.has_keeper(keeper)
     }
 
-    // Whether the node keeps anything for another slot of the partition. At most seven look-ups, no memory.
     pub(crate) fn keeps_other(&self, keeper: NodeId, slot: Slot) -> bool
         ensures { (result ≡ false) ↔ ((s : Slot) → s.partition ≡ slot.partition → s.index ≢ slot.index → (k : List ℕ)
             → hinted_at self.now keeper.0 s k ≡ []) }
@@ -90,7 +85,6 @@ impl Maps {
         false
     }
 
-    // The versions of a key that the node keeps for the slot, if it has any. Takes no memory.
     pub(crate) fn key_versions(&self, keeper: NodeId, slot: Slot, key: &[u8]) -> Option<&Versions>
         ensures some { IfSome result (λ v. (v.now ≡ hinted_at self.now keeper.0 slot key.now) × (v.now ≢ [])) }
         ensures none { IfNone result (hinted_at self.now keeper.0 slot key.now ≡ []) }
@@ -99,7 +93,6 @@ impl Maps {
         self.key_versions_in(KeptFor { keeper, slot }, chunk, key)
     }
 
-    // The versions of a key of the chunk that the pair's node keeps for its slot, if it has any. Takes no memory.
     pub(crate) fn key_versions_in(&self, pair: KeptFor, chunk: u32, key: &[u8]) -> Option<&Versions>
         requires { chunk_of (partitions self.now) key.now ≡ chunk }
         ensures some { IfSome result
@@ -112,7 +105,6 @@ impl Maps {
         }
     }
 
-    // The nodes that keep anything for the slot, ascending by number. Takes no memory.
     pub(crate) fn keepers(&self, slot: Slot) -> Option<&BTreeSet<NodeId>>
         ensures some { IfSome result (λ nodes. (x : ℕ)
             → (in_keepers x nodes.now.keys ≡ false) ↔ ((k : List ℕ) → hinted_at self.now x slot k ≡ [])) }
@@ -121,7 +113,6 @@ impl Maps {
         self.pairs.keepers(slot)
     }
 
-    // The n-th node with a slot for which it keeps anything, in an order that stays while nothing is added or taken. Takes no memory.
     pub(crate) fn nth(&self, n: u32) -> Option<(NodeId, Slot)>
         ensures value { result ≡ option_map (λ pair. (pair.keeper, pair.slot)) (slice_get (kept_pairs self.now) n) }
         ensures some { IfSome result (λ pair. Keeps self.now pair.0.0 pair.1) }
@@ -133,7 +124,6 @@ impl Maps {
         }
     }
 
-    // All that the pair's node keeps for its slot, if it keeps anything. Takes no memory.
     pub(crate) fn map(&self, pair: KeptFor) -> Option<&SlotMap>
         ensures some { IfSome result
             (λ m. (k : List ℕ) → held_for m.now k ≡ hinted_at self.now pair.keeper.0 pair.slot k) }
@@ -143,7 +133,6 @@ impl Maps {
         self.maps.get(&pair)
     }
 
-    // The map of a chunk of what the pair's node keeps for its slot, if it keeps anything. Takes no memory.
     pub(crate) fn chunk_map(&self, pair: KeptFor, chunk: u32) -> Option<&KeyMap>
         requires { chunk < 16 }
         ensures some { IfSome result (λ m. (k : List ℕ) → held m.now k ≡ chunk_hints self.now pair chunk k) }
@@ -158,7 +147,6 @@ impl Maps {
         }
     }
 
-    // What these nodes keep of the chunk for the slot, merged aside.
     fn gather(&self, keepers: &BTreeSet<NodeId>, slot: Slot, chunk: u32) -> Result<KeyMap, Refusal>
         requires { chunk < 16 }
         ensures each { IfOk result (λ m. (k : List ℕ) → held m k ≡ [] → (x : ℕ) → in_keepers x keepers.now.keys ≡ true
@@ -179,7 +167,6 @@ impl Maps {
         Ok(all)
     }
 
-    // The keys of a chunk of which any node keeps versions for the slot, in ascending byte order. Walks the maps of that chunk alone.
     pub(crate) fn chunk_keys(&self, slot: Slot, chunk: u32) -> Result<Vec<Listed<u8>>, Refusal>
         requires { chunk < 16 }
         ensures ok { IfOk result (λ keys. AreKeysBut (IsUnhinted self.now slot chunk) keys.items) }
@@ -191,7 +178,6 @@ impl Maps {
         }
     }
 
-    // Whether the node keeps anything of a chunk for the slot. One look-up, no memory.
     pub(crate) fn keeps_chunk(&self, keeper: NodeId, slot: Slot, chunk: u32) -> bool
         requires { chunk < 16 }
         ensures { (result ≡ false) ↔ ((k : List ℕ) → chunk_hints self.now (pair_of keeper.0 slot) chunk k ≡ []) }
@@ -202,7 +188,7 @@ impl Maps {
         }
     }
 
-    // The map of a pair that had none.
+    // Sets the map of a pair without one.
     fn put(&mut self, pair: KeptFor, map: SlotMap) -> Result<(), Refusal>
         requires absent { map_of self.old.maps pair ≡ None }
         requires kept { IsKept (partitions self.old) pair map }
@@ -219,7 +205,6 @@ impl Maps {
         Ok(())
     }
 
-    // Merges versions of a key of the chunk into what the pair's node keeps for its slot. Refused, it has changed nothing.
     pub(crate) fn add_set(
         &mut self,
         pair: KeptFor,
@@ -243,7 +228,6 @@ impl Maps {
         self.put(pair, map)
     }
 
-    // Takes out what the node keeps for the slot. Takes no memory.
     pub(crate) fn take(&mut self, keeper: NodeId, slot: Slot) -> Option<SlotMap>
         ensures some { IfSome result (λ m. (k : List ℕ) → held_for m k ≡ hinted_at self.old keeper.0 slot k) }
         ensures map_space { IfSome result (λ m. space_of m ≡ partitions self.old) }
@@ -257,7 +241,6 @@ impl Maps {
         self.maps.remove(&pair)
     }
 
-    // A slot for which the node keeps anything, if there is one.
     pub(crate) fn slot_of(&self, keeper: NodeId) -> Option<Slot>
         ensures some { IfSome result (λ s. Keeps self.now keeper.0 s) }
         ensures none { IfNone result ((s : Slot) (k : List ℕ) → hinted_at self.now keeper.0 s k ≡ []) }
@@ -265,7 +248,6 @@ impl Maps {
         self.pairs.slot_of(keeper)
     }
 
-    // A copy of the hints.
     pub(crate) fn try_copy(&self) -> Result<Maps, Refusal>
         ensures space { IfOk result (λ a. partitions a ≡ partitions self.now) }
         ensures same { IfOk result (AreSameHints self.now) }

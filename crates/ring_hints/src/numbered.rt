@@ -14,8 +14,8 @@ use std::alloc::Global;
 use std::collections::BTreeMap;
 use std::marker::Model;
 
-/// Pairs, each numbered by its place, from 0. Texts choose the pairs, so these are ordered and not hashed: looking one up costs the logarithm of
-/// how many there are, whatever they are.
+/// Pairs, numbered by place from 0. Texts choose the pairs, so these are ordered and not hashed: a look-up always costs
+/// the logarithm of their number.
 #[derive(Drop)]
 pub(crate) struct Numbered {
     pairs: Vec<KeptFor>,
@@ -36,7 +36,6 @@ impl Model for Numbered {
 }
 
 impl Numbered {
-    /// No pairs.
     pub(crate) fn new(alloc: Global) -> Numbered
         ensures { result ≡ [] }
     {
@@ -46,21 +45,19 @@ impl Numbered {
         }
     }
 
-    /// Whether the pair is one of them. Takes no memory.
     pub(crate) fn has(&self, pair: KeptFor) -> bool
         ensures { result ≡ in_order pair.keeper.0 pair.slot self.now }
     {
         self.numbers.contains_key(&pair)
     }
 
-    /// The pair of the number, if there is one. Takes no memory.
     pub(crate) fn nth(&self, number: u32) -> Option<KeptFor>
         ensures { result ≡ slice_get self.now number }
     {
         self.pairs.get(number as usize).copied()
     }
 
-    /// Puts the pair last.
+    /// Appends the pair.
     pub(crate) fn push(&mut self, pair: KeptFor) -> Result<(), Refusal>
         requires { in_order pair.keeper.0 pair.slot self.old ≡ false }
         ensures ok { OnOk result (self.new ≡ self.old ++ pair ∷ []) }
@@ -73,7 +70,7 @@ impl Numbered {
         Ok(())
     }
 
-    /// Takes the pair out, if it is there; the last one takes its number. Takes no memory.
+    /// Removes the pair, if present; the last one takes its number.
     pub(crate) fn swap_remove(&mut self, pair: KeptFor)
         ensures pairs { (x : ℕ) (s : Slot) → in_order x s self.new ≡ (not (is_of pair x s) && in_order x s self.old) }
         ensures numbers { (n : ℕ) → slice_get self.old n ≡ Some pair → self.new ≡ swap_remove self.old n pair }
@@ -90,7 +87,6 @@ impl Numbered {
     }
 }
 
-// The pair, which has a number, gets this one.
 fn renumber(numbers: &mut BTreeMap<KeptFor, usize>, pair: KeptFor, number: usize)
     requires { IsSome (get by_keeper numbers.old pair) }
     ensures { Updates by_keeper numbers.old numbers.new pair (Some number) }

@@ -9,8 +9,7 @@ use ring_names::{NodeId, Refusal, Slot};
 use std::alloc::Global;
 use std::collections::BTreeSet;
 
-/// Keepers with their slots, found by either, and numbered. Each call costs a few look-ups, none more than the logarithm of how many pairs
-/// there are.
+/// Keepers with their slots, numbered, and found by either. Calls cost a few look-ups, at most the logarithm of the pairs each.
 #[derive(Drop)]
 pub struct Pairs {
     order: Numbered,
@@ -38,21 +37,21 @@ impl Pairs {
         }
     }
 
-    /// Whether the pair is there. Takes no memory.
+    /// Whether the pair is there.
     pub fn has(&self, pair: KeptFor) -> bool
         ensures { result ≡ is_pair self.now pair.keeper.0 pair.slot }
     {
         self.order.has(pair)
     }
 
-    /// Whether the node keeps hints for any slot. Takes no memory.
+    /// Whether the node keeps hints for any slot.
     pub fn has_keeper(&self, keeper: NodeId) -> bool
         ensures { IsTrue result ↔ ((s : Slot) × (is_pair self.now keeper.0 s ≡ true)) }
     {
         self.slot_of(keeper).is_some()
     }
 
-    /// A slot for which the node keeps hints, if there is one. Takes no memory.
+    /// Returns a slot for which the node keeps hints, if any.
     pub fn slot_of(&self, keeper: NodeId) -> Option<Slot>
         ensures some { IfSome result (λ s. is_pair self.now keeper.0 s ≡ true) }
         ensures none { IfNone result ((s : Slot) → is_pair self.now keeper.0 s ≡ false) }
@@ -63,7 +62,7 @@ impl Pairs {
         }
     }
 
-    /// The nodes that keep hints for the slot, by number.
+    /// Returns the nodes that keep hints for the slot, ascending.
     pub fn keepers(&self, slot: Slot) -> Option<&BTreeSet<NodeId>>
         ensures some { IfSome result (λ s. s.now.keys ≡ keepers_of self.now slot) }
         ensures none { IfNone result (keepers_of self.now slot ≡ []) }
@@ -71,7 +70,7 @@ impl Pairs {
         self.keepers.values(&slot)
     }
 
-    /// The n-th pair, in an order that stays while the pairs do. Takes no memory.
+    /// Returns the n-th pair, in an order that stays while the pairs do.
     pub fn nth(&self, n: u32) -> Option<KeptFor>
         ensures value { result ≡ slice_get (pairs_of self.now) n }
         ensures some { IfSome result (λ pair. is_pair self.now pair.keeper.0 pair.slot ≡ true) }
@@ -80,7 +79,7 @@ impl Pairs {
         self.order.nth(n)
     }
 
-    /// Adds the pair, if it is not there.
+    /// Adds the pair, unless present.
     pub fn add(&mut self, pair: KeptFor) -> Result<(), Refusal>
         ensures ok { OnOk result
             ((x : ℕ) (s : Slot) → is_pair self.new x s ≡ (is_of pair x s || is_pair self.old x s)) }
@@ -103,7 +102,7 @@ impl Pairs {
         Ok(())
     }
 
-    /// Takes the pair out, if it is there; the last one takes its number. Takes no memory.
+    /// Removes the pair, if present; the last one takes its number.
     pub fn remove(&mut self, pair: KeptFor)
         ensures pairs { (x : ℕ) (s : Slot) → is_pair self.new x s ≡ (not (is_of pair x s) && is_pair self.old x s) }
         ensures count { pair_count self.new + (if is_pair self.old pair.keeper.0 pair.slot then 1 else 0)

@@ -1,4 +1,4 @@
-//! Values in sets, by key.
+//! Sets of values by key.
 
 ghost use Rattle.std.specs.Prelude.{◌≡◌, [], true, false, if◌then◌else◌, IfErr, IfNone, IfSome, OnOk, OnErr};
 ghost use Rattle.std.specs.List.{list_any};
@@ -12,7 +12,7 @@ use std::alloc::Global;
 use std::collections::{BTreeSet, HashMap};
 use std::hash::Hash;
 
-/// A set of values for each key, empty where no value was added.
+/// A set of values for each key, empty by default.
 #[derive(Drop)]
 pub struct Sets<K: Eq + Hash, V: Ord> {
     alloc: Global,
@@ -20,7 +20,7 @@ pub struct Sets<K: Eq + Hash, V: Ord> {
 }
 
 impl<K: Eq + Hash + Drop, V: Ord + Drop> Sets<K, V> {
-    /// Each set is empty.
+    /// Starts with empty sets.
     pub fn new(alloc: Global) -> Sets<K, V>
         ensures { (key : K) → set_at K.eq result key ≡ [] }
     {
@@ -30,7 +30,7 @@ impl<K: Eq + Hash + Drop, V: Ord + Drop> Sets<K, V> {
         }
     }
 
-    /// The values of the key, in order.
+    /// Returns the values of the key, in order.
     pub fn values(&self, key: &K) -> Option<&BTreeSet<V>>
         ensures some { IfSome result (λ s. s.now.keys ≡ set_at K.eq self.now key.now) }
         ensures none { IfNone result (set_at K.eq self.now key.now ≡ []) }
@@ -38,7 +38,7 @@ impl<K: Eq + Hash + Drop, V: Ord + Drop> Sets<K, V> {
         self.sets.get(key)
     }
 
-    /// Adds the value to the set of the key.
+    /// Adds the value to the key's set.
     pub fn add(&mut self, key: K, value: V) -> Result<(), Refusal>
         ensures ok { OnOk result (AddsValue K.eq V.cmp self.old self.new key value) }
         ensures err { OnErr result (AreSame K.eq self.old self.new) }
@@ -57,7 +57,7 @@ impl<K: Eq + Hash + Drop, V: Ord + Drop> Sets<K, V> {
         Ok(())
     }
 
-    /// Takes the value out of the set of the key, if it is there. Takes no memory.
+    /// Removes the value from the key's set, if present.
     pub fn remove(&mut self, key: &K, value: &V)
         ensures each { (k : K) → set_at K.eq self.new k ≡ (if K.eq k key.now then remove_key (is_at (V.cmp value.now))
             (set_at K.eq self.old k) else set_at K.eq self.old k) }

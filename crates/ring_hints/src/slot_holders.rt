@@ -6,7 +6,7 @@ use std::alloc::Global;
 use std::collections::{BTreeSet, HashMap};
 use store_maps::{Holders, SlotMap};
 
-/// The keepers of each key, slot by slot, so that whoever looks for those of one key walks no other.
+/// The keepers of each key, slot by slot, so that a search for one key sees only its keepers.
 #[derive(Drop)]
 pub(crate) struct SlotHolders {
     alloc: Global,
@@ -23,7 +23,6 @@ impl SlotHolders {
     ghost use Rattle.ring_hints.specs.SlotHolders.{is_slot, holders_for, holds_for};
     ghost use Rattle.ring_hints.specs.Views.{is_of};
 
-    /// No keeper of any key.
     pub(crate) fn new(alloc: Global) -> SlotHolders
         ensures { (s : Slot) (k : List ℕ) (x : ℕ) → holds_for result s k x ≡ false }
     {
@@ -33,7 +32,7 @@ impl SlotHolders {
         }
     }
 
-    /// The keepers of the key for the slot, ascending by number. Takes no memory.
+    /// The keepers of the key for the slot, ascending.
     pub(crate) fn of(&self, slot: Slot, key: &[u8]) -> Option<&BTreeSet<NodeId>>
         ensures some { IfSome result (λ nodes. (x : ℕ) → is_among x nodes.now.keys ≡ holds_for self.now slot key.now x) }
         ensures none { IfNone result ((x : ℕ) → holds_for self.now slot key.now x ≡ false) }
@@ -44,7 +43,6 @@ impl SlotHolders {
         }
     }
 
-    /// The pair's node is one of the key's keepers for its slot from here on.
     pub(crate) fn add(&mut self, pair: KeptFor, key: &[u8]) -> Result<(), Refusal>
         ensures ok { OnOk result ((s : Slot) (k : List ℕ) (x : ℕ)
             → holds_for self.new s k x ≡ ((is_of pair x s && bytes_eq key.now k) || holds_for self.old s k x)) }
@@ -60,7 +58,6 @@ impl SlotHolders {
         self.put(pair.slot, holders)
     }
 
-    // These holders for the slot.
     fn put(&mut self, slot: Slot, holders: Holders) -> Result<(), Refusal>
         ensures ok { OnOk result ((s : Slot)
             → holders_for self.new s ≡ (if is_slot slot s then Some holders else holders_for self.old s)) }
@@ -72,7 +69,6 @@ impl SlotHolders {
         Ok(())
     }
 
-    /// The pair's node is none of the key's keepers for its slot from here on. Takes no memory.
     pub(crate) fn remove(&mut self, pair: KeptFor, key: &[u8])
         ensures { (s : Slot) (k : List ℕ) (x : ℕ)
             → holds_for self.new s k x ≡ (not (is_of pair x s && bytes_eq key.now k) && holds_for self.old s k x) }
@@ -82,7 +78,7 @@ impl SlotHolders {
         }
     }
 
-    /// The pair's node is none of those of the map's keys for its slot from here on. Takes no memory, and costs a look-up for each of these keys.
+    /// Removes the pair's node from the keepers of all the map's keys for its slot. Costs a look-up for each.
     pub(crate) fn forget(&mut self, pair: KeptFor, map: &SlotMap)
         ensures others { (s : Slot) (k : List ℕ) (x : ℕ)
             → is_of pair x s ≡ false → holds_for self.new s k x ≡ holds_for self.old s k x }
@@ -95,7 +91,6 @@ impl SlotHolders {
         }
     }
 
-    /// A copy of all slots' holders.
     pub(crate) fn try_copy(&self) -> Result<SlotHolders, Refusal>
         ensures same { IfOk result (λ a. (s : Slot) (k : List ℕ) (x : ℕ) → holds_for a s k x ≡ holds_for self.now s k x) }
         ensures memory { IfErr result (λ e. e ≡ OutOfMemory) }

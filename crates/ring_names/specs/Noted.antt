@@ -19,6 +19,6 @@ first_place places sum = if nat_lt 4294967295 places then 0 else sum * places / 
 abbrev pub noted_at : List Noted → ℕ → ℕ → Option ℕ
 noted_at table place sum = elim (slice_get table place) [ Some e ↦ (if (e.sum == sum) && nat_lt 0 e.next then Some (e.next - 1) else None) | None ↦ None ]
 
--- the number was noted of the bytes: at one of eight places, from that of their sum on
+-- the number was noted of the bytes: at one of eight places, from their sum's place on
 abbrev pub IsNoted : List Noted → List ℕ → ℕ → Type 0
 IsNoted table bytes n = (near : ℕ) × (near < 8) × (noted_at table (first_place (length table) (sum_of bytes) + near) (sum_of bytes) ≡ Some n)

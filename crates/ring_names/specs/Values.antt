@@ -8,7 +8,7 @@ use Rattle.std.specs.declared.sync.Arc.{Arc}
 abbrev pub is_value : List ℕ → Bool
 is_value bs = nat_le (length bs) 1024
 
--- the items that are shared, none where there are none
+-- the items that are shared, or none if nothing is shared
 abbrev pub shared_items : {T A B : Type 0} → Option (Arc (Vec T A) B) → List T
 shared_items None = []
 shared_items (Some a) = (arc_value a).items

@@ -1,6 +1,6 @@
 //! A choice of partitions.
 
-/// Partitions that a part of a history sees.
+/// The partitions that a part of a history sees.
 #[derive(Clone, Copy, Debug, PartialEq, Eq)]
 pub enum Choice {
     /// Partition p if p modulo `of` is `part`; `of` is not 0.

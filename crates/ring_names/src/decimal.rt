@@ -6,11 +6,11 @@ ghost use Rattle.std.specs.Fmt.{decimal};
 use itoa::Buffer;
 use std::alloc::AllocError;
 
-/// Adds the number in decimal, without sign and without leading zeros.
+/// Adds the number in decimal, without sign or leading zeros.
 pub fn push_decimal(out: &mut Vec<u8>, number: u32) -> Result<(), AllocError>
     ensures ok { OnOk result (out.new.items ≡ out.old.items ++ decimal number) }
 {
-    // Most numbers of replies are of one digit.
+    // Most numbers of replies have one digit.
     if number < 10 {
         out.push(b'0' + number as u8)?;
         return Ok(());

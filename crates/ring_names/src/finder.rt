@@ -1,4 +1,4 @@
-//! Finding the numbers of bytes.
+//! Finds the numbers of bytes.
 
 ghost use Rattle.std.specs.Prelude.{◌≡◌, ◌⊎◌, ◌++◌, ◌∷◌, [], None, Some, map, slice_get, OnOk, OnErr};
 ghost use Rattle.ring_names.specs.Finding.{Knows, FindsAll, IsSame, TakesNoted, TakesOther};
@@ -8,18 +8,19 @@ use crate::noted::{FREE, Noted, find, note};
 use std::alloc::{AllocError, Global};
 use std::collections::BTreeMap;
 
-/// Finds the numbers of bytes that stand in a list by number: by a sum of the bytes, and where too many have sums that are near one another, in
-/// order. So bytes that are chosen to have such sums cost their length times the logarithm of how many there are, and others their length.
+/// Finds the numbers of bytes in a list: by a checksum, or by order if too many checksums are close.
+///
+/// So bytes chosen to collide cost their length times the logarithm of their number, others their length.
 #[derive(Drop)]
 pub struct Finder {
     alloc: Global,
     table: Vec<Noted>,
-    // those that the table had no place for
+    // those without a place in the table
     others: BTreeMap<Vec<u8>, usize>,
 }
 
 impl Finder {
-    /// Of no bytes.
+    /// Starts without bytes.
     pub fn new(alloc: Global) -> Finder
         ensures { Knows result [] }
     {
@@ -30,7 +31,7 @@ impl Finder {
         }
     }
 
-    /// The number of these bytes, if they are in the list. Takes no memory.
+    /// Returns the number of these bytes, if they are in the list.
     pub fn number_of(&self, list: &[Vec<u8>], bytes: &[u8]) -> Option<usize>
         requires { Knows self.now (map (λ b. b.items) list.now) }
         ensures { result ≡ place (map (λ b. b.items) list.now) bytes.now }
@@ -44,7 +45,7 @@ impl Finder {
         }
     }
 
-    /// Takes in bytes that are new, and will be the next of the list. Refused, it knows what it knew. Costs the bytes of the list where their number
+    /// Adds new bytes, the next of the list. If refused, nothing changes. Costs the bytes of the list when their number
     /// has doubled.
     pub fn add(&mut self, list: &[Vec<u8>], bytes: &[u8]) -> Result<(), AllocError>
         requires knows { Knows self.old (map (λ b. b.items) list.now) }
@@ -56,7 +57,6 @@ impl Finder {
         self.keep(bytes, list.len())
     }
 
-    // Keeps the number of these bytes: in the table, or beside it.
     fn keep(&mut self, bytes: &[u8], number: usize) -> Result<(), AllocError>
         ensures ok { OnOk result (TakesNoted self.old self.new bytes.now number ⊎ TakesOther self.old self.new bytes.now number) }
         ensures err { OnErr result (IsSame self.old self.new) }
@@ -67,7 +67,6 @@ impl Finder {
         self.keep_other(bytes, number)
     }
 
-    // Keeps the number of these bytes beside the table.
     fn keep_other(&mut self, bytes: &[u8], number: usize) -> Result<(), AllocError>
         ensures ok { OnOk result (TakesOther self.old self.new bytes.now number) }
         ensures err { OnErr result (IsSame self.old self.new) }
@@ -77,13 +76,13 @@ impl Finder {
         Ok(())
     }
 
-    // A larger table, where the list fills half of this one.
+    // Makes a larger table once the list fills half of this one.
     fn make_room(&mut self, list: &[Vec<u8>]) -> Result<(), AllocError>
         requires { Knows self.old (map (λ b. b.items) list.now) }
         ensures { Knows self.new (map (λ b. b.items) list.now) }
     {
         let count = list.len();
-        // Above the second bound there is no memory for more, and below it the sum stays in range.
+        // Above the second bound memory cannot suffice, and below it the sum stays in range.
         if count < self.table.len() / 2 || count > 1 << 40 {
             return Ok(());
         }
@@ -93,7 +92,6 @@ impl Finder {
         Ok(())
     }
 
-    // Notes each number of the list in a table that is to take the place of this one.
     fn fill(&mut self, table: &mut [Noted], list: &[Vec<u8>]) -> Result<(), AllocError>
         requires { Knows self.old (map (λ b. b.items) list.now) }
         ensures ok { OnOk result (FindsAll table.new self.new (map (λ b. b.items) list.now)) }

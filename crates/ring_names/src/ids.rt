@@ -1,14 +1,14 @@
-//! Numbers that are told apart by their types.
+//! Numbers with types of their own.
 
 /// A node, by its place among the node lines of its ring, from 0.
 #[derive(Clone, Copy, Debug, PartialEq, Eq, PartialOrd, Ord, Hash)]
 pub struct NodeId(pub u32);
 
-/// A writer, by the order of first sight in its bundle, from 0.
+/// A writer, by order of first sight in its bundle, from 0.
 #[derive(Clone, Copy, Debug, PartialEq, Eq)]
 pub struct WriterId(pub u32);
 
-/// One of the places that keep a partition's keys: slot `index` of partition `partition`, both from 0.
+/// Slot `index` of partition `partition`, both from 0. It keeps the partition's keys.
 #[derive(Clone, Copy, Debug, PartialEq, Eq, PartialOrd, Ord, Hash)]
 pub struct Slot {
     pub partition: u32,

@@ -1,5 +1,6 @@
-//! What every crate of the workspace names: the refusals, the numbers of nodes, writers and slots,
-//! and the names that are numbered in order of first sight.
+//! What every crate names: refusals, the numbers of nodes, writers and slots, and names numbered by first sight.
+//!
+//! A function without a `Result` takes no memory.
 #![tactic(auto)]
 
 mod choice;

@@ -1,10 +1,10 @@
-//! A vector that contracts see as the list of its items.
+//! A vector that contracts see as a list.
 
 ghost use Rattle.std.specs.Prelude.{◌≡◌};
 
 use std::marker::Model;
 
-/// Items in order. A contract sees the list alone, so two of these are equal where their items are.
+/// Items in order. Contracts see only the list, so two are equal if their items are.
 #[derive(Debug, Drop)]
 pub struct Listed<T> {
     items: Vec<T>,
@@ -19,14 +19,14 @@ impl<T> Model for Listed<T> {
 }
 
 impl<T> Listed<T> {
-    /// The items of a vector, which takes no memory.
+    /// Wraps a vector.
     pub fn from_vec(items: Vec<T>) -> Listed<T>
         ensures { result ≡ items.items }
     {
         Listed { items }
     }
 
-    /// The vector again, which takes no memory.
+    /// Returns the vector.
     pub fn into_vec(self) -> Vec<T>
         ensures { result.items ≡ self }
     {

@@ -1,4 +1,4 @@
-//! Values in lists, by key.
+//! Lists of values by key.
 
 ghost use Rattle.std.specs.Prelude.{◌≡◌, [], IfErr, OnOk, OnErr};
 ghost use Rattle.ring_names.specs.declared.refusal.Refusal.TheVariants.{OutOfMemory};
@@ -9,8 +9,10 @@ use std::alloc::Global;
 use std::collections::HashMap;
 use std::hash::Hash;
 
-/// A list of values for each key, empty where no value was added. A look-up is by a hash with a fixed seed: it is for keys of which
-/// there are few, as nodes and slots, and not for keys that the author of a text chooses.
+/// A list of values for each key, empty by default.
+///
+/// Keys are hashed with a fixed seed. So use it for few keys, such as nodes and slots, not for keys chosen by
+/// the author of a text.
 #[derive(Drop)]
 pub struct Lists<K: Eq + Hash, V> {
     alloc: Global,
@@ -18,7 +20,7 @@ pub struct Lists<K: Eq + Hash, V> {
 }
 
 impl<K: Eq + Hash + Drop, V: Drop> Lists<K, V> {
-    /// Each list is empty.
+    /// Starts with empty lists.
     pub fn new(alloc: Global) -> Lists<K, V>
         ensures { (key : K) → list_at K.eq result key ≡ [] }
     {
@@ -28,7 +30,7 @@ impl<K: Eq + Hash + Drop, V: Drop> Lists<K, V> {
         }
     }
 
-    /// The values of the key, in the order in which they were added.
+    /// Returns the values of the key, in the order of their addition.
     #[inline(always)]
     pub fn items(&self, key: &K) -> &[V]
         ensures { result.now ≡ list_at K.eq self.now key.now }
@@ -39,7 +41,7 @@ impl<K: Eq + Hash + Drop, V: Drop> Lists<K, V> {
         }
     }
 
-    /// Puts the value last in the list of the key.
+    /// Adds the value to the end of the key's list.
     #[inline(always)]
     pub fn add(&mut self, key: K, value: V) -> Result<(), Refusal>
         ensures ok { OnOk result (AddsLast K.eq self.old self.new key value) }

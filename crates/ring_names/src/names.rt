@@ -9,12 +9,12 @@ use crate::refusal::Refusal;
 use std::alloc::Global;
 use std::marker::Model;
 
-/// Names, each numbered by its place in order of first sight, from 0; fewer than 2^32.
+/// Names, numbered by first sight from 0; fewer than 2^32.
 pub struct Names {
     names: Numbered,
 }
 
-// Dropped by a call, so that no crate above goes through its parts wherever a list of names ends.
+// Dropping is a call, so crates above need not check the parts.
 impl Drop for Names {
     fn drop(self) {
         let Names { names } = self;
@@ -33,7 +33,7 @@ impl Model for Names {
 }
 
 impl Names {
-    /// No names, in memory of `alloc` once there are some.
+    /// No names. Memory comes from `alloc`.
     pub fn new(alloc: Global) -> Names
         ensures { result ≡ [] }
     {
@@ -42,14 +42,14 @@ impl Names {
         }
     }
 
-    /// How many names there are.
+    /// Counts the names.
     pub fn len(&self) -> u32
         ensures { result ≡ length self.now }
     {
         self.names.len() as u32
     }
 
-    /// The number of `name`: the one that it has, or the next. Out of memory is answered for a new name alone.
+    /// Returns the number of `name`, old or new. Only a new name can fail.
     pub fn add(&mut self, name: &[u8]) -> Result<u32, Refusal>
         requires { length self.old < 4294967295 }
         ensures number { IfOk result (λ n. place self.new name.now ≡ Some n) }
@@ -61,7 +61,7 @@ impl Names {
         Ok(number as u32)
     }
 
-    /// The number of `name`, if it was seen. Takes no memory.
+    /// Returns the number of `name`, if it was seen.
     pub fn number_of(&self, name: &[u8]) -> Option<u32>
         ensures { result ≡ place self.now name.now }
     {
@@ -71,7 +71,7 @@ impl Names {
         }
     }
 
-    /// The name of a number, if there is one. Takes no memory.
+    /// Returns the name of a number, if there is one.
     pub fn name_of(&self, number: u32) -> Option<&[u8]>
         ensures { option_map (λ name. name.now) result ≡ slice_get self.now number }
     {

@@ -1,9 +1,9 @@
-//! A table of numbers, where that of some bytes is found by a sum of the bytes.
+//! A hash table from bytes to numbers.
 
 ghost use Rattle.std.specs.Prelude.{◌≡◌, ℕ, List, Some, true, false, length, map, option_map, slice_get, IfSome, IfNone};
 ghost use Rattle.ring_names.specs.Noted.{IsNoted, first_place, noted_at, sum_of};
 
-/// What stands at a place of the table: a sum of some bytes, and one more than their number, or 0 where the place is free.
+/// An entry of the table: a checksum of some bytes, and 1 plus their number, or 0 if free.
 #[derive(Clone, Copy)]
 pub struct Noted {
     sum: u32,
@@ -13,10 +13,10 @@ pub struct Noted {
 /// A free place.
 pub const FREE: Noted = Noted { sum: 0, next: 0 };
 
-// At how many places, one behind the other, a number may stand.
+// How many successive places may have a number.
 const NEAR: usize = 8;
 
-// A sum of all bytes and of their order.
+// A checksum that depends on the bytes and their order.
 fn sum_of(bytes: &[u8]) -> u32
     ensures { result ≡ sum_of bytes.now }
 {
@@ -27,7 +27,7 @@ fn sum_of(bytes: &[u8]) -> u32
     sum as u32
 }
 
-// The first place of a sum in a table of so many. A product and a shift take a fraction of a division's time.
+// The first place of a checksum in a table. A product and a shift are much faster than a division.
 fn first_place(places: usize, sum: u32) -> usize
     ensures { result ≡ first_place places sum }
 {
@@ -37,7 +37,6 @@ fn first_place(places: usize, sum: u32) -> usize
     (sum as u64 * places as u64 / 4_294_967_296) as usize
 }
 
-// The number that stands there, if that was noted of bytes with the sum.
 fn number_at(table: &[Noted], place: usize, sum: u32) -> Option<usize>
     ensures { result ≡ noted_at table.now place sum }
 {
@@ -47,7 +46,7 @@ fn number_at(table: &[Noted], place: usize, sum: u32) -> Option<usize>
     }
 }
 
-/// The bytes of a number, if there are some.
+/// Returns the bytes of a number, if there are any.
 pub fn bytes_at(list: &[Vec<u8>], number: usize) -> Option<&[u8]>
     ensures { option_map (λ bytes. bytes.now) result ≡ slice_get (map (λ b. b.items) list.now) number }
 {
@@ -57,7 +56,6 @@ pub fn bytes_at(list: &[Vec<u8>], number: usize) -> Option<&[u8]>
     }
 }
 
-// Whether these bytes have the number.
 fn is_at(list: &[Vec<u8>], number: usize, bytes: &[u8]) -> bool
     ensures yes { result ≡ true → slice_get (map (λ b. b.items) list.now) number ≡ Some bytes.now }
     ensures no { slice_get (map (λ b. b.items) list.now) number ≡ Some bytes.now → result ≡ true }
@@ -68,7 +66,6 @@ fn is_at(list: &[Vec<u8>], number: usize, bytes: &[u8]) -> bool
     }
 }
 
-// The number of these bytes, if it stands at that place.
 fn found_at(
     table: &[Noted],
     place: usize,
@@ -87,7 +84,7 @@ fn found_at(
     None
 }
 
-/// The number of these bytes, if it was noted. Costs a walk over the bytes, and takes no memory.
+/// Returns the number of these bytes, if it was noted. Costs their length.
 pub fn find(table: &[Noted], list: &[Vec<u8>], bytes: &[u8]) -> Option<usize>
     ensures found { IfSome result (λ n. slice_get (map (λ b. b.items) list.now) n ≡ Some bytes.now) }
     ensures none { IfNone result
@@ -106,7 +103,6 @@ pub fn find(table: &[Noted], list: &[Vec<u8>], bytes: &[u8]) -> Option<usize>
     None
 }
 
-// Puts it there, if the place is free.
 fn put(table: &mut [Noted], place: usize, noted: Noted) -> bool
     ensures size { length table.new ≡ length table.old }
     ensures put { result ≡ true → slice_get table.new place ≡ Some noted }
@@ -120,7 +116,7 @@ fn put(table: &mut [Noted], place: usize, noted: Noted) -> bool
     false
 }
 
-/// Notes the number of these bytes, if a place near that of their sum is free. What was noted stays so.
+/// Notes the number of these bytes, if a place near their checksum's is free. Earlier notes stay.
 pub fn note(table: &mut [Noted], bytes: &[u8], number: usize) -> bool
     ensures noted { result ≡ true → IsNoted table.new bytes.now number }
     ensures same { result ≡ false → table.new ≡ table.old }

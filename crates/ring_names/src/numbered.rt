@@ -10,8 +10,10 @@ use crate::refusal::Refusal;
 use std::alloc::Global;
 use std::marker::Model;
 
-/// Bytes, each numbered by their place in order of first sight, from 0. The authors of texts choose them: to look bytes up mostly costs their
-/// length, and whatever they are their length times the logarithm of how many there are.
+/// Bytes, numbered by first sight from 0.
+///
+/// Authors of texts choose them: a look-up mostly costs their length, and in the worst case their length times
+/// the logarithm of their number.
 #[derive(Drop)]
 pub struct Numbered {
     alloc: Global,
@@ -31,7 +33,7 @@ impl Model for Numbered {
 }
 
 impl Numbered {
-    /// Nothing, in memory of `alloc` once there is something.
+    /// No bytes. Memory comes from `alloc`.
     pub fn new(alloc: Global) -> Numbered
         ensures { result ≡ [] }
     {
@@ -42,14 +44,14 @@ impl Numbered {
         }
     }
 
-    /// How many there are.
+    /// Counts the entries.
     pub fn len(&self) -> usize
         ensures { result ≡ length self.now }
     {
         self.list.len()
     }
 
-    /// The number of these bytes: the one that they have, or the next. Out of memory is answered for new bytes alone.
+    /// Returns the number of these bytes, old or new. Only new bytes can fail.
     pub fn add(&mut self, bytes: &[u8]) -> Result<usize, Refusal>
         ensures number { IfOk result (λ n. place self.new bytes.now ≡ Some n) }
         ensures below { IfOk result (λ n. n ≤ length self.old) }
@@ -68,14 +70,14 @@ impl Numbered {
         Ok(number)
     }
 
-    /// The number of these bytes, if they were seen. Takes no memory.
+    /// Returns the number of these bytes, if they were seen.
     pub fn number_of(&self, bytes: &[u8]) -> Option<usize>
         ensures { result ≡ place self.now bytes.now }
     {
         self.finder.number_of(self.list.as_slice(), bytes)
     }
 
-    /// The bytes of a number, if there are some. Takes no memory.
+    /// Returns the bytes of a number, if there are any.
     pub fn get(&self, number: usize) -> Option<&[u8]>
         ensures { option_map (λ bytes. bytes.now) result ≡ slice_get self.now number }
     {

@@ -1,4 +1,4 @@
-//! The one refusal type.
+//! The only refusal type.
 
 ghost use Rattle.std.specs.Prelude.{◌≡◌, ◌<◌, ◌++◌, ◌∷◌, OnOk, option_to_list};
 ghost use Rattle.std.specs.Fmt.{decimal};
@@ -9,19 +9,20 @@ use std::alloc::{AllocError, AllocFailed};
 use std::fmt;
 use thiserror::Error;
 
-/// Why a text, a plan, an event or a run was refused. Each has a number and up to two values:
-/// lines count from 1, steps, facts, chains, nodes and entries from 0.
+/// Why a text, a plan, an event or a run was refused.
+///
+/// Each has a number and up to two values: lines count from 1, steps, facts, chains, nodes and entries from 0.
 #[derive(Clone, Copy, PartialEq, Eq, Error)]
 pub enum Refusal {
     /// 1 (line): the line is not in the grammar.
     BadLine(u32),
-    /// 2 (line): a limit is passed.
+    /// 2 (line): a limit is exceeded.
     TooLarge(u32),
     /// 3 (line): the name is not declared.
     UnknownNode(u32),
     /// 4 (line): declared, joined, retired or named twice.
     Repeated(u32),
-    /// 10 (line): not 1 <= R <= N, 1 <= W <= N and R + W > N + f, where f stores may be lost.
+    /// 10 (line): not 1 <= R <= N, 1 <= W <= N and R + W > N + f. Up to f nodes may lose their data.
     QuorumTooSmall(u32),
     /// 11 (line): one owner twice in a partition.
     SharedNode(u32),
@@ -37,25 +38,25 @@ pub enum Refusal {
     BadSource(u32),
     /// 24 (step): a switch of a listed slot neither before nor after the copy.
     MovingSource(u32),
-    /// 25 (step): the node may still serve another slot of the partition, from the start or from an earlier step on.
+    /// 25 (step): the node may still serve another slot of the partition, from the start or since an earlier step.
     SharedInPlan(u32),
-    /// 26 (step): the node is declared `out`, and no join of it is ordered before the step that mirrors or retires it.
+    /// 26 (step): the node is declared `out`, and none of its joins is ordered before the step that mirrors or retires it.
     NotJoined(u32),
-    /// 27 (step): something that the node held, from the start or from a mirror on, has no drop ordered before its retirement.
+    /// 27 (step): something that the node held, from the start or since a mirror, has no drop ordered before its retirement.
     RetiredInUse(u32),
     /// 28: the planner found none.
     NoPlan,
     /// 30 (fact): fewer than two steps, or a link is not a direct dependency.
     BadPath(u32),
-    /// 32 (node, step): the copy, in which the node takes part, is in none of the node's chains.
+    /// 32 (node, step): none of the node's chains has the copy, although the node takes part in it.
     CoverMissing(u32, u32),
-    /// 33 (chain): a link is not ordered, or an entry is no copy in which the node takes part.
+    /// 33 (chain): a link is not ordered, or an entry is not a copy in which the node takes part.
     ChainBroken(u32),
-    /// 34 (node): more chains than the allowance, of one of its sides where it has two.
+    /// 34 (node): more chains than the allowance, on one side if it has two.
     TooManyChains(u32),
     /// 40: a dependency is not done, or a named get has not ended.
     NotReady,
-    /// 41: it is so already.
+    /// 41: already done.
     AlreadyDone,
     /// 42 (node): that node must be up.
     NodeDown(u32),
@@ -77,9 +78,9 @@ pub enum Refusal {
     ChunksLeft(u32),
     /// 51: the history has 1,000,000 entries.
     HistoryFull,
-    /// 52: as many stores were lost already as the ring allows.
+    /// 52: as many nodes lost their data already as the ring allows.
     LossesSpent,
-    /// 60: a growth was refused.
+    /// 60: memory ran out.
     OutOfMemory,
     /// 61: the input failed.
     ReadFailed,
@@ -94,7 +95,7 @@ pub enum Refusal {
 }
 
 impl Refusal {
-    /// The number by which formats and programs know the refusal.
+    /// Returns the number by which formats and programs know the refusal.
     pub fn number(&self) -> u8
         ensures { result ≡ number_of self.now }
     {
@@ -111,7 +112,6 @@ impl Refusal {
         }
     }
 
-    // The number of a refusal that no text alone gets: of plans, or of what happens.
     fn number_past_texts(&self) -> u8
         requires { 20 < number_of self.now }
         ensures { result ≡ number_of self.now }
@@ -133,7 +133,6 @@ impl Refusal {
         }
     }
 
-    // The number of a refusal of an event or of a run.
     fn number_past_plans(&self) -> u8
         requires { 34 < number_of self.now }
         ensures { result ≡ number_of self.now }
@@ -161,7 +160,7 @@ impl Refusal {
         }
     }
 
-    /// Adds the refusal's line: `no`, its number and its values, between single spaces, and the byte 0A.
+    /// Adds the refusal's line: `no`, its number and its values, between single spaces, and a newline.
     pub fn write_line(&self, out: &mut Vec<u8>) -> Result<(), AllocError>
         ensures ok { OnOk result (out.new.items ≡ out.old.items ++ line_of self.now) }
     {
@@ -178,7 +177,7 @@ impl Refusal {
         Ok(())
     }
 
-    /// The values that the refusal's line has, in order.
+    /// Returns the values of the refusal's line, in order.
     pub fn values(&self) -> (Option<u32>, Option<u32>)
         ensures { option_to_list result.0 ++ option_to_list result.1 ≡ values_of self.now }
     {
@@ -211,7 +210,7 @@ impl Refusal {
     }
 }
 
-// The line, without the byte at its end.
+// The line, without its newline.
 impl fmt::Display for Refusal {
     fn fmt<W: fmt::Write>(&self, f: &mut fmt::Formatter<W>) -> fmt::Result {
         let number = self.number();
@@ -229,7 +228,6 @@ impl fmt::Debug for Refusal {
     }
 }
 
-// Adds a space and the number.
 fn push_spaced(out: &mut Vec<u8>, number: u32) -> Result<(), AllocError>
     ensures { OnOk result (out.new.items ≡ out.old.items ++ 32 ∷ decimal number) }
 {

@@ -7,21 +7,21 @@ use crate::refusal::Refusal;
 use std::alloc::Global;
 use std::marker::Model;
 
-/// Where a row stands: its numbers from place `from` up to place `to`.
+/// A row: its numbers from place `from` up to place `to`.
 #[derive(Clone, Copy, Debug)]
 pub(crate) struct Span {
     pub(crate) from: usize,
     pub(crate) to: usize,
 }
 
-/// Rows of numbers, kept one behind the other, so that a row needs no memory of its own.
+/// Rows of numbers in one vector, so that a row needs no allocation.
 #[derive(Debug)]
 pub struct Rows {
     spans: Vec<Span>,
     numbers: Vec<u32>,
 }
 
-// Dropped by a call, so that no crate above goes through its parts wherever a table of rows ends.
+// Dropping is a call, so crates above need not check the parts.
 impl Drop for Rows {
     fn drop(self) {
         let Rows { spans, numbers } = self;
@@ -52,21 +52,21 @@ impl Rows {
         }
     }
 
-    /// How many rows there are.
+    /// Counts the rows.
     pub fn len(&self) -> usize
         ensures { result ≡ length self.now }
     {
         self.spans.len()
     }
 
-    /// How many numbers the rows have together.
+    /// Counts the numbers of all rows.
     pub fn total(&self) -> usize
         ensures { result ≡ sum_by (λ row. length row) self.now }
     {
         self.numbers.len()
     }
 
-    /// The row of that place.
+    /// Returns the row at the place.
     pub fn row(&self, place: usize) -> &[u32]
         requires { place < length self.now }
         ensures { slice_get self.now place ≡ Some result.now }
@@ -75,7 +75,7 @@ impl Rows {
         &self.numbers[from..to]
     }
 
-    /// Adds a row behind the others. Refused, the rows are as before, and only for want of memory.
+    /// Adds a row. Fails only if memory runs out, and then nothing changes.
     pub fn push(&mut self, row: &[u32]) -> Result<(), Refusal>
         ensures ok { OnOk result (self.new ≡ self.old ++ row.now ∷ []) }
         ensures err { OnErr result (self.new ≡ self.old) }

@@ -1,4 +1,4 @@
-//! What a key has.
+//! The value of a key.
 
 ghost use Rattle.std.specs.Prelude.{◌≡◌, ◌⊎◌, IfOk, IfSome, is_some, true};
 ghost use Rattle.ring_names.specs.Values.{is_value};
@@ -7,10 +7,10 @@ use std::alloc::{AllocError, Global};
 use std::marker::Model;
 use std::sync::Arc;
 
-/// The value of a key: 0 to 1,024 bytes. Copies share the bytes, so that these are kept once for all that name them.
+/// The value of a key: 0 to 1,024 bytes, shared by copies.
 #[derive(Debug)]
 pub struct Value {
-    // None where there are none.
+    // None if empty.
     bytes: Option<Arc<Vec<u8>>>,
 }
 
@@ -25,7 +25,7 @@ impl Model for Value {
     ghost invariant = { λ a. is_value (shared_items a.bytes) ≡ true };
 }
 
-// Dropped by a call, so that no crate above goes through the two cases wherever a value ends.
+// Dropping is a call, so crates above need not check both cases.
 impl Drop for Value {
     fn drop(self) {
         let Value { bytes } = self;
@@ -34,7 +34,7 @@ impl Drop for Value {
 }
 
 impl Value {
-    /// The value of these bytes, where they are not too many. Takes memory for the one block that counts who shares them.
+    /// Makes a value of the bytes, unless they are too many. Takes memory for one reference count.
     pub fn of(alloc: Global, bytes: Vec<u8>) -> Result<Option<Value>, AllocError>
         ensures some { IfOk result (λ value. is_some value ≡ is_value bytes.items) }
         ensures same { IfOk result (λ value. IfSome value (λ v. v ≡ bytes.items)) }
@@ -53,7 +53,7 @@ impl Value {
         }
     }
 
-    /// The bytes.
+    /// Returns the bytes.
     pub fn as_slice(&self) -> &[u8]
         ensures value { result.now ≡ self.now }
         ensures valid { is_value self.now ≡ true }
@@ -64,7 +64,7 @@ impl Value {
         }
     }
 
-    /// A copy of the value, which shares the bytes. Takes no memory. Refused only where 2^64 values would share them.
+    /// Copies the value, which shares the bytes. Takes no memory. Fails only if 2^64 values would share them.
     pub fn try_copy(&self) -> Result<Value, AllocError>
         ensures { IfOk result (λ value. value ≡ self.now) }
     {

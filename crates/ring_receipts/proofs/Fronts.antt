@@ -30,7 +30,7 @@ passed test (r ∷ rs) = elim (cases_Bool (test r)) [
   | inr fail ↦ ([], rw fail refl, refl)
 ]
 
--- or the first one alone
+-- or only the first one
 pub passed_one : (test : Receipt → Bool) (list : List Receipt)
     → (front : List Receipt) × (list ≡ front ++ behind_one test list) × (list_all test front ≡ true) × (length front ≡ cond (begins_with test list) 1 0)
 passed_one test [] = ([], refl, refl, refl)
@@ -61,7 +61,7 @@ begins_all test [] rest false all one stop = stop
 begins_all test (r ∷ front) rest true all one stop = (and_parts (test r) (list_all test front) all).0
 begins_all test (r ∷ front) rest false all one stop = absurd (omega arith)
 
--- where no receipt that passes the one test passes the other
+-- if no receipt that passes the one test passes the other
 pub begins_apart : (test other : Receipt → Bool) (front rest : List Receipt) → ((r : Receipt) → test r ≡ true → other r ≡ false) → list_all test front ≡ true
     → begins_with other rest ≡ false → begins_with other (front ++ rest) ≡ false
 begins_apart test other [] rest apart all stop = stop

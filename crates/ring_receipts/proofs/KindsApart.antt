@@ -24,7 +24,7 @@ pub client_ends : (g : ℕ) (e : Event) → is_client_event e ≡ true → ends 
 client_ends g (EndGet h) c = absurd (true≢false (sym c))
 client_ends g e c = refl
 
--- an acknowledgement is no write or hint, and an end no read
+-- an acknowledgement is not a write or hint, and an end not a read
 pub acknowledged_sends : (v : ℕ) (e : Event) → acknowledges v e ≡ true → sends v e ≡ false
 acknowledged_sends v (Write u i) a = absurd (true≢false (sym a))
 acknowledged_sends v (Hint u i x) a = absurd (true≢false (sym a))

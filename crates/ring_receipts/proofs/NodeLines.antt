@@ -93,6 +93,6 @@ node_not_there asked line list moves other lines = (
   λ c. ([], list, asked, refl, from_node asked line [] moves (inl refl), c),
 )
 
--- no line of a script that is no client's has a block
+-- no line of a script that is not a client's has a block
 pub never : (asked : List Asked) (line : Event) (list : List Receipt) → ((block : List Receipt) (after : List Asked) → IsBlock asked line block after → ⊥) → HasNoBlock asked line list
 never asked line list none lines b = none b.0 b.2 b.4

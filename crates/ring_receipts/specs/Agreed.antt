@@ -1,4 +1,4 @@
--- When lists of receipts are those of the threads of a drive.
+-- Whether lists of receipts are those of a drive's threads.
 use Rattle.std.specs.Prelude.{◌≡◌, ℕ, ◌+◌, ◌<◌, true, List, [], length, slice_index_or}
 use Rattle.std.specs.List.{list_all}
 use Rattle.plan_runs.specs.declared.event.Entry.{Entry}
@@ -9,8 +9,8 @@ use Rattle.ring_receipts.specs.Interleaving.{Interleaves}
 use Rattle.ring_receipts.specs.Blocks.{IsClient}
 use Rattle.ring_receipts.specs.Finishing.{list_at, Finishes}
 
--- Behind `front` lists stand the workers' by number, the clients' by script and the one of handoffs; the history is an interleaving of all; and
--- each step's finisher is the worker whose list has its end.
+-- Behind `front` lists stand the workers' by number, the clients' by script and the one of handoffs. The
+-- history is an interleaving of all. Each step's finisher is the worker whose list has its end.
 pub record AgreesBehind (front steps : ℕ) (scripts : List (List Event)) (workers : ℕ) (history : List Entry) (lists : List (List Receipt)) (finishers : List ℕ) : Type 0 where
   pub interleaved : Interleaves history lists
   pub finishes : Finishes finishers front workers lists

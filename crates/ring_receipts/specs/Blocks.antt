@@ -1,4 +1,4 @@
--- The receipts of a client, as blocks of the lines of its script.
+-- The receipts of a client, in blocks for the lines of its script.
 use Rattle.std.specs.Prelude.{◌≡◌, ◌⊎◌, ℕ, ◌≤◌, Bool, true, false, ◌&&◌, List, [], ◌∷◌, ◌++◌, map, length, Some, None, slice_get, cond, ◌↔◌}
 use Rattle.std.specs.List.{list_all}
 use Rattle.std.specs.Str.{bytes_eq}
@@ -9,7 +9,7 @@ use Rattle.ring_receipts.specs.declared.receipt.Receipt.{Receipt}
 use Rattle.ring_receipts.specs.declared.asked.Asked.{Asked}
 use Rattle.ring_receipts.specs.Kinds as kinds
 
--- the number that the script's n-th get was answered; 0 where there is none
+-- the number that the script's n-th get was answered; 0 if there is none
 abbrev pub number_at : List Asked → ℕ → ℕ
 number_at asked n = elim (slice_get asked n) [ Some a ↦ a.number | None ↦ 0 ]
 
@@ -34,7 +34,7 @@ pub record IsPut (begin : Event) (block : List Receipt) : Type 0 where
   pub are_acks : list_all (λ r. kinds.acknowledges number r.event) acks ≡ true
   pub few : length acks ≤ 1
 
--- the start of a get of that key, reads of that get, and its end or none
+-- the start of a get for that key, its reads, and its end or none
 pub record IsGet (key : List ℕ) (a : Asked) (block : List Receipt) : Type 0 where
   pub start : Receipt
   pub reads : List Receipt
@@ -51,8 +51,9 @@ pub record IsGet (key : List ℕ) (a : Asked) (block : List Receipt) : Type 0 wh
 abbrev pub IsOne : Event → List Receipt → Type 0
 IsOne e block = (block ≡ []) ⊎ ((r : Receipt) × (block ≡ r ∷ []) × (r.event ≡ e))
 
--- A line's block, with the script's gets in front of the line and behind it. A put's block is empty just where it names a get that is none
--- of the script's earlier ones, is of another key or has no end.
+-- A line's block, with the script's gets in front of the line and behind it. A put's block is empty exactly if
+-- the put names a get that does not fit. Such a get is not an earlier one of the script, is of another key or
+-- has no end.
 abbrev pub IsBlock : List Asked → Event → List Receipt → List Asked → Type 0
 IsBlock asked (event.StartPut w k v s) block after = (after ≡ asked) × (((are_ended asked k s ≡ true) × IsPut (event.StartPut w k v (numbers_of asked s)) block) ⊎ ((are_ended asked k s ≡ false) × (block ≡ [])))
 IsBlock asked (event.StartGet k) block after = (a : Asked) × (after ≡ asked ++ a ∷ []) × IsGet k a block
@@ -66,7 +67,7 @@ AreBlocks asked [] list = list ≡ []
 AreBlocks asked (line ∷ lines) list =
     (block rest : List Receipt) × (after : List Asked) × (list ≡ block ++ rest) × IsBlock asked line block after × AreBlocks after lines rest
 
--- the list of receipts is that of the client of the script
+-- the receipts are those of the script's client
 abbrev pub IsClient : List Event → List Receipt → Type 0
 IsClient script list = AreBlocks [] script list
 
@@ -76,7 +77,7 @@ turns_a_node (event.Down x) = true
 turns_a_node (event.Up x) = true
 turns_a_node e = false
 
--- the list is one of blocks just where what is left of it behind the line's block is
+-- the list is one of blocks exactly if what is left of it behind the line's block is
 abbrev pub Leaves : List Asked → Event → List Receipt → List Receipt → List Asked → Type 0
 Leaves asked line list rest after = (lines : List Event) → AreBlocks asked (line ∷ lines) list ↔ AreBlocks after lines rest
 

@@ -16,11 +16,12 @@ has_end k list = list_any (finishes k) list
 abbrev pub list_at : List (List Receipt) → ℕ → List Receipt
 list_at lists place = slice_index_or lists place []
 
--- the worker whose list stands at that place; for a list in front of the workers', the number of workers, which is no worker's
+-- the worker whose list stands at that place; for a list in front of the workers', the number of workers, which
+-- no worker has
 abbrev pub worker_at : ℕ → ℕ → ℕ → ℕ
 worker_at front workers place = cond (nat_lt place front) workers (place - front)
 
--- each step has its end in some list, and its finisher is the worker of each list that has it
+-- each step has its end in some list, and its finisher is the worker of each such list
 pub record Finishes (finishers : List ℕ) (front workers : ℕ) (lists : List (List Receipt)) : Type 0 where
   pub by : (k place : ℕ) → k < length finishers → place < length lists → has_end k (list_at lists place) ≡ true → slice_index finishers k ≡ worker_at front workers place
   pub finished : (k : ℕ) → k < length finishers → list_any (has_end k) lists ≡ true

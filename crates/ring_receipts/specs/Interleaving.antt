@@ -25,8 +25,8 @@ standing k lists = sum_by (λ l. count_by (λ r. k == r.index) l) lists
 abbrev pub AreGood : List Entry → List (List Receipt) → Type 0
 AreGood history lists = AllByRecursion (λ l. (rises l ≡ true) × AreStanding history l) lists
 
--- The history is an interleaving of the lists: places rise within each list, the entry at each is the receipt's event and reply, and each
--- entry's place stands in just one list, once.
+-- The history is an interleaving of the lists. Places rise within each list, and the entry at each is the
+-- receipt's event and reply. Each entry's place stands in exactly one list, once.
 pub record Interleaves (history : List Entry) (lists : List (List Receipt)) : Type 0 where
   pub good : AreGood history lists
   pub once : (k : ℕ) → k < length history → standing k lists ≡ 1

@@ -46,7 +46,7 @@ abbrev pub ends : ℕ → Event → Bool
 ends g (EndGet h) = g == h
 ends g e = false
 
--- the put or the get whose number it is, if it is one's
+-- the number of the put or the get that the reply numbers, if there is one
 abbrev pub put_in : Reply → Option ℕ
 put_in (Put v) = Some v
 put_in r = None

@@ -1,4 +1,4 @@
-//! Whether lists of receipts are those of a drive.
+//! Checks that lists of receipts are those of a drive.
 
 ghost use Rattle.std.specs.Prelude.{◌≡◌, ◌↔◌, ◌+◌, ◌<◌, ◌≤◌, ℕ, [], true, length, slice_index_or, IfOk, IfErr, IsTrue};
 ghost use Rattle.std.specs.List.{list_all};
@@ -19,7 +19,6 @@ use ring_names::{Listed, Refusal};
 use script_text::Script;
 use std::alloc::Global;
 
-// Whether the lists of the workers, from that place on, are of steps of a plan.
 fn are_workers(lists: &[Listed<Receipt>], first: usize, workers: u32) -> bool
     requires { first + workers ≤ length lists.now }
     ensures { IsTrue result
@@ -33,7 +32,6 @@ fn are_workers(lists: &[Listed<Receipt>], first: usize, workers: u32) -> bool
     true
 }
 
-// Whether the lists of the clients, from that place on, are those of their scripts.
 fn are_clients(
     alloc: Global,
     scripts: &[Script],
@@ -53,7 +51,7 @@ fn are_clients(
     Ok(true)
 }
 
-// Who takes part in a drive: a plan's steps, clients with these scripts, and so many workers.
+// The parts of a drive: the plan's steps, the clients' scripts, and the number of workers.
 #[derive(Clone, Copy)]
 struct Cast<'a> {
     steps: u32,
@@ -61,7 +59,7 @@ struct Cast<'a> {
     workers: u32,
 }
 
-// Whether the lists are those of a drive, where so many stand in front of the workers'.
+// Whether the lists are those of a drive, with `front` lists before the workers'.
 fn agrees_behind(
     alloc: Global,
     cast: &Cast,
@@ -85,10 +83,13 @@ fn agrees_behind(
     Ok(interleaved && finished && served && worked && handed && all)
 }
 
-/// Whether the lists of receipts are those of the threads of a drive: the last of them are the workers' by number, with events of steps alone,
-/// the clients' by script, each a block for each line of its script, and the one of handoffs; the history is an interleaving of all of them; and each
-/// step's finisher is the worker whose list has its `do` or `close`. Takes a byte for each entry and step, and the keys of a script's gets.
-/// Refused only with `OutOfMemory`.
+/// Whether a drive's threads have these lists of receipts, and the history interleaves them. Each step's
+/// finisher must be the worker whose list has its `do` or `close`.
+///
+/// The last lists are the workers', with events of steps only, then the clients', with a block for each line,
+/// and that of handoffs.
+///
+/// Takes a byte for each entry and step, and the keys of a script's gets. Fails only with `OutOfMemory`.
 pub fn agrees(
     alloc: Global,
     approved: &Approved,

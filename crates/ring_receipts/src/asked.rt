@@ -1,8 +1,8 @@
-//! What is known of the gets of a script.
+//! The gets of a script.
 
 use plan_runs::Key;
 
-/// A get of a script: the number that its start was answered, its key, and whether its block has its end.
+/// A get of a script: the number in the history, the key, and whether it ended.
 #[derive(Debug, Drop)]
 pub struct Asked {
     pub number: u32,

@@ -1,4 +1,4 @@
-//! The block of a line at the front of a list of receipts.
+//! The block of a script's line, which a list of receipts begins with.
 
 ghost use Rattle.std.specs.Prelude.{◌≡◌, List, true, IfOk, IfErr, IfSome, IfNone};
 ghost use Rattle.ring_names.specs.declared.refusal.Refusal.TheVariants.{OutOfMemory};
@@ -15,7 +15,7 @@ use crate::starts::{PutLine, all_ended, get_started, put_started};
 use plan_runs::{Event, Key, is_same_event};
 use ring_names::Refusal;
 
-// What is left behind the writes and hints of the put, and at most one acknowledgement of it.
+// The list after the put's writes and hints, and at most one acknowledgement.
 fn behind_put(put: u32, list: &[Receipt]) -> &[Receipt]
     ensures { result.now ≡ behind_one (λ r. acknowledges put r.event) (behind (λ r. sends put r.event) list.now) }
 {
@@ -33,7 +33,6 @@ fn behind_put(put: u32, list: &[Receipt]) -> &[Receipt]
     rest
 }
 
-// What is left behind the reads of the get.
 fn behind_reads(get: u32, list: &[Receipt]) -> &[Receipt]
     ensures { result.now ≡ behind (λ r. reads get r.event) list.now }
 {
@@ -47,7 +46,7 @@ fn behind_reads(get: u32, list: &[Receipt]) -> &[Receipt]
     rest
 }
 
-// Whether the list begins with the get's end, and what is left behind it.
+// Whether the list begins with the get's end, and the list after it.
 fn behind_end(get: u32, list: &[Receipt]) -> (bool, &[Receipt])
     ensures ends { result.0 ≡ begins_with (λ r. ends get r.event) list.now }
     ensures rest { result.1.now ≡ behind_one (λ r. ends get r.event) list.now }
@@ -62,7 +61,6 @@ fn behind_end(get: u32, list: &[Receipt]) -> (bool, &[Receipt])
     }
 }
 
-// What is left of the list behind the block of a put's line, if there is one.
 fn behind_put_line<'a>(
     asked: &[Asked],
     line: &PutLine,
@@ -85,7 +83,7 @@ fn behind_put_line<'a>(
     }
 }
 
-// What is left of the list after the block of a get's line, if there is one. The get is noted.
+// The list after the block of a get's line, if there is one. Adds the get.
 fn behind_get_line<'a>(
     asked: &mut Vec<Asked>,
     key: &Key,
@@ -108,7 +106,7 @@ fn behind_get_line<'a>(
     Ok(Some(rest))
 }
 
-// What is left of the list after the block of the line of a node that goes down or comes up. There is always one.
+// The list after the block of a line that takes a node down or up. There is always one.
 fn behind_node_line<'a>(line: &Event, list: &'a [Receipt]) -> &'a [Receipt]
     requires { turns_a_node line.now ≡ true }
     ensures { (asked : List TheAsked) → Leaves asked line.now list.now result.now asked }
@@ -123,7 +121,7 @@ fn behind_node_line<'a>(line: &Event, list: &'a [Receipt]) -> &'a [Receipt]
     }
 }
 
-/// What is left of the list behind the line's block, if there is one. The get of a get's line is noted behind those that were asked.
+/// Returns the list after the line's block, if there is one. Adds the get of a get's line.
 pub(crate) fn behind_line<'a>(
     asked: &mut Vec<Asked>,
     line: &Event,

@@ -1,4 +1,4 @@
-//! Whether a list of receipts is that of a script's client.
+//! Checks that a list of receipts is that of a script's client.
 
 ghost use Rattle.std.specs.Prelude.{◌≡◌, ◌↔◌, IfOk, IfErr, IsTrue};
 ghost use Rattle.ring_names.specs.declared.refusal.Refusal.TheVariants.{OutOfMemory};
@@ -10,7 +10,6 @@ use plan_runs::Event;
 use ring_names::Refusal;
 use std::alloc::Global;
 
-/// Whether the list is that of the client of the script.
 pub(crate) fn is_client(alloc: Global, script: &[Event], list: &[Receipt]) -> Result<bool, Refusal>
     ensures exactly { IfOk result (λ b. IsTrue b ↔ IsClient script.now list.now) }
     ensures memory { IfErr result (λ e. e ≡ OutOfMemory) }

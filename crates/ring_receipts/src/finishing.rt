@@ -1,4 +1,4 @@
-//! Whether each step's finisher is the worker whose list has the step's end.
+//! Checks that each step's finisher is the worker whose list has the step's end.
 
 ghost use Rattle.std.specs.Prelude.{◌≡◌, ◌↔◌, ◌<◌, ◌≤◌, ◌||◌, ℕ, false, length, vec_len, slice_index_or, IfOk, IfErr};
 ghost use Rattle.std.specs.Prelude.{IsTrue};
@@ -10,7 +10,7 @@ use crate::receipt::Receipt;
 use ring_names::{Listed, Refusal};
 use std::alloc::Global;
 
-// Marks the steps that the list finishes. Whether each of them has that finisher.
+// Marks the steps that the list finishes. Returns whether each has that finisher.
 fn mark(finishers: &[u32], marks: &mut Vec<bool>, worker: usize, list: &[Receipt]) -> bool
     requires { vec_len marks.old ≡ length finishers.now }
     ensures len { vec_len marks.new ≡ vec_len marks.old }
@@ -34,7 +34,7 @@ fn mark(finishers: &[u32], marks: &mut Vec<bool>, worker: usize, list: &[Receipt
     true
 }
 
-// The worker whose list stands at the place, where so many stand in front of the workers'; the number of workers for one of these.
+// The worker of the list at the place; the number of workers for the lists before theirs.
 fn worker_of(front: usize, workers: u32, place: usize) -> usize
     ensures { result ≡ worker_at front workers place }
 {
@@ -45,8 +45,10 @@ fn worker_of(front: usize, workers: u32, place: usize) -> usize
     }
 }
 
-/// Whether each step has its end in some list, and its finisher is the worker of each list that has it. So many lists stand in front of the
-/// workers', and the finisher of what these end is the number of workers. Takes a byte for each step.
+/// Whether each step ends in some list, and its finisher is the worker of each such list. Takes a byte for each
+/// step.
+///
+/// The finisher of steps that end in the `front` lists is the number of workers.
 pub(crate) fn are_finishers(
     alloc: Global,
     finishers: &[u32],

@@ -1,4 +1,4 @@
-//! Whether a history is an interleaving of lists of receipts.
+//! Checks that a history interleaves lists of receipts.
 
 ghost use Rattle.std.specs.Prelude.{◌≡◌, ◌↔◌, ◌+◌, ◌<◌, ◌==◌, ℕ, min, length, vec_len, slice_index, count_by, IfOk};
 ghost use Rattle.std.specs.Prelude.{IfErr, IsTrue};
@@ -10,7 +10,6 @@ use plan_runs::{Entry, is_same_event, is_same_reply};
 use ring_names::{Listed, Refusal};
 use std::alloc::Global;
 
-// Whether the places rise.
 fn are_rising(list: &[Receipt]) -> bool
     ensures { result ≡ rises list.now }
 {
@@ -28,7 +27,6 @@ fn are_rising(list: &[Receipt]) -> bool
     true
 }
 
-// Whether the entry at the receipt's place has the receipt's event and reply.
 fn stands(history: &[Entry], receipt: &Receipt) -> bool
     ensures { IsTrue result ↔ Stands history.now receipt.now }
 {
@@ -41,7 +39,6 @@ fn stands(history: &[Entry], receipt: &Receipt) -> bool
     }
 }
 
-// Whether it is so of each receipt.
 fn all_stand(history: &[Entry], list: &[Receipt]) -> bool
     ensures { IsTrue result ↔ AreStanding history.now list.now }
 {
@@ -71,7 +68,6 @@ fn count_in(counts: &mut Vec<u8>, list: &[Receipt])
     }
 }
 
-// Whether each count is 1.
 fn are_once(counts: &[u8]) -> bool
     ensures { IsTrue result ↔ ((k : ℕ) → k < length counts.now → slice_index counts.now k ≡ 1) }
 {

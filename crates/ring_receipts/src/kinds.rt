@@ -1,4 +1,4 @@
-//! What the events of receipts are.
+//! The kinds of receipts.
 
 ghost use Rattle.std.specs.Prelude.{◌≡◌};
 ghost use Rattle.std.specs.List.{list_all};
@@ -29,21 +29,18 @@ fn is_of_handoff(event: &Event) -> bool
     }
 }
 
-/// Whether all are of steps of a plan.
 pub(crate) fn are_of_steps(list: &[Receipt]) -> bool
     ensures { result ≡ list_all (λ r. is_step r.event) list.now }
 {
     list.iter().all(|receipt| is_of_step(&receipt.event))
 }
 
-/// Whether all hand hints off.
 pub(crate) fn are_of_handoffs(list: &[Receipt]) -> bool
     ensures { result ≡ list_all (λ r. is_handoff r.event) list.now }
 {
     list.iter().all(|receipt| is_of_handoff(&receipt.event))
 }
 
-/// The step that the event finishes, if it does.
 pub(crate) fn finished(event: &Event) -> Option<u32>
     ensures { result ≡ finished_by event.now }
 {
@@ -53,7 +50,6 @@ pub(crate) fn finished(event: &Event) -> Option<u32>
     }
 }
 
-/// Whether the event writes the put, or leaves a hint of it.
 pub(crate) fn is_sent(put: u32, event: &Event) -> bool
     ensures { result ≡ sends put event.now }
 {
@@ -63,7 +59,6 @@ pub(crate) fn is_sent(put: u32, event: &Event) -> bool
     }
 }
 
-/// Whether the event acknowledges the put.
 pub(crate) fn is_acknowledged(put: u32, event: &Event) -> bool
     ensures { result ≡ acknowledges put event.now }
 {
@@ -73,7 +68,6 @@ pub(crate) fn is_acknowledged(put: u32, event: &Event) -> bool
     }
 }
 
-/// Whether the event is a read of the get.
 pub(crate) fn is_read(get: u32, event: &Event) -> bool
     ensures { result ≡ reads get event.now }
 {
@@ -83,7 +77,6 @@ pub(crate) fn is_read(get: u32, event: &Event) -> bool
     }
 }
 
-/// Whether the event ends the get.
 pub(crate) fn is_end(get: u32, event: &Event) -> bool
     ensures { result ≡ ends get event.now }
 {

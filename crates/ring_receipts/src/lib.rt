@@ -1,5 +1,4 @@
-//! The lists of receipts that the threads of a drive hand back, and whether they are the drive's history: who was answered what, in which order,
-//! and who finished each step.
+//! The lists of receipts from a drive's threads, and whether they match its history: replies, order, and finishers of steps.
 #![tactic(auto)]
 
 mod agreeing;

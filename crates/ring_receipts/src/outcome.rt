@@ -1,13 +1,14 @@
-//! What comes of a drive.
+//! The outcome of a drive.
 
 use crate::receipt::Receipt;
 use plan_runs::Entry;
 use ring_board::ClosedBoard;
 use ring_names::Listed;
 
-/// The history of a drive, the receipts of each of its threads, the number of the worker that finished each step, and the board at its end. The
-/// lists are those of the workers by number, of the clients by script, and of the thread that hands hints off; lists of what was there before come
-/// first.
+/// The history of a drive, the receipts of each thread, the worker that finished each step, and the closed
+/// board.
+///
+/// The lists are for earlier events, if any, the workers by number, the clients by script, and the handoffs.
 #[derive(Debug, Drop)]
 pub struct Outcome {
     pub history: Vec<Entry>,

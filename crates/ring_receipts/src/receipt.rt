@@ -1,4 +1,4 @@
-//! What an event was answered, and where it stands.
+//! A reply to an event, and its place.
 
 use plan_runs::{Event, Reply};
 

@@ -1,4 +1,4 @@
-//! Whether a receipt is of the start of a line's put or get.
+//! The receipts that start a line's put or get.
 
 ghost use Rattle.std.specs.Str.{bytes_eq};
 ghost use Rattle.std.specs.Prelude.{◌≡◌, ◌&&◌, ◌↔◌, ℕ, Some, None, false, slice_get, IfSome, IfNone, IsTrue};
@@ -11,7 +11,7 @@ use crate::receipt::Receipt;
 use plan_runs::{Event, Key, Reply, Seen};
 use ring_names::{Value, WriterId};
 
-/// Whether each number is that of an earlier get of the script, of that key and with an end.
+/// Whether each number is that of an earlier get of the script, with this key and an end.
 pub fn all_ended(asked: &[Asked], key: &Key, seen: &Seen) -> bool
     ensures { result ≡ are_ended asked.now key.now seen.now }
 {
@@ -28,7 +28,7 @@ pub fn all_ended(asked: &[Asked], key: &Key, seen: &Seen) -> bool
     )
 }
 
-/// The number that the script's n-th get was answered; 0 where there is none.
+/// Returns the history's number of the script's n-th get, or 0.
 pub fn number_of(asked: &[Asked], n: u32) -> u32
     ensures { result ≡ number_at asked.now n }
 {
@@ -38,7 +38,6 @@ pub fn number_of(asked: &[Asked], n: u32) -> u32
     }
 }
 
-// Whether the numbers are those of the gets.
 fn are_numbers(asked: &[Asked], seen: &[u32], numbers: &[u32]) -> bool
     ensures { IsTrue result ↔ (numbers.now ≡ numbers_of asked.now seen.now) }
 {
@@ -57,7 +56,7 @@ fn are_numbers(asked: &[Asked], seen: &[u32], numbers: &[u32]) -> bool
     rest.is_empty()
 }
 
-/// What a put's line says: who writes what under which key, and which of the script's gets the writer has seen.
+/// A put's line: writer, key and value, and the script's gets that the writer has seen.
 #[derive(Clone, Copy)]
 pub(crate) struct PutLine<'l> {
     pub writer: WriterId,
@@ -66,7 +65,6 @@ pub(crate) struct PutLine<'l> {
     pub seen: &'l Seen,
 }
 
-// Whether the event starts the line's put, whose gets have these numbers.
 fn is_start_of(asked: &[Asked], line: &PutLine, event: &Event) -> bool
     ensures { IsTrue result ↔ (event.now
         ≡ StartPut line.now.writer line.now.key.now line.now.value.now (numbers_of asked.now line.now.seen.now)) }
@@ -82,7 +80,6 @@ fn is_start_of(asked: &[Asked], line: &PutLine, event: &Event) -> bool
     }
 }
 
-/// The number of the line's put that the receipt starts, if it does.
 pub(crate) fn put_started(asked: &[Asked], line: &PutLine, receipt: &Receipt) -> Option<u32>
     ensures some { IfSome result (λ v. (receipt.now.event
         ≡ StartPut line.now.writer line.now.key.now line.now.value.now (numbers_of asked.now line.now.seen.now))
@@ -103,7 +100,6 @@ pub(crate) fn put_started(asked: &[Asked], line: &PutLine, receipt: &Receipt) ->
     }
 }
 
-/// The number of the get of that key that the receipt starts, if it does.
 pub(crate) fn get_started(key: &Key, receipt: &Receipt) -> Option<u32>
     ensures some { IfSome result (λ g. (receipt.now.event ≡ StartGet key.now) × (receipt.now.reply ≡ Get g)) }
     ensures none { IfNone result ((g : ℕ) → receipt.now.event ≡ StartGet key.now → receipt.now.reply ≡ Get g → ⊥) }

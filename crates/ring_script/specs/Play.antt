@@ -16,7 +16,7 @@ use Rattle.plan_runs.specs.Replies.{reply_text}
 use Rattle.plan_runs.specs.World.{World, opening_world}
 use Rattle.ring_core.specs.Tables.{owners_now}
 
--- the world behind an event: the same where it is refused
+-- the world after an event: the same if it is refused
 abbrev pub behind : World → Result (World × Reply) Refusal → World
 behind w (Ok x) = x.0
 behind w (Err e) = w

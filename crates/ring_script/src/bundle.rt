@@ -74,8 +74,10 @@ fn read_parts(alloc: Global, kind: Kind, lines: &mut Lines) -> Result<Bundle, Re
     })
 }
 
-/// The parts of a bundle of that kind, and nothing behind them. Writers are numbered in order of first sight. The first line at fault decides.
-/// `OutOfMemory` comes only where memory ran out, behind the first four lines of the ring.
+/// Reads the parts of a bundle of that kind, which must end there. Writers are numbered by first sight.
+///
+/// The first line at fault decides. `OutOfMemory` comes only if memory ran out, after the ring's first four
+/// lines.
 pub fn read_bundle(alloc: Global, kind: Kind, bytes: &[u8]) -> Result<Bundle, Refusal>
     // Which bundle it is, or which fault.
     ensures read { Gives result (whole_text (bundle_at kind) bytes.now) }

@@ -147,7 +147,8 @@ fn played(
     Ok(out)
 }
 
-// The first line, with room behind it for what so many events mostly print: a text that grows is moved, and leaves a gap where it was.
+// The first line, with room for what so many events mostly print. A text that grows is moved, and leaves a gap
+// in memory.
 fn first_line(alloc: Global, events: usize) -> Result<Vec<u8>, Refusal>
     ensures items { IfOk result (λ v. v.items ≡ codes "yes" ++ 10 ∷ []) }
     ensures memory { IfErr result (λ e. e ≡ OutOfMemory) }
@@ -178,9 +179,13 @@ fn played_queue(
     Ok(out)
 }
 
-/// What a play of the script prints: `yes`; for each event its place, counted from 0, and its reply or its refusal's line; the line of owners of
-/// each partition behind the last event; and `end`. A refused event changes nothing, and the next one follows. The only refusal is `OutOfMemory`,
-/// where memory ran out at whatever event.
+/// Plays the script: returns `yes`, a line for each event, the line of owners of each partition after the last
+/// event, and `end`.
+///
+/// An event's line has the place, counted from 0, and the reply or the refusal's line. A refused event changes
+/// nothing, and the next one follows.
+///
+/// Fails only with `OutOfMemory`, if memory ran out at some event.
 pub fn play(alloc: Global, approved: &Approved, script: &Script) -> Result<Vec<u8>, Refusal>
     ensures text { IfOk result (λ v. v.items ≡ play_text approved.now.ring approved.now.plan script.now) }
     ensures memory { IfErr result (λ e. e ≡ OutOfMemory) }
@@ -189,8 +194,10 @@ pub fn play(alloc: Global, approved: &Approved, script: &Script) -> Result<Vec<u
     played(alloc, approved.ring(), &mut world, script.events())
 }
 
-/// Plays a script that is given up: each event's memory is free once it happened, so that the store takes it. Where the program `ends` after
-/// it, the store's memory is left to the system: to let go what a million events have left, one by one, takes a fifth of its time.
+/// Plays a script that is given up: each event's memory is free once it happened, so the store can take it.
+///
+/// If the program `ends` afterwards, the store's memory is left to the system. To free what a million events
+/// have left takes a fifth of the time of the play.
 pub fn play_whole(
     alloc: Global,
     approved: &Approved,

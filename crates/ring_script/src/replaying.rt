@@ -59,10 +59,14 @@ fn replayed(
     write_ending(alloc, approved.ring(), world)
 }
 
-/// What a replay of the history prints, where it is a run of the plan with those replies: `yes`, the line of owners of each partition behind the last
-/// entry, and `end`. Else `Mismatch`, with the place of the first entry, from 0, whose event is refused or has another reply, and with that
-/// refusal's number or 0. Memory may run out at whatever entry. Each entry's memory is free once it was followed; where the program `ends` after
-/// it, the store's memory is left to the system, as by `play_whole`.
+/// Replays the history, if it is a run of the plan. Returns `yes`, each partition's line of owners after the
+/// last entry, and `end`.
+///
+/// Otherwise fails with `Mismatch`: the place of the first entry, from 0, whose event is refused or has another
+/// reply. Its second number is that refusal's, or 0.
+///
+/// Memory may run out at any entry, and each entry's memory is free once it was followed. If the program `ends`
+/// afterwards, the store's memory is left to the system.
 pub fn replay_history(
     alloc: Global,
     approved: &Approved,

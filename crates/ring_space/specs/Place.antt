@@ -1,4 +1,4 @@
--- Where a key lies, by its digest.
+-- The place of a key, by its digest.
 use Rattle.std.specs.Prelude.{ℕ, zero, suc, ◌+◌, ◌-◌, ◌/◌, ◌%◌, ◌^◌, ◌==◌, List, if◌then◌else◌}
 use Rattle.std.specs.Int.{w128, from_be_bytes}
 use Rattle.md5.specs.Md5.{md5}

@@ -1,4 +1,4 @@
-//! Where the keys of a store lie: each key's partition of the hash space, and its chunk of the partition.
+//! The places of a store's keys: each key's partition of the hash space, and its chunk of the partition.
 #![tactic(auto)]
 
 mod found;

@@ -23,9 +23,14 @@ fn place_by(q: u32, digest: [u8; 16]) -> Place
     }
 }
 
-/// The place of a key in a space of q partitions, q a power of two from 1 to 4,096, by its MD5 digest (RFC 1321) read
-/// big-endian: the partition is the digest's first log2 q bits, the chunk the next four (DeCandia et al. 2007, sections 4.1
-/// and 6.2). Takes no memory.
+/// Returns a key's place among q partitions; q is a power of two from 1 to 4,096. The key's MD5 digest (RFC
+/// 1321), read big-endian, decides.
+///
+/// The partition is the digest's first log2 q bits, and the chunk the next four (DeCandia et al. 2007, sections
+/// 4.1 and 6.2). Takes no memory.
+///
+/// The partition is the digest's first log2 q bits, and the chunk the next four (DeCandia et al. 2007, sections
+/// 4.1 and 6.2).
 pub fn place(q: u32, key: &[u8]) -> Place
     requires { is_space q ≡ true }
     ensures place { result ≡ place_of q key.now }

@@ -21,7 +21,7 @@ use Rattle.ring_store.specs.Store.{partitions, versions_at}
 use Rattle.ring_store.specs.declared.store.NodeStore.{NodeStore}
 use Rattle.ring_store.proofs.SlotMapsChanged.{puts_slot, by_slot, same_by, merged_by, spaces_by, space_at, nothing_put}
 
--- of the maps of a slot, in a hash space of q partitions
+-- for the maps of a slot, in a hash space with q partitions
 abbrev pub IsReadyBy : Option SlotMap → List ℕ → Fresh → Type 0
 IsReadyBy o k f = (placed_by o k ≡ true) × FitsIn (held_by o k) f
 
@@ -36,7 +36,7 @@ found is value = sym (ap (λ (o : Option (MutBor SlotMap)). option_map (λ (x : 
 pub of_maps : (a : NodeStore) (slot : Slot) {m : SlotMap} → Some m ≡ maps_of a.slots slot → (P : ℕ → Option SlotMap → Type 0) → P (partitions a) (maps_of a.slots slot) → P (space_of m) (Some m)
 of_maps a slot {m} value P h = subst (P (space_of m)) (sym value) (subst (λ (q : ℕ). P q (maps_of a.slots slot)) (sym (a.spaces slot m (sym value))) h)
 
--- ---- where a slot has no maps
+-- ---- a slot without maps
 
 no_ready : (o : Option SlotMap) (k : List ℕ) (f : Fresh) → o ≡ None → IsReadyBy o k f → ⊥
 no_ready o k f e ready = let no : placed_by o k ≡ false = ap (λ m. placed_by m k) e in let yes = ready.0 in cc

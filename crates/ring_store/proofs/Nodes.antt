@@ -31,14 +31,14 @@ apart_in (Some a) s k = apart_by (maps_of a.slots s) k
 
 -- ---- what was made ready
 
--- of the store of a node, in a hash space of q partitions
+-- for the store of a node, in a hash space with q partitions
 abbrev pub IsReadyIn : Option NodeStore → Slot → List ℕ → Fresh → Type 0
 IsReadyIn o s k f = (has_place_in o s k ≡ true) × FitsIn (stored_in o s k) f
 
 abbrev pub AllReadyIn : ℕ → Option NodeStore → Slot → FreshMaps → Type 0
 AllReadyIn q o s f = (c : ℕ) (k : List ℕ) → IfSome (fresh_in f c k) (λ y. (chunk_of q k ≡ c) × IsReadyIn o s k y)
 
--- a node where no reading changes and every place stays keeps what was made ready
+-- a node keeps what was made ready if none of its readings changes and each of its places stays
 keeps_ready : (old new : Stores) (x : ℕ) → shared_space new ≡ shared_space old → ((s : Slot) (k : List ℕ) → held_at new x s k ≡ held_at old x s k)
     → ((s : Slot) (k : List ℕ) → has_place_on old x s k ≡ true → has_place_on new x s k ≡ true) → KeepsReady x old new
 keeps_ready old new x space same stays = record {
@@ -95,7 +95,7 @@ module _ (a : Stores) {n : ℕ} {m : NodeStore} (w : NodeStore) (room : n < leng
       (λ s k. subst (λ (come : List Version). IsMerge (versions_at m s k) come (versions_at w s k)) (sym (chosen_here n n (more s k) refl)) (h s k))
       (λ x ne s k. subst (λ (come : List Version). IsMerge (held_at a x s k) come (held_at a x s k)) (sym (chosen_other x n (more s k) ne)) (merge_none (held_at a x s k) (apart_in (slice_get a.list.items x) s k)))
 
-  -- what was made ready stays so where no reading changes and every place stays, and at all other nodes
+  -- what was made ready stays so at a node if no reading changes and every place stays, and at all other nodes
   pub keeps_set : {b : Stores} → shared_space b ≡ shared_space a → b.list.items ≡ set a.list.items n w → ((s : Slot) (k : List ℕ) → versions_at w s k ≡ versions_at m s k)
       → ((s : Slot) (k : List ℕ) → has_place_at m s k ≡ true → has_place_at w s k ≡ true) → (y : ℕ) → KeepsReady y a b
   keeps_set {b} space new same stays y = keeps_ready a b y space

@@ -7,7 +7,7 @@ use Rattle.ring_versions.specs.declared.version.Version.{Version}
 use Rattle.ring_store.specs.Store.{partitions, versions_at, has_place_at}
 use Rattle.ring_store.specs.declared.store.NodeStore.{NodeStore}
 
--- the versions of the key in the slot, none where there is no store
+-- the versions of the key in the slot, none if there is no store
 abbrev pub stored_in : Option NodeStore → Slot → List ℕ → List Version
 stored_in None s k = []
 stored_in (Some a) s k = versions_at a s k

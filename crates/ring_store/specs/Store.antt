@@ -31,6 +31,7 @@ has_place_at a s k = placed_by (maps_of a.slots s) k
 abbrev pub IsReadyAt : NodeStore → Slot → List ℕ → Fresh → Type 0
 IsReadyAt a s k f = (has_place_at a s k ≡ true) × FitsIn (versions_at a s k) f
 
--- each key that f has in a chunk lies in that chunk and has a place in the slot, and what f has for it was made for its versions
+-- each key that f has in a chunk lies there and has a place in the slot. What f has for the key was made for
+-- its versions
 abbrev pub AllReadyAt : NodeStore → Slot → FreshMaps → Type 0
 AllReadyAt a s f = (c : ℕ) (k : List ℕ) → IfSome (fresh_in f c k) (λ x. (chunk_of a.q k ≡ c) × IsReadyAt a s k x)

@@ -34,7 +34,8 @@ has_place_on a x s k = has_place_in (slice_get a.list.items x) s k
 abbrev pub IsReadyOn : Stores → ℕ → Slot → List ℕ → Fresh → Type 0
 IsReadyOn a x s k f = (has_place_on a x s k ≡ true) × FitsIn (held_at a x s k) f
 
--- each key that f has in a chunk lies in that chunk and has a place in the slot at the node, and what f has for it was made for its versions
+-- each key that f has in a chunk lies there and has a place in the slot at the node. What f has for the key was
+-- made for its versions
 abbrev pub AllReadyOn : Stores → ℕ → Slot → FreshMaps → Type 0
 AllReadyOn a x s f = (c : ℕ) (k : List ℕ) → IfSome (fresh_in f c k) (λ y. (chunk_of a.q k ≡ c) × IsReadyOn a x s k y)
 

@@ -1,4 +1,6 @@
-//! What the nodes store: each one for each of its slots the versions of every key.
+//! What the nodes store: for each of its slots, a node has the versions of every key.
+//!
+//! A function without a `Result` takes no memory.
 #![tactic(auto)]
 
 mod served;

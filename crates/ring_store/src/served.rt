@@ -1,4 +1,4 @@
-//! Merges into what a slot's owner and its mirror have.
+//! Merges into a slot's owner and mirror.
 
 use crate::slot_key::SlotKey;
 use crate::store::NodeStore;
@@ -19,7 +19,7 @@ impl Stores {
     ghost use Rattle.ring_store.specs.Store.{partitions, versions_at, chunk_versions};
     ghost use Rattle.ring_store.specs.Stores.{node_count, shared_space, held_at, chunk_held_at};
 
-    /// Merges versions of a key into what the slot's owner has, and its mirror, if there is one. Refused, it has changed no reading.
+    /// Merges versions of a key into the slot's owner, and its mirror, if any.
     pub fn give(
         &mut self,
         at: &SlotKey,
@@ -43,7 +43,6 @@ impl Stores {
         }
     }
 
-    // Merges them into what one node has in the slot.
     fn give_to(&mut self, node: NodeId, at: &SlotKey, more: &Versions) -> Result<(), Refusal>
         requires node { node.0 < node_count self.old }
         requires chunk { chunk_of (shared_space self.old) at.now.key.now ≡ at.now.chunk }
@@ -58,7 +57,6 @@ impl Stores {
         store.merge_key(at.slot, at.chunk, at.key, more)
     }
 
-    // Merges them into what the owner and the mirror have in the slot.
     fn give_to_both(
         &mut self,
         at: &SlotKey,
@@ -84,8 +82,7 @@ impl Stores {
         Ok(())
     }
 
-    /// Merges all maps of a slot, in a hash space of as many partitions, into what the slot's owner has, and its mirror, if there is one.
-    /// Refused, it has changed no reading.
+    /// Merges all maps of a slot, of the same hash space, into the slot's owner, and its mirror, if any.
     pub fn give_slot(
         &mut self,
         slot: Slot,
@@ -109,7 +106,6 @@ impl Stores {
         }
     }
 
-    // Merges them into what one node has in the slot.
     fn give_slot_to(&mut self, node: NodeId, slot: Slot, other: &SlotMap) -> Result<(), Refusal>
         requires node { node.0 < node_count self.old }
         requires space { space_of other.now ≡ shared_space self.old }
@@ -125,7 +121,6 @@ impl Stores {
         Ok(())
     }
 
-    // Merges them into what the owner and the mirror have in the slot.
     fn give_slot_to_both(
         &mut self,
         slot: Slot,
@@ -151,7 +146,7 @@ impl Stores {
         Ok(())
     }
 
-    // Merges what a store has of a chunk of the slot into what one node has of it. The store reads as before.
+    // Merges a store's chunk of the slot into a node's. The store reads as before.
     fn give_chunk_of(
         &mut self,
         store: &mut NodeStore,
@@ -178,9 +173,10 @@ impl Stores {
         }
     }
 
-    /// Merges what one node has of a chunk of the slot into what another has of it, as it stands. Refused, it has changed no reading.
-    /// Costs what `KeyMap::share` and `KeyMap::take_in` do: where the other has no key of the chunk, both share the map then, and the first
-    /// write of a key by either copies that key.
+    /// Merges one node's chunk of the slot into another's. Costs `KeyMap::share` and `KeyMap::take_in`.
+    ///
+    /// If the target has no key of the chunk, both then share the map, and the first write to a key copies that
+    /// key.
     pub fn copy_chunk(
         &mut self,
         from: NodeId,

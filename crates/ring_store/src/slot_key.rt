@@ -2,7 +2,7 @@
 
 use ring_names::Slot;
 
-/// A key in a slot, and the chunk of the hash space in which the key lies.
+/// A key in a slot, and the key's chunk of the hash space.
 #[derive(Clone, Copy)]
 pub struct SlotKey<'a> {
     pub slot: Slot,

@@ -11,8 +11,10 @@ use std::alloc::Global;
 use std::collections::HashMap;
 use store_maps::{FreshMaps, KeyMap, SlotMap};
 
-/// The versions that a node stores, by slot and key. A look-up costs the key's length times the logarithm of the number of keys of its
-/// chunk, and its digest where the call takes no chunk. A refused growth leaves every reading as it was.
+/// The versions that a node stores, by slot and key. Preparations and refused calls change no reading.
+///
+/// A look-up costs the key's length times the logarithm of its chunk's keys, and the key's digest if no chunk
+/// is given.
 #[derive(Drop)]
 pub struct NodeStore {
     alloc: Global,
@@ -36,7 +38,7 @@ impl NodeStore {
     ghost use Rattle.ring_store.specs.Store.{partitions, versions_at, chunk_versions, has_place_at, IsReadyAt};
     ghost use Rattle.ring_store.specs.Store.{AllReadyAt};
 
-    /// Nothing stored, in a hash space of q partitions.
+    /// An empty store, in a hash space of q partitions.
     pub fn new(alloc: Global, q: u32) -> NodeStore
         requires { is_space q ≡ true }
         ensures space { partitions result ≡ q }
@@ -49,7 +51,7 @@ impl NodeStore {
         }
     }
 
-    /// How many partitions the hash space has.
+    /// Returns the number of partitions of the hash space.
     pub fn q(&self) -> u32
         ensures value { result ≡ partitions self.now }
         ensures space { is_space result ≡ true }
@@ -57,7 +59,7 @@ impl NodeStore {
         self.q
     }
 
-    /// The versions of a key in a slot, if it has any. Takes no memory.
+    /// Returns the versions of a key in a slot, if any.
     pub fn key_versions(&self, slot: Slot, key: &[u8]) -> Option<&Versions>
         ensures some { IfSome result (λ v. (v.now ≡ versions_at self.now slot key.now) × (v.now ≢ [])) }
         ensures none { IfNone result (versions_at self.now slot key.now ≡ []) }
@@ -66,7 +68,7 @@ impl NodeStore {
         self.key_versions_in(slot, chunk, key)
     }
 
-    /// The versions of a key of the chunk in a slot, if it has any. Takes no memory.
+    /// Returns the versions of a key of the chunk in a slot, if any.
     pub fn key_versions_in(&self, slot: Slot, chunk: u32, key: &[u8]) -> Option<&Versions>
         requires { chunk_of (partitions self.now) key.now ≡ chunk }
         ensures some { IfSome result (λ v. (v.now ≡ versions_at self.now slot key.now) × (v.now ≢ [])) }
@@ -78,7 +80,7 @@ impl NodeStore {
         }
     }
 
-    /// The map of a chunk of a slot, if the slot has any. Takes no memory.
+    /// Returns the map of a chunk of a slot, if the slot has any.
     pub fn chunk_map(&self, slot: Slot, chunk: u32) -> Option<&KeyMap>
         requires { chunk < 16 }
         ensures some { IfSome result (λ m. (k : List ℕ) → held m.now k ≡ chunk_versions self.now slot chunk k) }
@@ -92,7 +94,7 @@ impl NodeStore {
         }
     }
 
-    /// The keys of a chunk that have versions in a slot, in ascending byte order. Walks that chunk's map alone.
+    /// Returns the keys of a chunk with versions in a slot, in ascending byte order. Walks only that chunk's map.
     pub fn chunk_keys(&self, slot: Slot, chunk: u32) -> Result<Vec<Listed<u8>>, Refusal>
         requires { chunk < 16 }
         ensures ok { IfOk result (λ keys. AreKeys (chunk_versions self.now slot chunk) keys.items) }
@@ -104,7 +106,6 @@ impl NodeStore {
         }
     }
 
-    // The maps of a slot, in place of what it had.
     fn put(&mut self, slot: Slot, maps: SlotMap) -> Result<(), Refusal>
         requires { space_of maps ≡ partitions self.old }
         ensures space { partitions self.new ≡ partitions self.old }
@@ -118,7 +119,7 @@ impl NodeStore {
         Ok(())
     }
 
-    // Maps for the slot, empty ones where it has none. No reading changes, whatever the answer.
+    // Makes empty maps for the slot if it has none. No reading changes.
     fn room(&mut self, slot: Slot) -> Result<(), Refusal>
         ensures space { partitions self.new ≡ partitions self.old }
         ensures same { (s : Slot) (k : List ℕ) → versions_at self.new s k ≡ versions_at self.old s k }
@@ -132,7 +133,7 @@ impl NodeStore {
         self.put(slot, SlotMap::new(self.alloc, self.q)?)
     }
 
-    /// A merge at one key of the chunk in a slot, in one call. Refused, it has changed no reading.
+    /// Merges at one key of the chunk in a slot.
     pub fn merge_key(
         &mut self,
         slot: Slot,
@@ -155,8 +156,7 @@ impl NodeStore {
         self.put(slot, maps)
     }
 
-    /// The first half of a merge at one key of the chunk in a slot: makes its place, where it has none, and what the other versions bring.
-    /// No reading changes, whatever the answer.
+    /// Prepares a merge at one key of the chunk in a slot: makes its place if missing, and what the other versions bring.
     pub fn prepare(
         &mut self,
         slot: Slot,
@@ -177,7 +177,7 @@ impl NodeStore {
         maps.prepare(chunk, key, more)
     }
 
-    /// The second half of a merge at one key of the chunk in a slot, which cannot fail.
+    /// Completes a merge at one key of the chunk in a slot. Cannot fail.
     pub fn settle(&mut self, slot: Slot, chunk: u32, key: &[u8], fresh: Fresh)
         requires chunk { chunk_of (partitions self.old) key.now ≡ chunk }
         requires ready { IsReadyAt self.old slot key.now fresh }
@@ -190,7 +190,7 @@ impl NodeStore {
         }
     }
 
-    /// Merges a map of the chunk's keys into what a slot has. Refused, it has changed no reading. Costs what `KeyMap::take_in` does.
+    /// Merges a map of the chunk's keys into a slot. Costs `KeyMap::take_in`.
     pub fn merge_chunk(&mut self, slot: Slot, chunk: u32, other: &KeyMap) -> Result<(), Refusal>
         requires chunk { chunk < 16 }
         requires lies { (k : List ℕ) → has_place other.now k ≡ true → chunk_of (partitions self.old) k ≡ chunk }
@@ -205,7 +205,7 @@ impl NodeStore {
         maps.merge_chunk(chunk, other)
     }
 
-    // Lets copies share the map of a chunk of a slot from here on, as `KeyMap::share` does. No reading changes, whatever the answer.
+    // Lets copies share a chunk's map of a slot, as `KeyMap::share` does. No reading changes.
     pub(crate) fn share_chunk(&mut self, slot: Slot, chunk: u32) -> Result<(), Refusal>
         requires { chunk < 16 }
         ensures same { (s : Slot) (k : List ℕ) → versions_at self.new s k ≡ versions_at self.old s k }
@@ -218,8 +218,7 @@ impl NodeStore {
         }
     }
 
-    /// The first half of a merge of a slot with all maps of another, in a hash space of as many partitions: makes the places that are missing,
-    /// and what the other maps bring. No reading changes, whatever the answer.
+    /// Prepares a merge of a slot with another's maps, of the same hash space.
     pub fn prepare_slot(&mut self, slot: Slot, other: &SlotMap) -> Result<FreshMaps, Refusal>
         requires { space_of other.now ≡ partitions self.old }
         ensures same { (s : Slot) (k : List ℕ) → versions_at self.new s k ≡ versions_at self.old s k }
@@ -234,7 +233,7 @@ impl NodeStore {
         maps.prepare_map(self.alloc, other)
     }
 
-    /// The second half of a merge of a slot with all maps of another, which cannot fail.
+    /// Completes a merge of a slot with all maps of another. Cannot fail.
     pub fn settle_slot(&mut self, slot: Slot, fresh: FreshMaps)
         requires { AllReadyAt self.old slot fresh }
         ensures merged { (more : List ℕ → List Version) → AreFreshMaps (versions_at self.old slot) more fresh
@@ -246,7 +245,7 @@ impl NodeStore {
         }
     }
 
-    /// Forgets all keys of a slot. Takes no memory.
+    /// Removes all keys of a slot.
     pub fn drop_slot(&mut self, slot: Slot)
         ensures gone { (k : List ℕ) → versions_at self.new slot k ≡ [] }
         ensures others { (s : Slot) (k : List ℕ) → s ≢ slot → versions_at self.new s k ≡ versions_at self.old s k }
@@ -255,7 +254,7 @@ impl NodeStore {
         self.slots.remove(&slot);
     }
 
-    /// A copy of the store: every key of every slot reads the same.
+    /// Copies the store: every key of every slot reads the same.
     pub fn try_copy(&self) -> Result<NodeStore, Refusal>
         ensures space { IfOk result (λ a. partitions a ≡ partitions self.now) }
         ensures same { IfOk result (λ a. (s : Slot) (k : List ℕ) → versions_at a s k ≡ versions_at self.now s k) }

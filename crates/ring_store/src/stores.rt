@@ -12,8 +12,10 @@ use std::alloc::Global;
 use std::mem;
 use store_maps::{FreshMaps, KeyMap, SlotMap};
 
-/// The versions that the nodes store, by node, slot and key. A change that touches two nodes is made in halves: first all that it needs is
-/// made ready at both, which may be refused and changes no reading, and then all is taken in, which cannot fail.
+/// The versions that the nodes store, by node, slot and key. Preparations and refused calls change no reading.
+///
+/// A change of two nodes has two halves: it is prepared at both, which may fail, then completed, which cannot
+/// fail.
 #[derive(Drop)]
 pub struct Stores {
     alloc: Global,
@@ -39,7 +41,7 @@ impl Stores {
     ghost use Rattle.ring_store.specs.Stores.{node_count, shared_space, held_at, chunk_held_at, IsReadyOn, AllReadyOn};
     ghost use Rattle.ring_store.specs.Stores.{KeepsReady};
 
-    /// Nothing stored at any of so many nodes, in a hash space of q partitions.
+    /// Empty stores for the nodes, in a hash space of q partitions.
     pub fn start(alloc: Global, q: u32, nodes: u32) -> Result<Stores, Refusal>
         requires { is_space q ≡ true }
         ensures space { IfOk result (λ a. shared_space a ≡ q) }
@@ -54,7 +56,7 @@ impl Stores {
         Ok(Stores { alloc, q, list })
     }
 
-    /// The versions of a key of the chunk in a slot at a node, if it has any. Takes no memory.
+    /// Returns the versions of a key of the chunk in a slot at a node, if any.
     pub fn key_versions_in(
         &self,
         node: NodeId,
@@ -72,7 +74,7 @@ impl Stores {
         }
     }
 
-    /// The map of a chunk of a slot at a node, if there is the node and the slot has any maps there. Takes no memory.
+    /// Returns the map of a chunk of a slot at a node, if the node has maps for the slot.
     pub fn chunk_map(&self, node: NodeId, slot: Slot, chunk: u32) -> Option<&KeyMap>
         requires { chunk < 16 }
         ensures some { IfSome result (λ m. (k : List ℕ) → held m.now k ≡ chunk_held_at self.now node.0 slot chunk k) }
@@ -86,8 +88,7 @@ impl Stores {
         }
     }
 
-    /// The first half of a merge at one key in a slot at a node: makes its place, where it has none, and what the other versions bring. No
-    /// reading changes, whatever the answer, and all that was made ready before stays so.
+    /// Prepares a merge at one key in a slot at a node. Earlier preparations stay.
     pub fn prepare(&mut self, node: NodeId, at: &SlotKey, more: &Versions) -> Result<Fresh, Refusal>
         requires node { node.0 < node_count self.old }
         requires chunk { chunk_of (shared_space self.old) at.now.key.now ≡ at.now.chunk }
@@ -103,7 +104,7 @@ impl Stores {
         store.prepare(at.slot, at.chunk, at.key, more)
     }
 
-    /// The second half of a merge at one key in a slot at a node, which cannot fail. What was made ready at other nodes stays so.
+    /// Completes a merge at one key in a slot at a node. Cannot fail. Preparations at other nodes stay.
     pub fn settle(&mut self, node: NodeId, at: &SlotKey, fresh: Fresh)
         requires node { node.0 < node_count self.old }
         requires chunk { chunk_of (shared_space self.old) at.now.key.now ≡ at.now.chunk }
@@ -122,8 +123,7 @@ impl Stores {
         store.settle(at.slot, at.chunk, at.key, fresh);
     }
 
-    /// Merges a map of the chunk's keys into what one node has in the slot. Refused, it has changed no reading.
-    /// Costs what `KeyMap::take_in` does.
+    /// Merges a map of the chunk's keys into a node's slot. Costs `KeyMap::take_in`.
     pub fn give_chunk(
         &mut self,
         node: NodeId,
@@ -145,7 +145,7 @@ impl Stores {
         store.merge_chunk(slot, chunk, other)
     }
 
-    // Takes the store of a node out and leaves an empty one in its place. A node that there is not has an empty one.
+    // Empties a node's store, and returns what was there, which is nothing for an unknown node.
     pub(crate) fn take(&mut self, node: NodeId) -> NodeStore
         ensures space { shared_space self.new ≡ shared_space self.old }
         ensures count { node_count self.new ≡ node_count self.old }
@@ -161,7 +161,6 @@ impl Stores {
         }
     }
 
-    // Puts a store in the place of a node's, if there is the node.
     pub(crate) fn put_back(&mut self, node: NodeId, store: NodeStore)
         requires { partitions store ≡ shared_space self.old }
         ensures space { shared_space self.new ≡ shared_space self.old }
@@ -177,8 +176,7 @@ impl Stores {
         }
     }
 
-    /// The first half of a merge of a slot at a node with all maps of another, in a hash space of as many partitions: makes the places that are
-    /// missing, and what the other maps bring. No reading changes, whatever the answer, and all that was made ready before stays so.
+    /// Prepares a merge of a node's slot with another's maps, of the same hash space. Earlier preparations stay.
     pub fn prepare_slot(
         &mut self,
         node: NodeId,
@@ -199,7 +197,7 @@ impl Stores {
         store.prepare_slot(slot, other)
     }
 
-    /// The second half of a merge of a slot at a node with all maps of another, which cannot fail. What was made ready at other nodes stays so.
+    /// Completes a merge of a node's slot with all maps of another. Cannot fail. Preparations at other nodes stay.
     pub fn settle_slot(&mut self, node: NodeId, slot: Slot, fresh: FreshMaps)
         requires node { node.0 < node_count self.old }
         requires ready { AllReadyOn self.old node.0 slot fresh }
@@ -215,7 +213,7 @@ impl Stores {
         store.settle_slot(slot, fresh);
     }
 
-    /// Forgets all keys of a slot at a node. Takes no memory.
+    /// Removes all keys of a slot at a node.
     pub fn drop_slot(&mut self, node: NodeId, slot: Slot)
         ensures space { shared_space self.new ≡ shared_space self.old }
         ensures count { node_count self.new ≡ node_count self.old }
@@ -230,7 +228,7 @@ impl Stores {
         }
     }
 
-    /// Forgets all that a node stores. Takes no memory.
+    /// Removes all that a node stores.
     pub fn clear(&mut self, node: NodeId)
         ensures space { shared_space self.new ≡ shared_space self.old }
         ensures count { node_count self.new ≡ node_count self.old }

@@ -71,7 +71,7 @@ names-next xs names i x new e lt so_far =
 
 -- ---- the ring
 
--- it is one where its rows are those of the slots
+-- the result is a ring if its rows are those of the slots
 pub ring-changed : (ring : RingValue) (rows : List (List NodeId)) (members : List Bool) → IsRing ring → length rows ≡ ring.q
     → AllByRecursion (IsRow ring.n (with_members ring.nodes members)) rows → IsRing (changed ring rows members)
 ring-changed ring rows members r whole each = record {

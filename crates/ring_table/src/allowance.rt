@@ -5,10 +5,10 @@ ghost use Rattle.ring_table.specs.Value.{most_of};
 
 use ring_names::NodeId;
 
-/// The transfers of a node that one number of its allowance counts.
+/// The transfers that one number of an allowance counts.
 #[derive(Clone, Copy, Debug, PartialEq, Eq, Hash)]
 pub enum Side {
-    /// All in which it takes part.
+    /// All in which the node takes part.
     Both,
     /// Those that it receives.
     Take,
@@ -23,17 +23,17 @@ pub struct NodeSide {
     pub side: Side,
 }
 
-/// The most transfers that may be open with a node at once, each number from 1 to 64.
+/// The most open transfers of a node, each number from 1 to 64.
 #[derive(Clone, Copy, Debug, PartialEq, Eq)]
 pub enum Allowance {
-    /// One number for all in which it takes part.
+    /// One number for all transfers.
     Joint(u32),
-    /// A number for those that it receives, and one for those that read from it. Not in a ring of format 1.
+    /// One number for transfers to the node, and another for transfers from the node. Not in format 1.
     Split { take: u32, give: u32 },
 }
 
 impl Allowance {
-    /// The most transfers of that side that may be open at once, if the allowance counts the side.
+    /// Returns the side's most open transfers, if the allowance counts the side.
     pub fn most(&self, side: Side) -> Option<u32>
         ensures { result ≡ most_of side self.now }
     {

@@ -1,4 +1,4 @@
-//! Rings made of a ring: a copy, and one with other owners and members.
+//! Copies of a ring, perhaps with other owners and members.
 
 ghost use Rattle.std.specs.Prelude.{◌≡◌, ◌≤◌, ◌⊎◌, [], List, length, map, slice_get, IsTrue, IfOk, IfErr, ◌↔◌};
 ghost use Rattle.std.specs.List.{AllByRecursion};
@@ -21,7 +21,6 @@ fn flag_at(flags: &[bool], place: usize) -> Option<bool>
     flags.get(place).copied()
 }
 
-// The nodes, those members whose flags say so.
 fn copy_nodes(alloc: Global, nodes: &[Node], members: &[bool]) -> Result<Vec<Node>, AllocError>
     ensures { IfOk result (λ v. v.items ≡ with_members nodes.now members.now) }
 {
@@ -62,7 +61,6 @@ fn copy_rows(alloc: Global, rows: &[Listed<NodeId>]) -> Result<Vec<Listed<NodeId
     Ok(copies)
 }
 
-// Whether they are owners of so many slots: different members.
 fn is_row(slots: u32, nodes: &[Node], row: &[NodeId]) -> bool
     ensures { IsTrue result ↔ IsRow slots nodes.now row.now }
 {
@@ -79,7 +77,6 @@ fn are_rows(slots: u32, nodes: &[Node], rows: &[Listed<NodeId>]) -> bool
 }
 
 impl Ring {
-    // The ring with these nodes and rows.
     fn rebuild(
         &self,
         alloc: Global,
@@ -106,7 +103,7 @@ impl Ring {
         Ok(Ring::assemble(head, Declared { names, nodes }, owners))
     }
 
-    /// Copies the ring. Refused only if memory runs out.
+    /// Copies the ring. Fails only if memory runs out.
     pub fn copy(&self, alloc: Global) -> Result<Ring, Refusal>
         ensures ok { IfOk result (λ v. v ≡ self.now) }
         ensures memory { IfErr result (λ e. e ≡ OutOfMemory) }
@@ -115,9 +112,10 @@ impl Ring {
         self.rebuild(alloc, nodes, self.rows())
     }
 
-    /// Copies the ring with other owners, by partition and slot, and other members, a flag for each node by number;
-    /// a node without a flag stays what it is. Refused with `NoPlan` if that is not a ring: the rows must be `q` rows of `n`
-    /// different members.
+    /// Copies the ring with other owners, by partition and slot, and other members, by number. A node without a
+    /// flag stays what it is.
+    ///
+    /// Fails with `NoPlan` unless the rows are `q` rows of `n` different members.
     pub fn with(
         &self,
         alloc: Global,

@@ -1,4 +1,4 @@
-//! Node lines, and the nodes that were declared so far.
+//! Node lines, and the nodes declared so far.
 
 ghost use Rattle.std.specs.Prelude.{◌≡◌, ◌<◌, ◌≤◌, ◌+◌, ◌++◌, ◌∷◌, [], length, map, OnOk, OnErr, IfErr, codes, IfOk};
 ghost use Rattle.std.specs.Prelude.{None, not, nat_lt, true};
@@ -18,7 +18,7 @@ use std::alloc::Global;
 use std::marker::Model;
 use texts::{Fields, Lines, both, finish, is_name, need};
 
-/// The nodes that were declared, and their names.
+/// The declared nodes, and their names.
 #[derive(Drop)]
 pub struct Declared {
     pub names: Names,
@@ -37,7 +37,7 @@ impl Model for Declared {
     ghost invariant = { λ a. (a.names ≡ map (λ x. x.name) a.nodes.items) × (length a.nodes.items ≤ 1024) × EachIsName a.names };
 }
 
-// What a node line says, its name still in the text.
+// A node line, its name still in the text.
 #[derive(Drop)]
 struct NodeLine<'a> {
     name: &'a [u8],
@@ -45,7 +45,6 @@ struct NodeLine<'a> {
     is_member: bool,
 }
 
-// A name that is not among `names`.
 fn new_name<'a>(names: &Names, fields: &mut Fields<'a>) -> Result<&'a [u8], Refusal>
     ensures { Does (λ k. field_at k (judge_new k names.now)) fields.old (map_ok (λ name. name.now) result) fields.new }
 {
@@ -62,7 +61,6 @@ fn new_name<'a>(names: &Names, fields: &mut Fields<'a>) -> Result<&'a [u8], Refu
     }
 }
 
-// A number from 1 to 64.
 fn most(fields: &mut Fields) -> Result<u32, Refusal>
     ensures { Does (λ k. field_at k (judge_most k)) fields.old result fields.new }
 {
@@ -72,7 +70,7 @@ fn most(fields: &mut Fields) -> Result<u32, Refusal>
     }
 }
 
-// Such a number, where the format has a second one and a number stands in front.
+// A second such number, if the format has one and a number follows.
 #[tactic(auto, unfolding(crate::specs::Reading::second_at))]
 fn second(format: u32, fields: &mut Fields) -> Result<Option<u32>, Refusal>
     ensures { Does (second_at format) fields.old result fields.new }
@@ -144,7 +142,7 @@ impl Declared {
         self.nodes.is_empty()
     }
 
-    // What a node line behind these nodes says. Takes no memory.
+    // Judges a node line after these nodes. Takes no memory.
     #[tactic(auto, unfolding(crate::specs::Reading::node_at))]
     fn judge<'a>(&self, format: u32, mut fields: Fields<'a>) -> Result<NodeLine<'a>, Refusal>
         ensures value { map_ok node_of result ≡ node_at format self.now fields.entry.number fields.entry.fields }
@@ -167,7 +165,6 @@ impl Declared {
         }
     }
 
-    // Adds the node of a line that was judged behind these nodes.
     fn push(&mut self, alloc: Global, said: NodeLine) -> Result<(), Refusal>
         requires room { length self.old < 1024 }
         requires new { place (map (λ x. x.name) self.old) said.name.now ≡ None }
@@ -189,7 +186,6 @@ impl Declared {
     }
 }
 
-// Reads node lines behind those declared, as long as lines begin so.
 fn read_into(
     alloc: Global,
     format: u32,
@@ -210,7 +206,7 @@ fn read_into(
     Ok(())
 }
 
-/// Reads node lines as long as lines begin so, at least one.
+/// Reads node lines while lines begin so, at least one.
 #[tactic(auto, unfolding(crate::specs::Reading::nodes_at))]
 pub fn read_nodes(alloc: Global, format: u32, lines: &mut Lines) -> Result<Declared, Refusal>
     ensures read { Reads result lines.new (nodes_at format lines.old) }

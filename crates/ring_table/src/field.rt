@@ -1,4 +1,4 @@
-//! A field of a line that names a node of a ring.
+//! A field that names a node of a ring.
 
 ghost use Rattle.std.specs.Prelude.{◌≡◌, true, Some};
 ghost use Rattle.ring_names.specs.Names.{place};
@@ -11,7 +11,6 @@ use crate::ring::Ring;
 use ring_names::{NodeId, Refusal};
 use texts::{Fields, is_name};
 
-// Whether that is the name of the node.
 #[inline(always)]
 fn is_named(ring: &Ring, node: NodeId, name: &[u8]) -> bool
     ensures value { result ≡ true → place (names_of ring.now) name.now ≡ Some node.0 }
@@ -22,8 +21,9 @@ fn is_named(ring: &Ring, node: NodeId, name: &[u8]) -> bool
     place < nodes.len() && nodes[place].name.as_slice() == name
 }
 
-/// Takes a field that must name a node of the ring. Else that is `BadLine` or `UnknownNode`. Where the node is the `likely` one, as in a
-/// row of lines of one node, its name is not looked up.
+/// Takes a field that must name a node of the ring, or fails with `BadLine` or `UnknownNode`.
+///
+/// If it is the `likely` node, as in successive lines of one node, the name is not looked up.
 #[tactic(auto, unfolding(crate::specs::Reading::declared_at))]
 #[inline(always)]
 pub fn node_field(

@@ -1,4 +1,4 @@
-//! The lines in front of the nodes.
+//! The lines before the nodes.
 
 ghost use Rattle.std.specs.Prelude.{◌≡◌, ◌≢◌, OnOk, IfOk, IfErr};
 ghost use Rattle.ring_names.specs.Space.{is_space as is_valid_space};
@@ -12,7 +12,7 @@ ghost use Rattle.ring_table.specs.Reading.{head_at};
 use ring_names::Refusal;
 use texts::{Fields, Lines, both, finish};
 
-/// How many slots a partition has, how many of them answer a read and a write, and how many stores may be lost.
+/// A partition's slots, how many of them answer a read and a write, and how many nodes may lose their data.
 #[derive(Clone, Copy)]
 pub struct Quorum {
     pub n: u32,
@@ -21,7 +21,7 @@ pub struct Quorum {
     pub loss: u32,
 }
 
-/// What the lines in front of the nodes say: the format, the number of partitions, and the quorum.
+/// The lines before the nodes: format, partitions and quorum.
 #[derive(Clone, Copy)]
 pub struct Head {
     pub format: u32,
@@ -95,7 +95,6 @@ fn is_quorum(n: u32, r: u32, w: u32, loss: u32) -> bool
         && u64::from(n) + u64::from(loss) < u64::from(r) + u64::from(w)
 }
 
-// The quorum, if it is one.
 fn judge_quorum(line: u32, n: u32, r: u32, w: u32, loss: u32) -> Result<Quorum, Refusal>
     ensures { result ≡ judge_quorum line n r w loss }
 {
@@ -105,7 +104,7 @@ fn judge_quorum(line: u32, n: u32, r: u32, w: u32, loss: u32) -> Result<Quorum, 
     Ok(Quorum { n, r, w, loss })
 }
 
-// How many stores may be lost, where the format says it.
+// How many nodes may lose their data, if the format says it.
 #[tactic(auto, unfolding(crate::specs::Reading::loss_at))]
 fn loss(format: u32, fields: &mut Fields) -> Result<u32, Refusal>
     ensures { Does (loss_at format) fields.old result fields.new }
@@ -133,7 +132,7 @@ fn quorum_line(format: u32, mut fields: Fields) -> Result<Quorum, Refusal>
     }
 }
 
-/// Reads the lines in front of the nodes. Takes no memory.
+/// Reads the lines before the nodes. Takes no memory.
 #[tactic(auto, unfolding(crate::specs::Reading::head_at))]
 pub fn read_head(lines: &mut Lines) -> Result<Head, Refusal>
     ensures read { Answers result lines.new (head_at lines.old) }

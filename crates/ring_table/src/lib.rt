@@ -1,4 +1,4 @@
-//! The ring: which nodes there are, how many must answer, and who owns each slot of each partition.
+//! The ring: its nodes, how many must answer, and the owner of each slot.
 #![tactic(auto)]
 
 mod allowance;

@@ -12,13 +12,12 @@ use ring_names::{Listed, NodeId};
 pub struct Node {
     /// 1 to 32 bytes of `a-z0-9_.:-`.
     pub name: Listed<u8>,
-    /// The most transfers that may be open with this node at once.
+    /// The most open transfers of this node.
     pub allowance: Allowance,
-    /// Whether it is a member before the first step of a plan (`in`), or not yet (`out`).
+    /// Whether it is a member before the first step of a plan (`in`) or not (`out`).
     pub is_member: bool,
 }
 
-// Whether the node of that number is a member before the first step of a plan.
 pub(crate) fn is_member(nodes: &[Node], node: NodeId) -> bool
     ensures { result ≡ is_member nodes.now node }
 {
@@ -28,7 +27,6 @@ pub(crate) fn is_member(nodes: &[Node], node: NodeId) -> bool
     }
 }
 
-// The name of the node of that number, or no bytes if the ring lacks it.
 pub(crate) fn name_at(nodes: &[Node], node: NodeId) -> &[u8]
     ensures { result.now ≡ name_at (map (λ x. x.name) nodes.now) node }
 {

@@ -1,4 +1,4 @@
-//! Reading a ring.
+//! Reads rings.
 
 ghost use Rattle.std.specs.Prelude.{◌≡◌, ◌≤◌, Ok, IfOk, IfErr, OnOk};
 ghost use Rattle.ring_names.specs.declared.refusal.Refusal.TheVariants.{OutOfMemory};
@@ -19,14 +19,13 @@ use ring_names::{Listed, NodeId, Refusal};
 use std::alloc::Global;
 use texts::{Lines, end};
 
-// The nodes of a ring, and the owners of the slots of each partition.
+// The nodes of a ring, and the owners of each partition's slots.
 #[derive(Drop)]
 struct Body {
     declared: Declared,
     owners: Vec<Listed<NodeId>>,
 }
 
-// Reads the nodes and the owners of a ring with this head, and its line `end`.
 #[tactic(auto, unfolding(crate::specs::Reading::body_at))]
 fn read_body(alloc: Global, head: Head, lines: &mut Lines) -> Result<Body, Refusal>
     requires { head.quorum.n ≤ 7 }
@@ -40,15 +39,15 @@ fn read_body(alloc: Global, head: Head, lines: &mut Lines) -> Result<Body, Refus
     Ok(Body { declared, owners })
 }
 
-/// Reads the lines of a ring, up to its line `end`, and leaves what follows them. Refused as `read_ring` is.
+/// Reads the lines of a ring, up to its `end`, and leaves what follows. Fails as `read_ring` does.
 #[tactic(auto, unfolding(crate::specs::Reading::ring_at))]
 pub fn read_ring_section(alloc: Global, lines: &mut Lines) -> Result<Ring, Refusal>
     ensures read { Reads result lines.new (ring_at lines.old) }
-    // What is read is a ring.
+    // The result is a ring.
     ensures found { IfOk result (λ v. IsRing v) }
-    // Memory may run out behind its first four lines, if these have no fault, and later only behind lines that have none.
+    // Memory may run out only after lines without faults, and after at least the first four.
     ensures late { Late 4 result lines.old lines.new (ring_at lines.old) }
-    // It has four lines at least.
+    // It has at least four lines.
     ensures far { OnOk result (lines_on 4 lines.old.line ≤ lines.new.line) }
 {
     let head = read_head(lines)?;
@@ -56,7 +55,6 @@ pub fn read_ring_section(alloc: Global, lines: &mut Lines) -> Result<Ring, Refus
     Ok(Ring::assemble(head, declared, owners))
 }
 
-// Reads a ring from its whole text.
 fn read_whole(alloc: Global, text: &[u8]) -> Result<Ring, Refusal>
     ensures exact { Gives result (ring_reading text.now) }
     ensures late { IfErr result (λ e. e ≡ OutOfMemory → NoFaultBefore 5 (ring_reading text.now)) }
@@ -67,17 +65,20 @@ fn read_whole(alloc: Global, text: &[u8]) -> Result<Ring, Refusal>
     Ok(ring)
 }
 
-/// Reads a ring from its whole text. The first line at fault decides, and in it the fault of the least number:
-/// 1 `BadLine`, 2 `TooLarge`, 3 `UnknownNode`, 4 `Repeated`, 10 `QuorumTooSmall`, 11 `SharedNode`, 12 `NotMember`.
-/// `OutOfMemory` comes only where memory ran out, behind lines that have no fault.
+/// Reads a ring from its whole text.
+///
+/// The first faulty line decides, and in it the fault of the least number. `OutOfMemory` comes only after lines
+/// without faults.
+///
+/// 1 `BadLine`, 2 `TooLarge`, 3 `UnknownNode`, 4 `Repeated`, 10 `QuorumTooSmall`, 11 `SharedNode`, 12
+/// `NotMember`.
 pub fn read_ring(alloc: Global, text: &[u8]) -> Result<Ring, Refusal>
-    // What is read is a ring, and spelled so.
+    // The result is a ring with this text.
     ensures found { IfOk result (λ v. IsRing v × (text.now ≡ ring_text v)) }
-    // What is spelled so is read, unless memory runs out.
+    // A ring's text is read, unless memory runs out.
     ensures only { (v : RingValue) → IsRing v → text.now ≡ ring_text v → Gives result (Ok v) }
     // Which fault it is.
     ensures exact { Gives result (ring_reading text.now) }
-    // Memory may run out only if the first four lines have no fault.
     ensures late { IfErr result (λ e. e ≡ OutOfMemory → NoFaultBefore 5 (ring_reading text.now)) }
 {
     read_whole(alloc, text)

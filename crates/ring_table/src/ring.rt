@@ -1,4 +1,4 @@
-//! The ring as a value that is always valid.
+//! The ring, always valid.
 
 ghost use Rattle.std.specs.Prelude.{◌≡◌, ◌<◌, true, Some, IfSome, length, slice_get, option_map};
 ghost use Rattle.ring_names.specs.Names.{place};
@@ -11,9 +11,11 @@ use crate::node::{Node, is_member, name_at};
 use ring_names::{Listed, Names, NodeId, Slot};
 use std::marker::Model;
 
-/// A ring. Partitions are the `q` equal parts of the hash space (section 6.2 of DeCandia et al. 2007, strategy 3);
-/// each has `n` slots, and each slot one owner, a member. Of the slots `r` answer a read and `w` take a write,
-/// with `r + w > n + f` (section 4.5), where `f` stores may be lost.
+/// A ring. Partitions are `q` equal parts of the hash space (section 6.2 of DeCandia et al. 2007, strategy 3).
+/// Each has `n` slots with one owner each, a member.
+///
+/// `r` slots answer a read and `w` take a write, with `r + w > n + f` (section 4.5), if `f` nodes may lose
+/// their data.
 pub struct Ring {
     format: u32,
     q: u32,
@@ -26,7 +28,7 @@ pub struct Ring {
     owners: Vec<Listed<NodeId>>,
 }
 
-// Dropped by a call, so that no crate above goes through its parts wherever a ring ends.
+// Dropping is a call, so crates above need not check the parts.
 impl Drop for Ring {
     fn drop(self) {
         let Ring {
@@ -66,7 +68,6 @@ impl Ring {
     ghost use Rattle.ring_names.specs.Space.{is_space};
     ghost use Rattle.ring_table.specs.Valid.{IsRing};
 
-    // The ring of these parts.
     pub(crate) fn assemble(head: Head, declared: Declared, owners: Vec<Listed<NodeId>>) -> Ring
         requires { IsRing (ring_of head (declared, owners.items)) }
         ensures { result ≡ ring_of head (declared, owners.items) }
@@ -85,7 +86,7 @@ impl Ring {
         }
     }
 
-    /// The format of the ring's text: 1, 2 or 3.
+    /// Returns the format of the ring's text: 1, 2 or 3.
     pub fn format(&self) -> u32
         ensures value { result ≡ self.now.format }
         ensures valid { IsRing self.now }
@@ -93,7 +94,7 @@ impl Ring {
         self.format
     }
 
-    /// A ring of format 1 as one of format 2, and any other as it is. Nothing but the format changes.
+    /// Turns a ring of format 1 into one of format 2. Nothing else changes.
     pub fn migrate(mut self) -> Ring
         ensures { result ≡ migrated self }
     {
@@ -103,7 +104,7 @@ impl Ring {
         self
     }
 
-    /// The number of partitions, a power of two from 1 to 4,096.
+    /// Returns the number of partitions, a power of two from 1 to 4,096.
     pub fn q(&self) -> u32
         ensures value { result ≡ self.now.q }
         ensures space { is_space result ≡ true }
@@ -112,7 +113,7 @@ impl Ring {
         self.q
     }
 
-    /// The number of slots of each partition, 1 to 7.
+    /// Returns the slots of each partition, 1 to 7.
     pub fn n(&self) -> u32
         ensures value { result ≡ self.now.n }
         ensures valid { IsRing self.now }
@@ -120,7 +121,7 @@ impl Ring {
         self.n
     }
 
-    /// How many slots must answer a read, 1 to `n`.
+    /// Returns how many slots must answer a read, 1 to `n`.
     pub fn r(&self) -> u32
         ensures value { result ≡ self.now.r }
         ensures valid { IsRing self.now }
@@ -128,7 +129,7 @@ impl Ring {
         self.r
     }
 
-    /// How many slots must take a write, 1 to `n`.
+    /// Returns how many slots must take a write, 1 to `n`.
     pub fn w(&self) -> u32
         ensures value { result ≡ self.now.w }
         ensures valid { IsRing self.now }
@@ -136,7 +137,7 @@ impl Ring {
         self.w
     }
 
-    /// How many stores may be lost, 0 to 6; 0 in formats 1 and 2.
+    /// Returns how many nodes may lose their data, 0 to 6; 0 in formats 1 and 2.
     pub fn loss(&self) -> u32
         ensures value { result ≡ self.now.loss }
         ensures valid { IsRing self.now }
@@ -144,7 +145,7 @@ impl Ring {
         self.loss
     }
 
-    /// The most transfers of that side that may be open with the node at once, if it is declared and its allowance counts the side.
+    /// Returns the node's most open transfers on the side, if declared and counted.
     pub fn allowance(&self, of: NodeSide) -> Option<u32>
         ensures { result ≡ allowance_of self.now of.node.0 of.side }
     {
@@ -154,7 +155,7 @@ impl Ring {
         }
     }
 
-    /// The nodes by number, 1 to 1,024 of them.
+    /// Returns the nodes by number, 1 to 1,024 of them.
     pub fn nodes(&self) -> &[Node]
         ensures value { result.now ≡ self.now.nodes }
         ensures valid { IsRing self.now }
@@ -162,17 +163,17 @@ impl Ring {
         self.nodes.as_slice()
     }
 
-    /// The name of the node of that number, or no bytes if the ring lacks it. Takes no memory.
+    /// Returns the node's name, or no bytes if the ring lacks it. Takes no memory.
     pub fn name(&self, node: u32) -> &[u8]
         ensures { result.now ≡ name_at (names_of self.now) (record { 0 = node }) }
     {
         name_at(self.nodes.as_slice(), NodeId(node))
     }
 
-    /// The node of that name, if it is declared. Takes no memory.
+    /// Returns the node of that name. Takes no memory.
     pub fn number_of(&self, name: &[u8]) -> Option<NodeId>
         ensures value { option_map (λ x. x.0) result ≡ place (names_of self.now) name.now }
-        // Names of a ring are names.
+        // Names of a ring are valid names.
         ensures name { IfSome result (λ _. is_name name.now ≡ true) }
     {
         match self.names.number_of(name) {
@@ -188,7 +189,7 @@ impl Ring {
         is_member(self.nodes.as_slice(), node)
     }
 
-    /// The owners of the slots of a partition, by index.
+    /// Returns the owners of a partition's slots, by index.
     pub fn row(&self, partition: u32) -> &[NodeId]
         requires { partition < self.now.q }
         ensures value { row_of self.now partition ≡ Some result.now }
@@ -197,7 +198,7 @@ impl Ring {
         self.owners[partition as usize].as_slice()
     }
 
-    /// The owners of the slots of each partition, by partition.
+    /// Returns the owners of all slots, by partition.
     pub fn rows(&self) -> &[Listed<NodeId>]
         ensures value { result.now ≡ self.now.owners }
         ensures valid { IsRing self.now }
@@ -205,7 +206,7 @@ impl Ring {
         self.owners.as_slice()
     }
 
-    /// The owner of a slot before the first step of a plan.
+    /// Returns the owner of a slot before the first step of a plan.
     pub fn owner(&self, slot: Slot) -> NodeId
         requires partition { slot.partition < self.now.q }
         requires index { slot.index < self.now.n }

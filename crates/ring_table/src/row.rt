@@ -18,7 +18,7 @@ use std::alloc::Global;
 use std::marker::Model;
 use texts::{Fields, Lines, both, finish, is_name};
 
-// Up to 7 owners, kept from the back: the first one read is put in last.
+// Up to 7 owners, stored from the back: the first one read is stored last.
 #[derive(Drop)]
 struct Row {
     owners: [NodeId; 7],
@@ -62,7 +62,7 @@ impl Row {
     }
 }
 
-// A declared node. What is found is a name, so that is asked of others alone.
+// Looks up a declared node. Only an unknown field is checked to be a name.
 #[tactic(auto, using(crate::proofs::RowLaws::found_name))]
 fn declared_node(names: &Names, fields: &mut Fields) -> Result<NodeId, Refusal>
     requires { EachIsName names.now }
@@ -81,7 +81,6 @@ fn declared_node(names: &Names, fields: &mut Fields) -> Result<NodeId, Refusal>
     Err(Refusal::BadLine(line))
 }
 
-// So many owners, at most 7.
 fn owners(names: &Names, count: u32, fields: &mut Fields) -> Result<Row, Refusal>
     requires few { count ≤ 7 }
     requires names { EachIsName names.now }
@@ -123,7 +122,6 @@ pub(crate) fn are_different(row: &[NodeId]) -> bool
     new && different
 }
 
-// What `slots <p>` and the owners of the partition's slots say.
 #[tactic(auto, unfolding(crate::specs::Reading::row_at))]
 fn judge(
     declared: &Declared,

@@ -1,4 +1,4 @@
-//! Writing a ring.
+//! Writes rings.
 
 ghost use Rattle.std.specs.Prelude.{◌≡◌, ◌++◌, ◌∷◌, [], ◌<◌, ◌≤◌, length, map, List, ℕ, IfOk, IfErr, OnOk, slice_get};
 ghost use Rattle.std.specs.Prelude.{Some};
@@ -36,7 +36,7 @@ fn push_space(out: &mut Vec<u8>, q: u32) -> Result<(), AllocError>
     Ok(())
 }
 
-// How many stores may be lost, where the format says it.
+// How many nodes may lose their data, if the format says it.
 fn push_loss(out: &mut Vec<u8>, format: u32, loss: u32) -> Result<(), AllocError>
     ensures { OnOk result (out.new.items ≡ out.old.items ++ spaced (loss_fields format loss)) }
 {
@@ -59,7 +59,7 @@ fn push_quorum(out: &mut Vec<u8>, ring: &Ring) -> Result<(), AllocError>
     Ok(())
 }
 
-// The one number of an allowance, or both, each behind a space
+// The numbers of an allowance, each after a space
 fn push_allowance(out: &mut Vec<u8>, allowance: &Allowance) -> Result<(), AllocError>
     ensures { OnOk result (out.new.items ≡ out.old.items ++ spaced (allowance_fields allowance.now)) }
 {
@@ -84,7 +84,6 @@ fn push_node(out: &mut Vec<u8>, node: &Node) -> Result<(), AllocError>
     Ok(())
 }
 
-// The node lines.
 fn push_nodes(out: &mut Vec<u8>, nodes: &[Node]) -> Result<(), AllocError>
     ensures { OnOk result (out.new.items ≡ out.old.items ++ text_of (map node_fields nodes.now)) }
 {
@@ -94,7 +93,7 @@ fn push_nodes(out: &mut Vec<u8>, nodes: &[Node]) -> Result<(), AllocError>
     Ok(())
 }
 
-/// Adds the name of a declared node behind a space.
+/// Adds a space and the name of a declared node.
 pub fn push_name(out: &mut Vec<u8>, nodes: &[Node], owner: NodeId) -> Result<(), AllocError>
     ensures { OnOk result (out.new.items ≡ out.old.items ++ 32 ∷ name_at (map (λ x. x.name) nodes.now) owner) }
 {
@@ -102,7 +101,6 @@ pub fn push_name(out: &mut Vec<u8>, nodes: &[Node], owner: NodeId) -> Result<(),
     out.extend_from_slice(name_at(nodes, owner))
 }
 
-// The owners of a row, each behind a space.
 fn push_owners(out: &mut Vec<u8>, nodes: &[Node], row: &[NodeId]) -> Result<(), AllocError>
     ensures { OnOk result
         (out.new.items ≡ out.old.items ++ flat_map (λ x. 32 ∷ name_at (map (λ y. y.name) nodes.now) x) row.now) }
@@ -113,7 +111,7 @@ fn push_owners(out: &mut Vec<u8>, nodes: &[Node], row: &[NodeId]) -> Result<(), 
     Ok(())
 }
 
-/// Adds the line of a partition's owners: `slots`, the number of the partition, and the name of each owner.
+/// Adds a partition's line: `slots`, its number, and the names of its owners.
 pub fn push_row(
     out: &mut Vec<u8>,
     nodes: &[Node],
@@ -130,7 +128,6 @@ pub fn push_row(
     Ok(())
 }
 
-// The rows of owners, from partition 0 on.
 fn push_rows(out: &mut Vec<u8>, nodes: &[Node], rows: &[Listed<NodeId>]) -> Result<(), AllocError>
     requires { length rows.now ≤ 4096 }
     ensures { OnOk result
@@ -142,7 +139,7 @@ fn push_rows(out: &mut Vec<u8>, nodes: &[Node], rows: &[Listed<NodeId>]) -> Resu
     Ok(())
 }
 
-/// The one text of the ring. Its only refusal is `OutOfMemory`.
+/// Writes the ring's only text. Fails only with `OutOfMemory`.
 pub fn write_ring(alloc: Global, ring: &Ring) -> Result<Vec<u8>, Refusal>
     ensures text { IfOk result (λ v. v.items ≡ ring_text ring.now) }
     ensures memory { IfErr result (λ e. e ≡ OutOfMemory) }

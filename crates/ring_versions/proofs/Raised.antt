@@ -26,7 +26,7 @@ join_both xs ys vs c d e is a b raise =
       ];
     }
 
--- the join of the joins of two lists is that of both
+-- the joins of two lists join to the join of both
 pub joined : {E : Type 0} (r : Result (List Entry) E) (c d : List Entry) (xs ys vs : List Version) → vs ≡ xs ++ ys → RaisesTo [] (IsClockIn xs) c → RaisesTo [] (IsClockIn ys) d
     → IfOk r (λ e. (w : ℕ) → counter e w ≡ max (counter c w) (counter d w)) → IfOk r (RaisesTo [] (IsClockIn vs))
 joined (Err e) c d xs ys vs is a b raise = tt
@@ -67,7 +67,7 @@ join_reordered c xs ys r j = record {
   from = λ w. elim (j.from w) [ inl none ↦ inl none | inr x ↦ inr (x.0, (x.1.0, r.there x.1.0 x.1.1, x.1.2), x.2) ];
 }
 
--- so the join of the joins of those held and of the fresh ones is that of the merge
+-- so the join of the held ones and that of the fresh ones join to the merge's
 pub join_left : (c d e : List Entry) (olds fresh left made : List Version) → IsFresh fresh olds left → IsReordered (left ++ fresh) made → RaisesTo [] (IsClockIn olds) c → RaisesTo [] (IsClockIn fresh) d
     → ((w : ℕ) → counter e w ≡ max (counter c w) (counter d w)) → RaisesTo [] (IsClockIn made) e
 join_left c d e olds fresh left made k r a b raise =

@@ -5,7 +5,8 @@ use Rattle.ring_versions.specs.declared.fresh.Fresh.{Fresh}
 use Rattle.ring_versions.specs.declared.version.Version.{Version}
 use Rattle.ring_versions.specs.Versions.{Covers, IsMerge}
 
--- what is made of the versions held and the others: their merge, or no version, just where those held cover the others
+-- what is made of the versions held and the others: their merge, or no version, exactly if those held cover the
+-- others
 pub record Brings (held others made : List Version) : Type 0 where
   pub merge : made ≢ [] → IsMerge held others made
   pub same : made ≡ [] → IsMerge held others held

@@ -1,4 +1,4 @@
-//! Versions that sets share.
+//! Parts that sets of versions share.
 
 ghost use Rattle.std.specs.Prelude.{◌≡◌, ◌++◌, ◌∷◌, [], ℕ, true, false, max, IsTrue, IfOk, IfErr, OnErr};
 ghost use Rattle.ring_names.specs.declared.refusal.Refusal.TheVariants.{OutOfMemory};
@@ -15,7 +15,7 @@ use std::alloc::Global;
 use std::marker::Model;
 use std::sync::Arc;
 
-/// A part of a set. Copies share it. The part's group stands beside it, so that who goes through chunks reads only what is in the part that it wants.
+/// A part of a set, shared by copies. Its group is kept outside, so that a search reads only the parts that it needs.
 #[derive(Drop)]
 pub struct Chunk {
     group: Group,
@@ -36,7 +36,7 @@ impl Model for Chunk {
 }
 
 impl Chunk {
-    /// The chunk of this part.
+    /// Makes a chunk of the part.
     pub fn of(alloc: Global, part: Part) -> Result<Chunk, Refusal>
         ensures ok { IfOk result (λ c. c ≡ part) }
         ensures memory { IfErr result (λ e. e ≡ OutOfMemory) }
@@ -46,7 +46,7 @@ impl Chunk {
         Ok(Chunk { group, shared })
     }
 
-    /// A copy of the chunk. Takes no memory.
+    /// Copies the chunk. Takes no memory.
     pub fn try_copy(&self) -> Result<Chunk, Refusal>
         ensures ok { IfOk result (λ c. c ≡ self.now) }
         ensures memory { IfErr result (λ e. e ≡ OutOfMemory) }
@@ -58,12 +58,13 @@ impl Chunk {
         })
     }
 
-    /// The group of which its part was made.
+    /// Returns the group for which its part was made.
     pub fn group(&self) -> u32 {
         self.group.number
     }
 
-    /// Adds a copy of a version in place, raises a join to its clock, and tells whether it did both: only where no other set shares the chunk.
+    /// Adds a copy of the version in place and raises the join to its clock. Does nothing and returns false if another
+    /// set shares the chunk.
     pub fn add(&mut self, version: &Version, join: &mut Clock) -> Result<bool, Refusal>
         ensures added { IfOk result (λ done. done ≡ true → self.new ≡ self.old ++ version.now ∷ []) }
         ensures raised { IfOk result (λ done. done ≡ true
@@ -80,14 +81,14 @@ impl Chunk {
         Ok(true)
     }
 
-    /// Its versions.
+    /// Returns its part.
     pub fn part(&self) -> &Part
         ensures { result.now ≡ self.now }
     {
         &self.shared
     }
 
-    /// Whether it is plain that no version's clock is at most this one: from the group alone, where that tells it, or from what is in the part.
+    /// Whether group or part show that no version's clock is at most this one.
     pub fn is_beyond(&self, top: &Clock) -> bool
         ensures { IsTrue result → (v : TheVersion) → IsIn v self.now → IsAtMost v.clock top.now → ⊥ }
     {

@@ -13,7 +13,7 @@ use ring_names::{Listed, Refusal};
 use std::alloc::Global;
 use std::marker::Model;
 
-/// Versions that were found, with the join of their clocks, which is made as they come.
+/// Versions that were found, and the join of their clocks, kept up to date.
 #[derive(Drop)]
 pub struct Found {
     versions: Versions,
@@ -33,7 +33,7 @@ impl Model for Found {
 }
 
 impl Found {
-    /// No version.
+    /// No versions.
     pub fn new(alloc: Global) -> Found
         ensures { result ≡ [] }
     {
@@ -43,14 +43,14 @@ impl Found {
         }
     }
 
-    /// The join of the clocks of the versions. Takes no memory.
+    /// Returns the join of the versions' clocks.
     pub fn join(&self) -> &Clock
         ensures { RaisesTo [] (IsClockIn self.now) result.now }
     {
         &self.join
     }
 
-    /// The numbers of the puts, ascending. Costs a sort of them.
+    /// Returns the numbers of the puts, ascending. Costs a sort.
     pub fn puts(&self) -> Result<Listed<u32>, Refusal>
         ensures ok { IfOk result (λ ns. ArePuts self.now ns) }
         ensures memory { IfErr result (λ e. e ≡ OutOfMemory) }
@@ -58,7 +58,6 @@ impl Found {
         self.versions.puts()
     }
 
-    // A copy of the versions, with their join. Takes no memory.
     fn try_copy(&self) -> Result<Found, Refusal>
         ensures same { IfOk result (λ f. f ≡ self.now) }
         ensures memory { IfErr result (λ e. e ≡ OutOfMemory) }
@@ -68,7 +67,6 @@ impl Found {
         Ok(Found { versions, join })
     }
 
-    // The join of what a merge with another set has. Costs the entries of the two joins.
     fn join_with(&self, more: &Versions) -> Result<Clock, Refusal>
         ensures ok { IfOk result (λ c. (all : List Version) → IsMerge self.now more.now all → RaisesTo [] (IsClockIn all) c) }
         ensures memory { IfErr result (λ e. e ≡ OutOfMemory) }
@@ -78,8 +76,8 @@ impl Found {
         Ok(join)
     }
 
-    /// These and what another set brings, merged aside. Costs what a merge costs and, where the other brings a version, the entries of the two
-    /// joins.
+    /// Returns the merge with another set, made aside. Costs a merge, and the entries of both joins if the other brings
+    /// a version.
     pub fn with(&self, more: &Versions) -> Result<Found, Refusal>
         ensures ok { IfOk result (IsMerge self.now more.now) }
         ensures memory { IfErr result (λ e. e ≡ OutOfMemory) }

@@ -1,10 +1,10 @@
-//! What a merge brings, made before it.
+//! The result of a merge, before it is taken in.
 
 ghost use Rattle.std.specs.Prelude.{◌↔◌, IsTrue};
 
 use crate::versions::Versions;
 
-/// The merge of a set and another, made aside, so that taking it in cannot fail; no version where the set covers the other's.
+/// The merge of a set with another, made aside so that taking it in cannot fail. Empty if the set covers the other.
 #[derive(Drop)]
 pub struct Fresh {
     pub(crate) merged: Versions,
@@ -13,7 +13,7 @@ pub struct Fresh {
 impl Fresh {
     ghost use Rattle.ring_versions.specs.Fresh.{BringsNothing};
 
-    /// Whether it has no versions, so that the merge changes nothing.
+    /// Whether the merge changes nothing.
     pub fn is_empty(&self) -> bool
         ensures { IsTrue result ↔ BringsNothing self.now }
     {

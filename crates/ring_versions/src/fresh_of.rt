@@ -1,4 +1,4 @@
-//! The versions that others do not cover.
+//! Finds the versions that others do not cover.
 
 ghost use Rattle.std.specs.Prelude.{◌≡◌, IfOk, IfErr};
 ghost use Rattle.ring_names.specs.declared.refusal.Refusal.TheVariants.{OutOfMemory};
@@ -12,7 +12,7 @@ use crate::version::Version;
 use ring_names::Refusal;
 use std::alloc::{AllocError, Global};
 
-// Room for so many, and no more, where there is nothing yet: most sets stay as they are made.
+// Reserves exact room for an empty list: most sets stay as they are made.
 fn make_room(out: &mut Vec<Version>, room: usize) -> Result<(), AllocError>
     ensures { out.new.items ≡ out.old.items }
 {
@@ -22,7 +22,6 @@ fn make_room(out: &mut Vec<Version>, room: usize) -> Result<(), AllocError>
     Ok(())
 }
 
-// Copies of the versions of a list that those of another do not cover.
 fn fresh_of_list(
     alloc: Global,
     versions: &[Version],
@@ -44,7 +43,6 @@ fn fresh_of_list(
     Ok(out)
 }
 
-// Copies of the versions that those held do not cover, where some are in chunks.
 fn fresh_of_any(alloc: Global, versions: Held, held: Held) -> Result<Vec<Version>, Refusal>
     requires { IsApart (looked_at versions) }
     ensures ok { IfOk result (λ out. IsFresh (looked_at held.entry) (looked_at versions.entry) out.items) }
@@ -60,7 +58,7 @@ fn fresh_of_any(alloc: Global, versions: Held, held: Held) -> Result<Vec<Version
     Ok(out)
 }
 
-/// Copies of the versions that those held do not cover. Takes no memory where they cover all.
+/// Copies the versions that those held do not cover. Takes no memory if all are covered.
 pub fn fresh_of(alloc: Global, versions: Held, held: Held) -> Result<Vec<Version>, Refusal>
     requires { IsApart (looked_at versions) }
     ensures ok { IfOk result (λ out. IsFresh (looked_at held.entry) (looked_at versions.entry) out.items) }

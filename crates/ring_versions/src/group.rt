@@ -1,4 +1,4 @@
-//! Groups of writers, by which versions stand together.
+//! Groups of writers, by which versions are kept together.
 
 ghost use Rattle.std.specs.Prelude.{◌≡◌, ◌∷◌, ◌++◌, [], List, IsTrue};
 ghost use Rattle.ring_clock.specs.Clock.{IsAtMost, counter};
@@ -8,7 +8,7 @@ ghost use Rattle.ring_versions.specs.declared.version.Version.{Version as TheVer
 
 use ring_clock::{Clock, Entry, group_of};
 
-/// A group of writers, for versions that are put to it, and whether each of these is known to have a counter there.
+/// A group of writers, and whether each version added is known to have a counter there.
 #[derive(Clone, Copy)]
 pub struct Group {
     pub number: u32,
@@ -16,7 +16,7 @@ pub struct Group {
 }
 
 impl Group {
-    /// The group to which no version was put.
+    /// A group without versions.
     pub fn new(number: u32) -> Group
         ensures { AreOf result [] }
     {
@@ -26,7 +26,7 @@ impl Group {
         }
     }
 
-    /// The group with one version more, whose own writer's entry this is.
+    /// Adds a version, given its own writer's entry.
     pub fn with(self, own: Entry) -> Group
         ensures { (vs : List TheVersion) → (v : TheVersion) → own.counter ≡ counter v.clock own.writer.0
             → AreOf self vs → AreOf result (vs ++ v ∷ []) }
@@ -37,8 +37,7 @@ impl Group {
         }
     }
 
-    /// Whether it is plain from the group that no version which was put to it has a clock that is at most this one: each has a counter there,
-    /// and this one has none.
+    /// Whether the group shows that no added version's clock is at most this one: each has a counter there, this one has none.
     pub fn is_beyond(self, top: &Clock) -> bool
         ensures { IsTrue result → (vs : List TheVersion) → AreOf self vs
             → (v : TheVersion) → IsIn v vs → IsAtMost v.clock top.now → ⊥ }

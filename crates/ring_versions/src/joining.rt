@@ -9,7 +9,7 @@ use ring_clock::Clock;
 use ring_names::Refusal;
 use std::alloc::Global;
 
-/// The join of the versions' clocks, made by halves, so that it costs their entries times the logarithm of how many there are.
+/// Returns the join of the versions' clocks. Halving costs their entries times the logarithm of their number.
 pub fn join_of(alloc: Global, versions: &[Version]) -> Result<Clock, Refusal>
     ensures ok { IfOk result (RaisesTo [] (IsClockIn versions.now)) }
     ensures memory { IfErr result (λ e. e ≡ OutOfMemory) }

@@ -1,4 +1,4 @@
-//! What stays of a set in chunks where others come.
+//! What remains of a set in chunks when others come.
 
 ghost use Rattle.std.specs.Prelude.{◌≡◌, ◌<◌, ◌∷◌, ◌++◌, [], List, length, IfOk, IfErr, OnOk};
 ghost use Rattle.ring_names.specs.declared.refusal.Refusal.TheVariants.{OutOfMemory};
@@ -18,14 +18,14 @@ use ring_clock::{Clock, group_of};
 use ring_names::Refusal;
 use std::alloc::Global;
 
-/// Chunks that stay as they are, and parts that are made anew.
+/// Chunks that stay, and parts that are made.
 #[derive(Drop)]
 pub struct Left {
     pub kept: Vec<Chunk>,
     pub made: Vec<Part>,
 }
 
-// The place of the part that is made for the group, which is made where there is none.
+// Returns the place of the group's part, which is made if missing.
 fn place_for(alloc: Global, made: &mut Vec<Part>, group: u32) -> Result<usize, Refusal>
     ensures same { all_of made.new.items ≡ all_of made.old.items }
     ensures ok { IfOk result (λ place. place < length made.new.items) }
@@ -41,7 +41,6 @@ fn place_for(alloc: Global, made: &mut Vec<Part>, group: u32) -> Result<usize, R
     }
 }
 
-// Puts a copy of a version into the part of its own writer's group.
 fn put(alloc: Global, made: &mut Vec<Part>, version: &Version) -> Result<(), Refusal>
     ensures ok { OnOk result (IsReordered (all_of made.old.items ++ version.now ∷ []) (all_of made.new.items)) }
     ensures memory { IfErr result (λ e. e ≡ OutOfMemory) }
@@ -50,7 +49,7 @@ fn put(alloc: Global, made: &mut Vec<Part>, version: &Version) -> Result<(), Ref
     made[place].put(version)
 }
 
-/// Puts copies of versions into parts of their own writers' groups.
+/// Puts copies of versions into the parts of their own writers' groups.
 pub fn put_all(alloc: Global, made: &mut Vec<Part>, versions: Held) -> Result<(), Refusal>
     ensures ok { OnOk result (IsReordered (all_of made.old.items ++ looked_at versions.entry) (all_of made.new.items)) }
     ensures memory { IfErr result (λ e. e ≡ OutOfMemory) }
@@ -62,7 +61,7 @@ pub fn put_all(alloc: Global, made: &mut Vec<Part>, versions: Held) -> Result<()
     Ok(())
 }
 
-// Keeps a chunk of which the fresh versions cover none: as it is, or as a part of its own where one of them is to be put to it.
+// Keeps a chunk that the fresh versions do not cover: as it is, or as a part if a fresh version will be added.
 fn keep_all(alloc: Global, left: &mut Left, chunk: &Chunk, fresh: Held) -> Result<(), Refusal>
     ensures ok { OnOk result (IsReordered (all_left left.old ++ chunk.now) (all_left left.new)) }
     ensures memory { IfErr result (λ e. e ≡ OutOfMemory) }
@@ -75,7 +74,7 @@ fn keep_all(alloc: Global, left: &mut Left, chunk: &Chunk, fresh: Held) -> Resul
     Ok(())
 }
 
-// Keeps those versions of a chunk that the fresh ones leave: all, where it is plain that those cover none.
+// Keeps the versions of a chunk that the fresh ones do not cover.
 fn keep(
     alloc: Global,
     left: &mut Left,
@@ -100,8 +99,9 @@ fn keep(
     Ok(())
 }
 
-/// Those versions of the chunks that the fresh ones leave. Costs a look at each version, and copies those of the chunks that do not stay
-/// whole. The top is at least each fresh one's clock.
+/// Returns the versions of the chunks that the fresh ones do not cover. `top` is at least each fresh clock.
+///
+/// Costs a look at each version, and copies those of chunks that change.
 pub fn left_of(alloc: Global, chunks: &[Chunk], fresh: Held, top: &Clock) -> Result<Left, Refusal>
     requires apart { IsApart (all_of chunks.now) }
     requires top { (v : TheVersion) → IsIn v (looked_at fresh) → IsAtMost v.clock top.now }
@@ -119,7 +119,7 @@ pub fn left_of(alloc: Global, chunks: &[Chunk], fresh: Held, top: &Clock) -> Res
     Ok(left)
 }
 
-/// All as chunks.
+/// Makes chunks of all.
 pub fn chunks_of(alloc: Global, left: Left) -> Result<Vec<Chunk>, Refusal>
     ensures ok { IfOk result (λ chunks. all_of chunks.items ≡ all_left left) }
     ensures memory { IfErr result (λ e. e ≡ OutOfMemory) }

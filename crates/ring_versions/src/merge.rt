@@ -1,4 +1,4 @@
-//! Two sets of versions made one.
+//! Merges two sets of versions.
 
 ghost use Rattle.std.specs.Prelude.{◌≡◌, ◌∷◌, [], true, false, IsTrue, IfOk, IfErr, OnErr};
 ghost use Rattle.ring_names.specs.declared.refusal.Refusal.TheVariants.{OutOfMemory};
@@ -17,7 +17,7 @@ use ring_clock::Clock;
 use ring_names::Refusal;
 use std::alloc::Global;
 
-// The fresh versions, and behind them those that they leave of the few held; where they leave none, the others are the merge.
+// Merges fresh versions with few held ones. If none of these stays, the others are the merge.
 fn merged_with_few(
     alloc: Global,
     held: &[Version],
@@ -37,7 +37,7 @@ fn merged_with_few(
     Versions::of_list(alloc, fresh)
 }
 
-// The merge of the fresh versions with many that are held: chunks of which all versions stay are shared.
+// Merges fresh versions with many held ones. Chunks that do not change are shared.
 fn merged_with_many(
     alloc: Global,
     held: &Whole,
@@ -59,15 +59,15 @@ fn merged_with_many(
     Versions::of_left(alloc, held.join().join(&top)?, left)
 }
 
-// Whether the clock is in conflict with each version's.
 fn is_beside(versions: &[Version], clock: &Clock) -> bool
     ensures { IsTrue result → IsBeside versions.now clock.now }
 {
     versions.iter().all(|version| !clock.le(&version.clock) && !version.clock.le(clock))
 }
 
-/// Adds a copy of a version that is in conflict with each of the list, and tells whether it did. Costs at most two comparisons with each, and
-/// where it adds the copy the memory of one version more.
+/// Adds a copy of the version if it is in conflict with each one of the list. Returns whether it did.
+///
+/// Costs at most two comparisons with each, and memory for one version.
 pub fn add_beside(list: &mut Vec<Version>, version: &Version) -> Result<bool, Refusal>
     requires { IsApart list.old.items }
     ensures added { IfOk result (λ done. done ≡ true → IsMerge list.old.items (version.now ∷ []) list.new.items) }
@@ -84,7 +84,7 @@ pub fn add_beside(list: &mut Vec<Version>, version: &Version) -> Result<bool, Re
     Ok(true)
 }
 
-/// What another version makes of the one held: nothing where that covers it, the set of it where it covers that, and else both.
+/// Merges two single versions: nothing if the held one covers the other, the other's set in the reverse case, otherwise both.
 pub fn merged_one(
     alloc: Global,
     held: &Version,
@@ -107,8 +107,8 @@ pub fn merged_one(
     Versions::of_list(alloc, both)
 }
 
-/// What the others make of the versions held: the merge, or no version where those held cover them all. Takes no memory there. Where the
-/// others cover all of those held, they are the merge, shared.
+/// Returns the merge, or no version if those held cover the others. Takes no memory then. If the others cover all held
+/// ones, shares them.
 pub fn merged(alloc: Global, held: Held, others: &Versions) -> Result<Versions, Refusal>
     requires { IsApart (looked_at held) }
     ensures ok { IfOk result (Brings (looked_at held.entry) others.now) }

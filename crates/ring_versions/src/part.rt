@@ -1,4 +1,4 @@
-//! Versions with what a search asks of them first.
+//! Versions with what a search needs first.
 
 ghost use Rattle.std.specs.Prelude.{◌≡◌, ◌↔◌, ◌∷◌, ◌++◌, [], ℕ, max, IsTrue, IfOk, IfErr, OnOk, OnErr};
 ghost use Rattle.ring_names.specs.declared.refusal.Refusal.TheVariants.{OutOfMemory};
@@ -14,8 +14,7 @@ use ring_names::Refusal;
 use std::alloc::Global;
 use std::marker::Model;
 
-/// Versions whose own writers were of one group as they came, in order with an entry of each one's own writer. The join is at least
-/// each version's clock.
+/// Versions of writers of one group, each with its own writer's entry. The join is at least each version's clock.
 #[derive(Drop)]
 pub struct Part {
     group: Group,
@@ -36,7 +35,6 @@ impl Model for Part {
     ghost invariant = { λ a. IsPart a.group a.versions.items a.owns.items a.join };
 }
 
-// The entry of the version's own writer.
 fn own_of(version: &Version) -> Entry
     ensures { result.counter ≡ counter version.now.clock result.writer.0 }
 {
@@ -47,7 +45,6 @@ fn own_of(version: &Version) -> Entry
     }
 }
 
-// Those of these versions, in their order.
 fn owns_of(alloc: Global, versions: &[Version]) -> Result<Vec<Entry>, Refusal>
     ensures ok { IfOk result (λ owns. AreOwns versions.now owns.items) }
     ensures memory { IfErr result (λ e. e ≡ OutOfMemory) }
@@ -59,7 +56,7 @@ fn owns_of(alloc: Global, versions: &[Version]) -> Result<Vec<Entry>, Refusal>
     Ok(owns)
 }
 
-/// Whether some version has a clock that is at least this one, by going through them all.
+/// Whether some version's clock is at least this one. Tries all.
 pub fn is_among(versions: &[Version], clock: &Clock) -> bool
     ensures { IsTrue result ↔ Covers versions.now clock.now }
 {
@@ -73,7 +70,6 @@ pub fn is_among(versions: &[Version], clock: &Clock) -> bool
     false
 }
 
-// Copies of versions, with room for one more.
 fn copies_of(alloc: Global, versions: &[Version]) -> Result<Vec<Version>, Refusal>
     ensures ok { IfOk result (λ out. out.items ≡ versions.now) }
     ensures memory { IfErr result (λ e. e ≡ OutOfMemory) }
@@ -86,7 +82,7 @@ fn copies_of(alloc: Global, versions: &[Version]) -> Result<Vec<Version>, Refusa
 }
 
 impl Part {
-    /// No version.
+    /// No versions.
     pub fn new(alloc: Global, group: u32) -> Part
         ensures { result ≡ [] }
     {
@@ -98,7 +94,7 @@ impl Part {
         }
     }
 
-    /// The part that these of its versions are.
+    /// Returns the part with only these of its versions.
     pub fn with(&self, alloc: Global, versions: Vec<Version>) -> Result<Part, Refusal>
         requires { (v : TheVersion) → IsIn v versions.items → IsIn v self.now }
         ensures ok { IfOk result (λ p. p ≡ versions.items) }
@@ -114,7 +110,7 @@ impl Part {
         })
     }
 
-    /// A copy of the part, with room for one version more. Costs its versions, and looks into none of their clocks.
+    /// Copies the part, with room for one version more. Reads no clocks.
     pub fn try_copy(&self, alloc: Global) -> Result<Part, Refusal>
         ensures ok { IfOk result (λ p. p ≡ self.now) }
         ensures memory { IfErr result (λ e. e ≡ OutOfMemory) }
@@ -131,7 +127,7 @@ impl Part {
         })
     }
 
-    /// Adds a copy of a version. Refused, it has changed no version.
+    /// Adds a copy of a version. If refused, nothing changes.
     pub fn put(&mut self, version: &Version) -> Result<(), Refusal>
         ensures ok { OnOk result (self.new ≡ self.old ++ version.now ∷ []) }
         ensures err { OnErr result (self.new ≡ self.old) }
@@ -147,7 +143,7 @@ impl Part {
         Ok(())
     }
 
-    /// Adds a copy of a version, and raises a join to its clock. Refused, it has changed no version, nor that join.
+    /// Adds a copy of a version, and raises the join to its clock. If refused, neither changes.
     pub fn put_under(&mut self, version: &Version, join: &mut Clock) -> Result<(), Refusal>
         ensures ok { OnOk result (self.new ≡ self.old ++ version.now ∷ []) }
         ensures raised { OnOk result
@@ -168,14 +164,14 @@ impl Part {
         Ok(())
     }
 
-    /// The group of which it was made.
+    /// Returns the group for which it was made.
     pub fn group(&self) -> Group
         ensures { AreOf result self.now }
     {
         self.group
     }
 
-    /// The versions.
+    /// Returns the versions.
     pub fn versions(&self) -> &[Version]
         ensures { result.now ≡ self.now }
     {
@@ -196,7 +192,7 @@ impl Part {
         }
     }
 
-    /// Whether some version has a clock that is at least this one.
+    /// Whether some version's clock is at least this one.
     pub fn covers(&self, clock: &Clock) -> bool
         ensures { IsTrue result ↔ Covers self.now clock.now }
     {
@@ -207,7 +203,7 @@ impl Part {
         is_among(self.versions.as_slice(), clock)
     }
 
-    /// Whether it is plain from the versions' own counters that no version's clock is at most this one.
+    /// Whether the versions' own counters show that no version's clock is at most this one.
     pub fn is_beyond(&self, top: &Clock) -> bool
         ensures { IsTrue result → (v : TheVersion) → IsIn v self.now → IsAtMost v.clock top.now → ⊥ }
     {

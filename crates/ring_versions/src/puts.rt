@@ -8,7 +8,6 @@ use crate::walk::Walk;
 use ring_names::{Listed, Refusal};
 use std::alloc::Global;
 
-// The numbers of the versions' puts, in their order.
 fn numbers_of(alloc: Global, mut versions: Walk) -> Result<Vec<u32>, Refusal>
     ensures ok { IfOk result (λ ns. ns.items ≡ map (λ version. version.put) versions.entry) }
     ensures memory { IfErr result (λ e. e ≡ OutOfMemory) }
@@ -20,7 +19,7 @@ fn numbers_of(alloc: Global, mut versions: Walk) -> Result<Vec<u32>, Refusal>
     Ok(numbers)
 }
 
-/// The numbers of the versions' puts, ascending.
+/// Returns the numbers of the versions' puts, ascending.
 pub fn puts_of(alloc: Global, versions: Walk) -> Result<Listed<u32>, Refusal>
     ensures ok { IfOk result (λ ns. ArePuts versions.entry ns) }
     ensures memory { IfErr result (λ e. e ≡ OutOfMemory) }

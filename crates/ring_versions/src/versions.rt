@@ -27,17 +27,21 @@ use std::marker::Model;
 use std::slice;
 use std::sync::Arc;
 
-// From how many versions on a set keeps them in chunks. Fewer are gone through as fast without.
+// From this many versions on, a set has chunks. Fewer are searched as fast without.
 const MANY: usize = 8;
 
-/// Versions of which no one's clock is at most another's. Copies share them.
+/// A set of versions whose clocks are not ordered. Copies share them.
 ///
-/// Costs are told for the clocks of puts, where a version is covered just where its own writer's counter is reached, and for sets of eight
-/// versions or more. Of other clocks each of the looks may cost a comparison with each version.
+/// Costs are given for clocks of puts, and for eight versions or more. Such a clock covers a version exactly if
+/// it reaches the own writer's counter.
 ///
-/// Eight versions or more stand in chunks, by the group of sixty-four writers of which each one's own writer is. A set takes 16 bytes for each
-/// chunk. A chunk, which sets share, takes some 100 bytes, 16 bytes for each version beside the version, and what its join of their clocks does
-/// not share with these.
+/// With other clocks, a look may cost a comparison with each version.
+///
+/// From eight versions on, each is in a chunk for the group of its own writer. A set takes 16 bytes for each
+/// chunk.
+///
+/// A shared chunk takes about 100 bytes, 16 bytes for each version besides the version, and the unshared
+/// entries of its join.
 pub struct Versions {
     alloc: Global,
     shared: Shared,
@@ -56,7 +60,7 @@ impl Model for Versions {
     ghost invariant = { λ a. IsApart (shared_versions a.shared) };
 }
 
-// Dropped by a call, so that no crate above goes through the cases wherever a set ends.
+// Dropping is a call, so crates above need not check the cases.
 impl Drop for Versions {
     fn drop(self) {
         let Versions { alloc: _, shared } = self;
@@ -65,7 +69,7 @@ impl Drop for Versions {
 }
 
 impl Versions {
-    /// No version.
+    /// No versions.
     pub fn new(alloc: Global) -> Versions
         ensures { result ≡ [] }
     {
@@ -75,7 +79,6 @@ impl Versions {
         }
     }
 
-    // The set that has these.
     pub(crate) fn of_list(alloc: Global, list: Vec<Version>) -> Result<Versions, Refusal>
         requires { IsApart list.items }
         ensures same { IfOk result (λ s. IsReordered list.items s) }
@@ -90,7 +93,7 @@ impl Versions {
         Versions::of_left(alloc, join_of(alloc, list.as_slice())?, Left { kept, made })
     }
 
-    // The set that has these, whose clocks have that join.
+    // Makes the set of these versions, given the join of their clocks.
     pub(crate) fn of_left(alloc: Global, join: Clock, left: Left) -> Result<Versions, Refusal>
         requires apart { IsApart (all_left left) }
         requires join { RaisesTo [] (IsClockIn (all_left left)) join }
@@ -102,7 +105,7 @@ impl Versions {
         Ok(Versions { alloc, shared })
     }
 
-    /// This one version.
+    /// Makes a set of one version.
     pub fn of(alloc: Global, version: Version) -> Result<Versions, Refusal>
         ensures one { IfOk result (λ s. s ≡ version ∷ []) }
         ensures memory { IfErr result (λ e. e ≡ OutOfMemory) }
@@ -111,7 +114,6 @@ impl Versions {
         Ok(Versions { alloc, shared })
     }
 
-    // The versions as a merge looks at them.
     pub(crate) fn held(&self) -> Held<'_>
         ensures value { looked_at result ≡ self.now }
         ensures apart { IsApart self.now }
@@ -124,7 +126,7 @@ impl Versions {
         }
     }
 
-    /// The versions, in no order that is promised, to be taken one by one.
+    /// Iterates over the versions, in no particular order.
     pub fn versions(&self) -> Walk<'_>
         ensures value { result ≡ self.now }
         ensures apart { IsApart self.now }
@@ -132,7 +134,7 @@ impl Versions {
         self.held().walk()
     }
 
-    /// Some version, if there is one.
+    /// Returns some version, if there is one.
     pub fn first(&self) -> Option<&Version>
         ensures value { option_map (λ v. v.now) result ≡ slice_get self.now 0 }
         ensures apart { IsApart self.now }
@@ -145,7 +147,7 @@ impl Versions {
         }
     }
 
-    /// Whether there is no version.
+    /// Whether there are no versions.
     pub fn is_empty(&self) -> bool
         ensures value { IsTrue result ↔ self.now ≡ [] }
         ensures apart { IsApart self.now }
@@ -158,21 +160,31 @@ impl Versions {
         }
     }
 
-    /// Whether some version has a clock that is at least this one. Takes no memory. Costs a look: at the join, and where that reaches the clock,
-    /// at each chunk's group and at the entries of one chunk, with one comparison of clocks.
+    /// Whether some version's clock is at least this one. Costs a look at the join.
+    ///
+    /// If that reaches the clock, also costs a look at each chunk's group and at one chunk's entries, and a
+    /// comparison.
     pub fn covers(&self, clock: &Clock) -> bool
         ensures { IsTrue result ↔ Covers self.now clock.now }
     {
         self.held().covers(clock)
     }
 
-    /// Adds another set's versions: what is drawn from both covers the clocks that either covered, and ancestors go. Costs a look for each
-    /// version of the other set, and for each of its own chunks one at its group, or where the new ones have counters there one at each of its
-    /// versions' own entries, or where they may cover it a look. Takes no memory where this set covers the other's. One version that is in
-    /// conflict with each of the set's is put in place where no other set shares these. It takes the memory of one version more. A set that stays
-    /// below eight versions compares it at most twice with each. A larger one raises the join of its chunk and of the set (`Clock::raise`).
-    /// In any other case it takes copies of those that are new, made aside, and where some of its own stay, copies of these, of eight or more only
-    /// those in chunks that do not stay as they are, the chunks, and the join. A refused growth leaves the set as it was.
+    /// Merges another set: the result covers what either covered, without ancestors. If refused, nothing changes.
+    ///
+    /// Costs a look for each version of the other set. Each own chunk costs a look at its group.
+    ///
+    /// If new versions have counters there, a chunk costs looks at the versions' own entries instead, or one
+    /// look if these may cover it.
+    ///
+    /// Takes no memory if this set covers the other. One version in conflict with all is added in place if no
+    /// set shares them, for the memory of one version.
+    ///
+    /// A set below eight compares the version at most twice with each; a larger one raises two joins
+    /// (`Clock::raise`).
+    ///
+    /// Otherwise copies new versions and staying ones; from eight on only those in chunks that change, the
+    /// chunks and the join.
     pub fn merge(&mut self, other: &Versions) -> Result<(), Refusal>
         ensures ok { OnOk result (IsMerge self.old other.now self.new) }
         ensures err { OnErr result (self.new ≡ self.old) }
@@ -188,8 +200,8 @@ impl Versions {
         Ok(())
     }
 
-    // Merges one version in place, and tells whether it did. It does so only where the version is in conflict with each one held, and no other
-    // set shares what changes. A list that would reach eight versions is left as it is.
+    // Merges one version in place. Does nothing and returns false unless it is in conflict with each one held and the
+    // changed part is unshared. A list never reaches eight versions here.
     fn add(&mut self, version: &Version) -> Result<bool, Refusal>
         ensures added { IfOk result (λ done. done ≡ true → IsMerge self.old (version.now ∷ []) self.new) }
         ensures same { IfOk result (λ done. done ≡ false → self.new ≡ self.old) }
@@ -209,7 +221,7 @@ impl Versions {
         }
     }
 
-    /// The first half of a merge: the merge, made aside, or nothing where this set covers the other's versions. Costs what `merge` does.
+    /// Prepares a merge: makes it aside, empty if this set covers the other. Costs what `merge` does.
     pub fn fresh_of(&self, other: &Versions) -> Result<Fresh, Refusal>
         ensures ok { IfOk result (λ f. IsFreshFor self.now other.now f) }
         ensures memory { IfErr result (λ e. e ≡ OutOfMemory) }
@@ -218,7 +230,7 @@ impl Versions {
         Ok(Fresh { merged })
     }
 
-    // What the other makes of this set: the merge, or no version where this one covers the other's.
+    // Returns the merge, or no version if this set covers the other.
     pub(crate) fn made_with(&self, other: &Versions) -> Result<Versions, Refusal>
         ensures ok { IfOk result (Brings self.now other.now) }
         ensures memory { IfErr result (λ e. e ≡ OutOfMemory) }
@@ -230,7 +242,7 @@ impl Versions {
         }
     }
 
-    /// The second half of a merge, which cannot fail: takes in what was made for this very set. Costs what letting the old versions go does.
+    /// Completes a merge that was prepared for this set. Cannot fail. Costs dropping the old versions.
     pub fn absorb(&mut self, fresh: Fresh)
         requires { FitsIn self.old fresh }
         ensures { (other : List Version) → IsFreshFor self.old other fresh → IsMerge self.old other self.new }
@@ -241,7 +253,7 @@ impl Versions {
         }
     }
 
-    /// The numbers of the puts, ascending. Costs a sort of them.
+    /// Returns the numbers of the puts, ascending. Costs a sort.
     pub fn puts(&self) -> Result<Listed<u32>, Refusal>
         ensures ok { IfOk result (λ ns. ArePuts self.now ns) }
         ensures memory { IfErr result (λ e. e ≡ OutOfMemory) }
@@ -249,7 +261,7 @@ impl Versions {
         puts_of(self.alloc, self.versions())
     }
 
-    // The join of the clocks of the versions. Costs nothing for eight versions or more, and else their entries.
+    // Returns the join of the versions' clocks. Free from eight versions on, otherwise costs their entries.
     pub(crate) fn join(&self) -> Result<Clock, Refusal>
         ensures ok { IfOk result (RaisesTo [] (IsClockIn self.now)) }
         ensures memory { IfErr result (λ e. e ≡ OutOfMemory) }
@@ -260,7 +272,7 @@ impl Versions {
         }
     }
 
-    /// The join of the versions' clocks, where it is kept: for one version, and for eight or more. Takes no memory.
+    /// Returns the join of the versions' clocks if it is kept: for one version, and from eight on.
     pub fn top(&self) -> Option<&Clock>
         ensures { IfSome result (λ c. RaisesTo [] (IsClockIn self.now) c.now) }
     {
@@ -271,7 +283,7 @@ impl Versions {
         }
     }
 
-    /// A copy of the set, which shares the versions. Takes no memory. Refused only where 2^64 sets would share them.
+    /// Copies the set, which shares the versions. Takes no memory. Fails only if 2^64 sets would share them.
     pub fn try_copy(&self) -> Result<Versions, Refusal>
         ensures same { IfOk result (λ s. s ≡ self.now) }
         ensures apart { IsApart self.now }

@@ -1,4 +1,4 @@
-//! The versions of a set, one after the other.
+//! Iterates over a set.
 
 ghost use Rattle.std.specs.Prelude.{◌≡◌, ◌∷◌, [], MatchOption};
 ghost use Rattle.ring_versions.specs.Chunks.{all_of};
@@ -7,7 +7,7 @@ use crate::chunk::Chunk;
 use crate::version::Version;
 use std::marker::Model;
 
-/// The versions of a set that were not taken yet, in no order that is promised.
+/// The remaining versions of a set, in no particular order.
 #[derive(Drop)]
 pub struct Walk<'a> {
     rest: &'a [Version],
@@ -25,7 +25,6 @@ impl<'a> Model for Walk<'a> {
 }
 
 impl<'a> Walk<'a> {
-    // These versions.
     pub(crate) fn few(versions: &'a [Version]) -> Walk<'a>
         ensures { result ≡ versions.now }
     {
@@ -35,14 +34,13 @@ impl<'a> Walk<'a> {
         }
     }
 
-    // Those of the chunks.
     pub(crate) fn many(chunks: &'a [Chunk]) -> Walk<'a>
         ensures { result ≡ all_of chunks.now }
     {
         Walk { rest: &[], chunks }
     }
 
-    /// Takes the next one, if there is one. Takes no memory.
+    /// Takes the next version.
     pub fn next(&mut self) -> Option<&'a Version>
         ensures { MatchOption result ((self.old ≡ []) × (self.new ≡ [])) (λ v. self.old ≡ v.now ∷ self.new) }
     {

@@ -15,14 +15,14 @@ use ring_names::Refusal;
 use std::marker::Model;
 use std::sync::Arc;
 
-/// Many versions, in chunks that other sets may share, and the join of their clocks.
+/// Many versions in shared chunks, and the join of their clocks.
 #[derive(Drop)]
 pub struct Whole {
     join: Clock,
     chunks: Vec<Chunk>,
 }
 
-/// What a set shares with its copies: nothing, or one version, which takes one block of memory, or more.
+/// What copies of a set share: nothing, one version in one allocation, or more.
 #[derive(Drop)]
 pub enum Shared {
     Nothing,
@@ -44,7 +44,6 @@ impl Model for Whole {
     ghost invariant = { λ a. RaisesTo [] (IsClockIn (all_of a.chunks.items)) a.join };
 }
 
-// Whether in the chunks of the clock's own group the version of its own writer covers it.
 fn leads(chunks: &[Chunk], clock: &Clock) -> bool
     ensures { IsTrue result → Covers (all_of chunks.now) clock.now }
 {
@@ -59,7 +58,6 @@ fn leads(chunks: &[Chunk], clock: &Clock) -> bool
     false
 }
 
-// Whether some version has a clock that is at least this one, by going through all chunks.
 fn is_in_some(chunks: &[Chunk], clock: &Clock) -> bool
     ensures { IsTrue result ↔ Covers (all_of chunks.now) clock.now }
 {
@@ -73,7 +71,7 @@ fn is_in_some(chunks: &[Chunk], clock: &Clock) -> bool
     false
 }
 
-// Whether it is plain from the versions' own counters that no version's clock is at most this one.
+// Whether the versions' own counters show that no version's clock is at most this one.
 fn are_beyond(chunks: &[Chunk], clock: &Clock) -> bool
     ensures { IsTrue result → (v : TheVersion) → IsIn v (all_of chunks.now) → IsAtMost v.clock clock.now → ⊥ }
 {
@@ -87,7 +85,6 @@ fn are_beyond(chunks: &[Chunk], clock: &Clock) -> bool
     true
 }
 
-// The place of the chunk of a group, if there is one.
 fn place_of(chunks: &[Chunk], group: u32) -> Option<usize>
     ensures { IfSome result (λ place. place < length chunks.now) }
 {
@@ -95,7 +92,7 @@ fn place_of(chunks: &[Chunk], group: u32) -> Option<usize>
 }
 
 impl Whole {
-    /// The versions of these chunks.
+    /// Makes the versions of these chunks.
     pub fn of(join: Clock, chunks: Vec<Chunk>) -> Whole
         requires { RaisesTo [] (IsClockIn (all_of chunks.items)) join }
         ensures { result ≡ all_of chunks.items }
@@ -103,27 +100,27 @@ impl Whole {
         Whole { join, chunks }
     }
 
-    /// The join of the versions' clocks.
+    /// Returns the join of the versions' clocks.
     pub fn join(&self) -> &Clock
         ensures { RaisesTo [] (IsClockIn self.now) result.now }
     {
         &self.join
     }
 
-    /// The chunks, of which no two were made for one group.
+    /// Returns the chunks, one for each group.
     pub fn chunks(&self) -> &[Chunk]
         ensures { all_of result.now ≡ self.now }
     {
         self.chunks.as_slice()
     }
 
-    /// Whether some chunk was made for the group. Costs a look at each, and none at what is in them.
+    /// Whether some chunk was made for the group. Costs a look at each, not into them.
     pub fn has_group(&self, group: u32) -> bool {
         self.chunks.iter().any(|chunk| chunk.group() == group)
     }
 
-    /// Whether some version has a clock that is at least this one. The clock's own writer mostly decides it: by the join where no version
-    /// has, and else by that writer's own version.
+    /// Whether some version's clock is at least this one. Mostly its own writer decides: by the join if no version is,
+    /// otherwise by that writer's own version.
     pub fn covers(&self, clock: &Clock) -> bool
         ensures { IsTrue result ↔ Covers self.now clock.now }
     {
@@ -135,7 +132,7 @@ impl Whole {
         leads(chunks, clock) || is_in_some(chunks, clock)
     }
 
-    // Whether it is plain that no version has a clock that is at least this one, or one that is at most this one.
+    // Whether it is clear that no version's clock is at least or at most this one.
     fn is_beside(&self, clock: &Clock) -> bool
         ensures { IsTrue result → IsBeside self.now clock.now }
     {
@@ -143,9 +140,11 @@ impl Whole {
         self.join.counter(own) < clock.counter(own) && are_beyond(self.chunks.as_slice(), clock)
     }
 
-    /// Merges one version in place, and tells whether it did: only where it is plain that it is in conflict with each version, and no other set
-    /// shares the chunk of its own writer's group. Costs a look at each chunk's group, or where the version has counters there at each of its
-    /// versions' own entries, and the entries of two joins.
+    /// Merges one version in place. Does nothing and returns false unless it is clearly in conflict with each
+    /// and its group's chunk is unshared.
+    ///
+    /// Costs the entries of two joins. Costs a look at each chunk's group, or at its versions' own entries if
+    /// the version has counters there.
     pub fn add(&mut self, version: &Version) -> Result<bool, Refusal>
         requires { IsApart self.old }
         ensures added { IfOk result (λ done. done ≡ true → IsMerge self.old (version.now ∷ []) self.new) }

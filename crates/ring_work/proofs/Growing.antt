@@ -29,7 +29,7 @@ completes_by each last e old mid new a passes b = record {
   closed = refl;
 }
 
--- some alone
+-- only some
 pub completes_not : (each last : Receipt → Bool) (old new : List Receipt) → Grows each old new → Completes each last old new true
 completes_not each last old new a = record {
   body = a.more;

@@ -6,8 +6,8 @@ use Rattle.ring_receipts.specs.declared.receipt.Receipt.{Receipt}
 use Rattle.ring_receipts.specs.declared.asked.Asked.{Asked}
 use Rattle.ring_receipts.specs.Blocks.{IsPut, IsGet}
 
--- none, where the start was refused; else the block of the put that the event starts, with its acknowledgement just where nothing is refused in
--- the end
+-- none, if the start was refused. Otherwise the block of the put that the event starts, with its
+-- acknowledgement exactly if nothing is refused in the end
 abbrev pub IsPutAttempt : Event → List Receipt → Option Refusal → Type 0
 IsPutAttempt begin receipts refusal =
     ((receipts ≡ []) × (is_some refusal ≡ true)) ⊎ ((p : IsPut begin receipts) × (length p.acks ≡ cond (is_some refusal) 0 1))

@@ -18,7 +18,8 @@ pub record Grows (test : Receipt → Bool) (old new : List Receipt) : Type 0 whe
   pub joined : new ≡ old ++ more
   pub pass : list_all test more ≡ true
 
--- receipts that pass the first test stand behind the others, and behind them one that passes the second just where nothing is refused
+-- receipts that pass the first test stand behind the others, and behind them one that passes the second exactly
+-- if nothing is refused
 pub record Completes (each last : Receipt → Bool) (old new : List Receipt) (refused : Bool) : Type 0 where
   pub body : List Receipt
   pub close : List Receipt

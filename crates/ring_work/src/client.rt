@@ -1,4 +1,4 @@
-//! Clients, each of which does the lines of a script.
+//! Clients: each runs the lines of a script.
 
 ghost use Rattle.std.specs.Prelude.{◌≡◌, ◌<◌, ℕ, true, length, vec_len, vec_capacity, IfOk, IfErr, IsTrue};
 ghost use Rattle.ring_names.specs.declared.refusal.Refusal.TheVariants.{TurnsSpent};
@@ -20,7 +20,6 @@ use script_text::Script;
 use std::alloc::Global;
 use std::sync::Wait;
 
-// The numbers that the script's gets were answered.
 fn numbers(alloc: Global, asked: &[Asked], seen: &Seen) -> Result<Vec<u32>, Refusal> {
     let mut numbers = Vec::new(alloc);
     for get in seen.as_slice() {
@@ -29,14 +28,14 @@ fn numbers(alloc: Global, asked: &[Asked], seen: &Seen) -> Result<Vec<u32>, Refu
     Ok(numbers)
 }
 
-// The start of a line's put, whose gets have the numbers that they were answered.
+// The line's put, with the history's numbers for its gets.
 fn start_of(alloc: Global, asked: &[Asked], line: &Event) -> Result<Event, Refusal>
     ensures { IfOk result (λ start. starts_put start ≡ true) }
 {
     let Event::StartPut(writer, key, value, seen) = line else {
         return Err(Refusal::Disagree);
     };
-    // A later get has a greater number, so they ascend as those of the script do.
+    // Later gets have greater numbers, so they ascend as in the script.
     let Some(seen) = Seen::of(alloc, numbers(alloc, asked, seen)?)? else {
         return Err(Refusal::Disagree);
     };
@@ -45,7 +44,6 @@ fn start_of(alloc: Global, asked: &[Asked], line: &Event) -> Result<Event, Refus
     Ok(Event::StartPut(*writer, key, value, seen))
 }
 
-// Goes on behind an attempt, but where it met what ends all.
 fn after(refusal: Option<Refusal>) -> Result<(), Refusal> {
     match refusal {
         Some(refusal) => go_on(refusal),
@@ -53,7 +51,6 @@ fn after(refusal: Option<Refusal>) -> Result<(), Refusal> {
     }
 }
 
-// Whether one of the receipts from that one on is a hint's.
 fn left_hints(receipts: &[Receipt], from: usize) -> bool {
     let Some(behind) = receipts.get(from..) else {
         return false;
@@ -66,7 +63,7 @@ fn left_hints(receipts: &[Receipt], from: usize) -> bool {
     false
 }
 
-// The put of a line, where each get that it names is an earlier one of the script, of its key, and has ended; else nothing.
+// Runs a put, if each get that it names is an earlier ended get of its key; otherwise does nothing.
 fn put_line<L: RunLedger, R: Wait, G: Gate>(
     site: &Site<L, R, G>,
     done: &mut Done<L>,
@@ -88,7 +85,6 @@ fn put_line<L: RunLedger, R: Wait, G: Gate>(
     after(refusal)
 }
 
-// The get of a line. It is noted behind those that were asked.
 fn get_line<L: RunLedger, R: Wait, G: Gate>(
     site: &Site<L, R, G>,
     done: &mut Done<L>,
@@ -105,7 +101,6 @@ fn get_line<L: RunLedger, R: Wait, G: Gate>(
     after(refusal)
 }
 
-// The line of a node that goes down or comes up.
 fn node_line<L: RunLedger, R: Wait>(
     store: &LockedStore<L, R>,
     done: &mut Done<L>,
@@ -117,7 +112,6 @@ fn node_line<L: RunLedger, R: Wait>(
     }
 }
 
-// What the line asks for.
 fn do_line<L: RunLedger, R: Wait, G: Gate>(
     site: &Site<L, R, G>,
     done: &mut Done<L>,
@@ -131,7 +125,7 @@ fn do_line<L: RunLedger, R: Wait, G: Gate>(
     }
 }
 
-// The lines in order, until all are to stop. Whether all were done; the refusal that ends them, if one does.
+// Runs the lines in order, until all threads must stop. Returns whether all lines were run.
 fn do_lines<L: RunLedger, R: Wait, G: Gate>(
     site: &Site<L, R, G>,
     done: &mut Done<L>,
@@ -157,8 +151,7 @@ fn do_lines<L: RunLedger, R: Wait, G: Gate>(
     Ok(true)
 }
 
-/// A client: the lines of its script, one behind the other. It stops all where it meets a full history or want of memory, and where its gate
-/// answers false; other refusals stop nobody.
+/// Runs a client's script. A full history, lack of memory or a gate that refuses stops all threads; other refusals stop none.
 pub(crate) fn serve<L: RunLedger, R: Wait, G: Gate>(
     site: &Site<L, R, G>,
     done: Done<L>,

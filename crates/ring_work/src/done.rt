@@ -1,4 +1,4 @@
-//! What a thread hands back.
+//! What a thread returns.
 
 use crate::noting::note;
 use crate::site::LockedStore;
@@ -10,7 +10,7 @@ use ring_receipts::Receipt;
 use std::alloc::Global;
 use std::sync::Wait;
 
-/// What a thread was answered, its share, the refusal that ended it, if one did, and whether it left no line undone that it was to do.
+/// What a thread did, and how it ended.
 #[derive(Drop)]
 pub(crate) struct Done<L: RunLedger> {
     pub receipts: Vec<Receipt>,
@@ -19,7 +19,7 @@ pub(crate) struct Done<L: RunLedger> {
     pub complete: bool,
 }
 
-/// What the worker of a number did, with its seat at the board.
+/// What a worker did, its number, and its seat at the board.
 #[derive(Drop)]
 pub(crate) struct Sat<L: RunLedger> {
     pub done: Done<L>,
@@ -28,7 +28,7 @@ pub(crate) struct Sat<L: RunLedger> {
 }
 
 impl<L: RunLedger> Done<L> {
-    /// Before the first event.
+    /// The state before the first event.
     pub fn new(alloc: Global, share: Share<L>) -> Done<L> {
         Done {
             receipts: Vec::new(alloc),
@@ -38,7 +38,6 @@ impl<L: RunLedger> Done<L> {
         }
     }
 
-    /// Submits the event and keeps its receipt.
     pub fn note<R: Wait>(
         &mut self,
         store: &LockedStore<L, R>,
@@ -47,7 +46,7 @@ impl<L: RunLedger> Done<L> {
         note(store, &mut self.share, &mut self.receipts, event)
     }
 
-    /// Submits the events in order under one hold of the lock, up to the first that is refused, and keeps the receipts of those before it.
+    /// Submits the events under one lock, up to the first refusal, and keeps the receipts of those before.
     pub fn note_row<R: Wait>(
         &mut self,
         store: &LockedStore<L, R>,

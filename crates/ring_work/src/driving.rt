@@ -1,4 +1,4 @@
-//! A drive.
+//! A drive: all threads of a run.
 
 ghost use Rattle.std.specs.Prelude.{◌≡◌, ◌+◌, ◌<◌, ◌≤◌, ◌++◌, ◌∷◌, All, [], Some, true, length, vec_len, map, IsTrue};
 ghost use Rattle.std.specs.Prelude.{IsNone, IfOk, IfErr, IfNone, IfSome, OnOk};
@@ -29,7 +29,7 @@ use std::sync::Wait;
 use std::sync::ledger::Blank;
 use std::thread::Threads;
 
-// A board for the workers and one more, its first seat, and the seat of that one, which finished what the entries did.
+// A board with one seat more than workers. That seat claims what the entries finished.
 fn board_of(
     alloc: Global,
     steps: u32,
@@ -39,7 +39,7 @@ fn board_of(
     requires { workers ≤ 64 }
     ensures board { IfOk result (λ r. (r.0.steps ≡ steps) × (r.0.workers ≡ workers + 1)) }
     ensures seats { IfOk result (λ r. (r.1.board ≡ r.0.id) × (r.2.board ≡ r.0.id)) }
-    // That one's number is no worker's of the drive.
+    // The extra seat's number is not a worker's.
     ensures worker { IfOk result (λ r. r.2.worker ≡ Some workers) }
 {
     let (board, first) = Board::new(alloc, steps, workers + 1)?;
@@ -51,7 +51,6 @@ fn board_of(
     Ok((board, first, seat))
 }
 
-// All seats of a board.
 fn all_seats(seats: Vec<Seat>, first: Seat, last: Seat) -> Result<Vec<Seat>, Refusal>
     ensures some { IfOk result (λ v. 0 < vec_len v) }
     ensures seats { IfOk result (λ v. v.items ≡ seats.items ++ first ∷ last ∷ []) }
@@ -63,7 +62,6 @@ fn all_seats(seats: Vec<Seat>, first: Seat, last: Seat) -> Result<Vec<Seat>, Ref
     Ok(seats)
 }
 
-// The board at its end, where all seats are given back.
 fn end_of(board: Board, first: Seat, last: Seat, seats: Vec<Seat>) -> Result<ClosedBoard, Refusal>
     requires first { (first.board ≡ board.id) × (last.board ≡ board.id) }
     requires seats { All (λ s. s.board ≡ board.id) seats.items }
@@ -72,7 +70,7 @@ fn end_of(board: Board, first: Seat, last: Seat, seats: Vec<Seat>) -> Result<Clo
     board.end(seats)
 }
 
-// The worker that finished each step, by the board's words. Refused where a step is not finished, and where memory runs out.
+// The worker that finished each step. Refused if a step is not finished, or if memory runs out.
 fn finishers_of(alloc: Global, words: &[u64]) -> Result<Vec<u32>, Refusal>
     ensures { IfOk result (λ v. map finished_word v.items ≡ words.now) }
 {
@@ -86,7 +84,6 @@ fn finishers_of(alloc: Global, words: &[u64]) -> Result<Vec<u32>, Refusal>
     Ok(finishers)
 }
 
-// The board at its end, and the worker that finished each step by its words.
 #[derive(Drop)]
 struct Finish {
     board: ClosedBoard,
@@ -94,14 +91,13 @@ struct Finish {
     ghost told: { map finished_word finishers.items ≡ board },
 }
 
-// The finish of a board at its end, where it has one. Refused as `finishers_of`.
 fn finish_of(alloc: Global, end: Result<ClosedBoard, Refusal>) -> Result<Finish, Refusal> {
     let board = end?;
     let finishers = finishers_of(alloc, board.words())?;
     Ok(Finish { board, finishers })
 }
 
-/// The history, and whether it finishes every step. It is safe, since the plan is approved.
+/// Returns the history, and whether it finishes every step.
 pub(crate) fn history_of<'a, L: RunLedger>(
     approved: &Approved,
     ledgered: Ledgered<'a, L>,
@@ -118,7 +114,7 @@ pub(crate) fn history_of<'a, L: RunLedger>(
     (ledgered.into_entries(), finished)
 }
 
-/// What a refusal comes to where a drive breaks off.
+/// Maps a refusal to the one with which a drive breaks off.
 pub(crate) fn fault_kind(refusal: Refusal) -> Refusal
     ensures fault { IsFault result }
     ensures spent { result ≡ TurnsSpent → refusal ≡ TurnsSpent }
@@ -131,7 +127,6 @@ pub(crate) fn fault_kind(refusal: Refusal) -> Refusal
     }
 }
 
-/// A fault without a history.
 pub(crate) fn empty_fault(alloc: Global, approved: &Approved, refusal: Refusal) -> Fault
     ensures empty { result.history.items ≡ [] }
     ensures run { IsHistory approved.now.ring approved.now.plan result.history.items }
@@ -143,8 +138,7 @@ pub(crate) fn empty_fault(alloc: Global, approved: &Approved, refusal: Refusal) 
     }
 }
 
-// Why the outcome is none of so many lists, if it is: what ended a thread or was refused behind it comes before steps or lines that are left and
-// receipts that disagree.
+// Returns why the outcome fails, if it does. A stopped thread comes before unfinished steps or lines and disagreeing receipts.
 fn judge<'a, R: Wait, G: Gate>(
     job: &Job<'a, R, G>,
     lists: usize,
@@ -173,7 +167,6 @@ fn judge<'a, R: Wait, G: Gate>(
     }
 }
 
-// The worse of a refusal that was met, if one was, and another.
 fn worst(met: Option<Refusal>, other: Refusal) -> Refusal
     ensures { result ≡ TurnsSpent → IsSpent met }
 {
@@ -183,7 +176,7 @@ fn worst(met: Option<Refusal>, other: Refusal) -> Refusal
     }
 }
 
-// The finish of a drive that met this. Where it is refused and nothing was met before, that is what the drive met.
+// Returns the finish. If it is refused, an earlier refusal counts instead.
 fn finish_after(finish: Result<Finish, Refusal>, met: Option<Refusal>) -> Result<Finish, Refusal>
     ensures { IfErr result (λ e. e ≡ TurnsSpent → IsSpent met) }
 {
@@ -193,7 +186,6 @@ fn finish_after(finish: Result<Finish, Refusal>, met: Option<Refusal>) -> Result
     }
 }
 
-// The history of an outcome, as a fault.
 fn fault_of(outcome: Outcome, refusal: Refusal) -> Fault
     ensures { (result.refusal ≡ refusal) × (result.history ≡ outcome.history) }
 {
@@ -206,7 +198,7 @@ fn fault_of(outcome: Outcome, refusal: Refusal) -> Fault
     Fault { refusal, history }
 }
 
-// The lists behind those in front, and what was met, if it was, where their memory is refused.
+// Appends the lists. Notes if memory runs out.
 fn append_lists(
     front: Vec<Listed<Receipt>>,
     lists: Vec<Listed<Receipt>>,
@@ -225,7 +217,6 @@ fn append_lists(
     (all, met)
 }
 
-// Room for the lists of so many threads behind those in front.
 fn with_room(front: Vec<Listed<Receipt>>, threads: usize) -> Result<Vec<Listed<Receipt>>, Refusal>
     ensures { IfOk result (λ v. v.items ≡ front.items) }
 {
@@ -234,7 +225,7 @@ fn with_room(front: Vec<Listed<Receipt>>, threads: usize) -> Result<Vec<Listed<R
     Ok(front)
 }
 
-// How many threads a drive has: one for each worker, one for each client, and that of handoffs.
+// How many threads a drive has: workers, clients, and one for handoffs.
 fn threads_of<'a, R: Wait, G: Gate>(job: &Job<'a, R, G>) -> usize
     requires workers { job.now.workers ≤ 64 }
     requires scripts { length job.now.scripts.now ≤ 8 }
@@ -243,7 +234,6 @@ fn threads_of<'a, R: Wait, G: Gate>(job: &Job<'a, R, G>) -> usize
     job.workers as usize + (job.scripts.len() + 1)
 }
 
-// What stands before the threads start: the board with its seats, and room for their lists.
 fn prepare<'a, R: Wait, G: Gate>(
     job: &Job<'a, R, G>,
     entries: &[Entry],
@@ -262,8 +252,7 @@ fn prepare<'a, R: Wait, G: Gate>(
     Ok((board, first, last, front))
 }
 
-// What the threads of a drive leave behind, where all seats are given back. Their lists stand behind those in front. It is complete where all
-// threads were started and left no line undone.
+// What the threads leave. Complete if all were started and ran all their lines.
 #[derive(Drop)]
 struct Ran<L: RunLedger> {
     shares: Vec<Share<L>>,
@@ -273,7 +262,6 @@ struct Ran<L: RunLedger> {
     complete: bool,
 }
 
-// Runs the threads, on a board where the entries' steps are finished.
 fn run<'a, L: RunLedger + Send + Sync, R: Threads + Wait + Sync, G: Gate + Sync>(
     job: &Job<'a, R, G>,
     executor: &Executor<'a, L>,
@@ -312,7 +300,7 @@ fn run<'a, L: RunLedger + Send + Sync, R: Threads + Wait + Sync, G: Gate + Sync>
     })
 }
 
-// The outcome of a drive that met this, where it is one of so many lists; else its history, and why it is none.
+// Returns the outcome if it is complete and consistent; otherwise its history and the reason.
 fn check_outcome<'a, R: Wait, G: Gate>(
     job: &Job<'a, R, G>,
     outcome: Outcome,
@@ -340,7 +328,6 @@ fn check_outcome<'a, R: Wait, G: Gate>(
     }
 }
 
-// What a drive of so many lists comes to whose threads have ended.
 fn finish_drive<'a, L: RunLedger, R: Wait, G: Gate>(
     job: &Job<'a, R, G>,
     executor: Executor<'a, L>,
@@ -392,7 +379,7 @@ fn finish_drive<'a, L: RunLedger, R: Wait, G: Gate>(
     }
 }
 
-/// A drive whose store is behind the lock, and behind the entries: its threads, and what they come to. Their lists stand behind those in front.
+/// Runs the threads on a store that already has the entries. Their lists come after those in `front`.
 pub(crate) fn drive_on<'a, L: RunLedger + Send + Sync, R: Threads + Wait + Sync, G: Gate + Sync>(
     job: &Job<'a, R, G>,
     executor: Executor<'a, L>,
@@ -428,7 +415,6 @@ pub(crate) fn drive_on<'a, L: RunLedger + Send + Sync, R: Threads + Wait + Sync,
     }
 }
 
-// A drive by this ledger.
 fn drive_as<'a, L: RunLedger + Send + Sync, R: Threads + Wait + Sync, G: Gate + Sync>(
     job: &Job<'a, R, G>,
     blank: Blank,
@@ -455,11 +441,17 @@ fn drive_as<'a, L: RunLedger + Send + Sync, R: Threads + Wait + Sync, G: Gate + 
     }
 }
 
-/// A run of the plan by that many workers, 1 to 64, by a client for each script, of which there are 1 to 8, and by a thread that hands hints off.
-/// Workers do the plan's steps, and pass the gate behind each copy that they open, as worker `w` at the step; clients do the lines of their
-/// scripts in order, and pass it before each, as worker 64 and the script's number at the line's. It breaks off with 71 where a worker took
-/// 1,000,000 turns without finishing a step while steps were left, or the gate answered false; else with 70 where the history is full or records
-/// disagree; and else with 60 where a growth, or the start of a thread, was refused.
+/// Runs the plan with 1 to 64 workers, one client for each of 1 to 8 scripts, and one thread for handoffs.
+///
+/// Workers do the plan's steps, and pass the gate after opening a copy: as worker `w`, at the step.
+///
+/// Clients run their lines in order, and pass it before each: as worker 64 plus the script's number, at the
+/// line's number.
+///
+/// Fails with 71 if a worker took 1,000,000 turns without finishing a step, or the gate refused.
+///
+/// Otherwise fails with 70 if the history is full or records disagree, and with 60 if memory or a thread was
+/// refused.
 pub fn drive<R: Threads + Wait + Sync, G: Gate + Sync>(
     rt: &R,
     alloc: Global,
@@ -471,13 +463,13 @@ pub fn drive<R: Threads + Wait + Sync, G: Gate + Sync>(
     requires workers { (0 < workers) × (workers ≤ 64) }
     requires scripts { (0 < length scripts.now) × (length scripts.now ≤ 8) }
     requires clients { AllByRecursion (λ s. list_all is_client_event s ≡ true) scripts.now }
-    // A run of the plan that finishes every step, safe at every moment, and an interleaving of what its threads were answered.
+    // A safe run of the plan that finishes every step, and an interleaving of the threads' receipts.
     ensures ok { IfOk result (λ o. Driven approved.now.ring approved.now.plan scripts.now workers o.history.items o.receipts.items o.finishers.items) }
-    // A list for each worker, for each client and for the handoffs, and no other.
+    // One list for each worker, each client, and the handoffs.
     ensures threads { IfOk result (λ o. vec_len o.receipts ≡ workers + (length scripts.now + 1)) }
-    // Each finisher is the word of its step with which the board was closed; only the end of a board makes such words.
+    // Each finisher is its step's word on the closed board. Only closing a board makes such words.
     ensures board { IfOk result (λ o. map finished_word o.finishers.items ≡ o.board) }
-    // Where the gate must refuse the pass before a line of a script, there is no outcome.
+    // No outcome if the gate must refuse some line.
     ensures turned { MustTurn (G.must_refuse gate.now) scripts.now → OnOk result ⊥ }
     ensures refusal { IfErr result (λ f. IsFault f.refusal) }
     ensures spent { IfErr result

@@ -1,4 +1,4 @@
-//! What came before the threads of a drive that goes on from a history.
+//! What came before the threads of a resumed drive.
 
 ghost use Rattle.std.specs.Prelude.{◌≡◌, ◌==◌, ◌<◌, ◌≤◌, ℕ, true, false, cond, is_some, length, vec_len};
 ghost use Rattle.std.specs.Prelude.{slice_index_or, IfOk, IfErr, OnOk};
@@ -16,7 +16,6 @@ use ring_receipts::Receipt;
 use std::alloc::{AllocError, Global};
 use std::sync::Wait;
 
-// A copy of the numbers, in memory of its own.
 fn numbers(alloc: Global, given: &Listed<u32>) -> Result<Listed<u32>, AllocError>
     ensures { IfOk result (λ list. list ≡ given.now) }
 {
@@ -24,7 +23,6 @@ fn numbers(alloc: Global, given: &Listed<u32>) -> Result<Listed<u32>, AllocError
     Ok(Listed::from_vec(numbers))
 }
 
-// A copy of the reply, in memory of its own.
 fn copy_of(alloc: Global, reply: &Reply) -> Result<Reply, AllocError>
     ensures { IfOk result (λ r. r ≡ reply.now) }
 {
@@ -38,7 +36,6 @@ fn copy_of(alloc: Global, reply: &Reply) -> Result<Reply, AllocError>
     }
 }
 
-// The receipt of the entry at that place.
 fn receipt_of(alloc: Global, index: u32, entry: &Entry) -> Result<Receipt, AllocError>
     ensures { IfOk result (λ r. r ≡ receipt_at index entry.now) }
 {
@@ -51,7 +48,6 @@ fn receipt_of(alloc: Global, index: u32, entry: &Entry) -> Result<Receipt, Alloc
     })
 }
 
-// The receipts of the entries of a history.
 fn receipts_of(alloc: Global, entries: &[Entry]) -> Result<Vec<Receipt>, Refusal>
     requires { length entries.now ≤ 1000000 }
     ensures ok { IfOk result (λ v. v.items ≡ receipts_from 0 entries.now) }
@@ -68,7 +64,6 @@ fn receipts_of(alloc: Global, entries: &[Entry]) -> Result<Vec<Receipt>, Refusal
     Ok(receipts)
 }
 
-// Notes that the copy is open, or that it is not.
 fn note_copy(flags: &mut Vec<bool>, step: u32, is: bool)
     ensures len { vec_len flags.new ≡ vec_len flags.old }
     ensures flags { (n : ℕ) → n < vec_len flags.old
@@ -80,7 +75,6 @@ fn note_copy(flags: &mut Vec<bool>, step: u32, is: bool)
     }
 }
 
-// Notes what the event says of a copy.
 fn look(flags: &mut Vec<bool>, event: &Event)
     ensures len { vec_len flags.new ≡ vec_len flags.old }
     ensures flags { (n : ℕ) → n < vec_len flags.old
@@ -93,7 +87,6 @@ fn look(flags: &mut Vec<bool>, event: &Event)
     }
 }
 
-// Which copies are open behind the entries, for each step. Takes a byte for each.
 fn flags_of(alloc: Global, steps: u32, entries: &[Entry]) -> Result<Vec<bool>, Refusal>
     ensures len { IfOk result (λ v. vec_len v ≡ steps) }
     ensures flags { IfOk result
@@ -109,7 +102,6 @@ fn flags_of(alloc: Global, steps: u32, entries: &[Entry]) -> Result<Vec<bool>, R
     Ok(flags)
 }
 
-// The copies that are open behind the entries, by number.
 fn copies_of(alloc: Global, steps: u32, entries: &[Entry]) -> Result<Vec<u32>, Refusal>
     ensures ok { IfOk result (λ v. v.items ≡ open_copies steps entries.now) }
     ensures memory { IfErr result (λ e. e ≡ OutOfMemory) }
@@ -124,7 +116,6 @@ fn copies_of(alloc: Global, steps: u32, entries: &[Entry]) -> Result<Vec<u32>, R
     Ok(copies)
 }
 
-// Breaks the copies off, in order.
 fn break_off<L: RunLedger, R: Wait>(
     store: &LockedStore<L, R>,
     share: &mut Share<L>,
@@ -140,7 +131,7 @@ fn break_off<L: RunLedger, R: Wait>(
     Ok(())
 }
 
-/// The receipts of the entries behind which the store is, and behind them those of the copies that they left open, each of which is broken off.
+/// Returns the receipts of the restored entries, then those of aborting the copies that they left open.
 pub(crate) fn earlier_list<L: RunLedger, R: Wait>(
     store: &LockedStore<L, R>,
     alloc: Global,
@@ -158,7 +149,6 @@ pub(crate) fn earlier_list<L: RunLedger, R: Wait>(
     Ok(Listed::from_vec(receipts))
 }
 
-// The step that the event finishes, if it does.
 fn finished(event: &Event) -> Option<u32> {
     match event {
         Event::Do(step) | Event::CloseCopy(step) => Some(*step),
@@ -166,7 +156,6 @@ fn finished(event: &Event) -> Option<u32> {
     }
 }
 
-// Claims the step for the seat and marks it as finished, where it is free.
 fn finish(board: &Board, seat: &mut Seat, step: u32)
     requires board { seat.old.board ≡ board.now.id }
     requires worker { is_some seat.old.worker ≡ true }
@@ -179,7 +168,7 @@ fn finish(board: &Board, seat: &mut Seat, step: u32)
     }
 }
 
-/// Claims each step that the entries finished for the seat, and marks it as finished.
+/// Claims each step that the entries finished, and marks it finished.
 pub(crate) fn finish_all(board: &Board, seat: &mut Seat, entries: &[Entry])
     requires board { seat.old.board ≡ board.now.id }
     requires worker { is_some seat.old.worker ≡ true }

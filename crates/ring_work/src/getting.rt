@@ -1,4 +1,4 @@
-//! A get through the lock.
+//! Gets through the lock.
 
 ghost use Rattle.std.specs.Prelude.{◌≡◌, ◌+◌, ◌<◌, ◌∷◌, ◌++◌, [], true, vec_len, IfOk, IfErr, OnErr, is_some};
 ghost use Rattle.plan_runs.specs.declared.event.Event.TheVariants.{StartGet};
@@ -20,7 +20,6 @@ use std::alloc::Global;
 use std::sync::Wait;
 use std::thread;
 
-// Submits the event that starts a get. Its number.
 fn submit_get<L: RunLedger, R: Wait>(
     store: &LockedStore<L, R>,
     share: &mut Share<L>,
@@ -41,7 +40,6 @@ fn submit_get<L: RunLedger, R: Wait>(
     Ok(get)
 }
 
-/// Starts a get of the key. Its number.
 pub(crate) fn start_get<L: RunLedger, R: Wait>(
     store: &LockedStore<L, R>,
     share: &mut Share<L>,
@@ -57,7 +55,7 @@ pub(crate) fn start_get<L: RunLedger, R: Wait>(
     submit_get(store, share, receipts, &Event::StartGet(key))
 }
 
-// The slots that a get has read: bit i is set where the slot of index i is read.
+// The slots that a get has read: bit i for index i.
 #[derive(Drop)]
 struct Slots {
     mask: u32,
@@ -79,7 +77,7 @@ impl Slots {
     }
 }
 
-// Reads each slot that is not read, in order, until R slots are.
+// Reads the unread slots in order, until R are read.
 fn read_round<L: RunLedger, R: Wait>(
     store: &LockedStore<L, R>,
     share: &mut Share<L>,
@@ -103,7 +101,7 @@ fn read_round<L: RunLedger, R: Wait>(
     Ok(())
 }
 
-// Another round, where it can meet another answer than the last one.
+// Runs another round, unless nothing has changed since a round without replies.
 fn another_read_round<L: RunLedger, R: Wait>(
     store: &LockedStore<L, R>,
     share: &mut Share<L>,
@@ -126,7 +124,6 @@ fn another_read_round<L: RunLedger, R: Wait>(
     came
 }
 
-// Rounds, up to one behind which R slots are read.
 fn read_rounds<L: RunLedger, R: Wait>(
     store: &LockedStore<L, R>,
     share: &mut Share<L>,
@@ -150,7 +147,7 @@ fn read_rounds<L: RunLedger, R: Wait>(
     Ok(())
 }
 
-/// The reads of a get that was started, and its end. The last refusal, where it did not end.
+/// Reads slots for a started get and ends it. Returns the last refusal if it did not end.
 pub(crate) fn finish_get<L: RunLedger, R: Wait>(
     store: &LockedStore<L, R>,
     share: &mut Share<L>,
@@ -171,7 +168,6 @@ pub(crate) fn finish_get<L: RunLedger, R: Wait>(
     }
 }
 
-// A get, started by that event. The last refusal, where it did not end.
 fn get_on<L: RunLedger, R: Wait>(
     store: &LockedStore<L, R>,
     share: &mut Share<L>,
@@ -188,9 +184,11 @@ fn get_on<L: RunLedger, R: Wait>(
     }
 }
 
-/// A get of the key. It is started; then come rounds, at most 64, of reads of each slot that is not read, in order, until R slots are read; then it
-/// asks to end. A round in which nothing was answered is not done again while nothing is answered to other threads either. A refused start, a full
-/// history and want of memory end it at once.
+/// Gets the key: starts the get, reads unread slots in order until R are read, and ends it.
+///
+/// There are at most 64 rounds of reads. A round without replies is repeated only after the history grew.
+///
+/// A refused start, a full history or lack of memory ends the get at once.
 pub fn get_all<'a, L: RunLedger, R: Wait>(
     rt: &R,
     alloc: Global,
@@ -198,9 +196,8 @@ pub fn get_all<'a, L: RunLedger, R: Wait>(
     share: &mut Share<L>,
     key: Key,
 ) -> Attempt
-    // Its block, with its end just where nothing is refused in the end; nothing where the start is refused.
+    // The get's block, with an end exactly if nothing is refused in the end. Empty if the start is refused.
     ensures block { IsGetAttempt key result.receipts.items result.refusal }
-    // The share counts what was answered.
     ensures count { share.new.count ≡ share.old.count + vec_len result.receipts }
     ensures parts { share.new.token.parts ≡ share.old.token.parts }
 {

@@ -1,4 +1,4 @@
-//! The thread that hands hints off.
+//! The thread that hands off hints.
 
 ghost use Rattle.ring_work.specs.Driven.{IsSpent};
 
@@ -12,7 +12,7 @@ use ring_names::{NodeId, Refusal, Slot};
 use std::sync::Wait;
 use std::thread;
 
-// Hands the node's hints for the slot off. Whether they went.
+// Hands off the node's hints for the slot. Returns whether it succeeded.
 fn hand<L: RunLedger, R: Wait, G: Gate>(
     site: &Site<L, R, G>,
     done: &mut Done<L>,
@@ -28,8 +28,8 @@ fn hand<L: RunLedger, R: Wait, G: Gate>(
     }
 }
 
-// Walks over the hints, to the end of the first that began when all other threads had ended. A walk looks for the n-th hint; behind an
-// answered handoff n stays, and behind a refused one it is one more. Where a walk leaves no hint, the next one begins when the bell is rung.
+// Walks over the hints until a walk that began after all other threads had ended. After a successful handoff, position
+// n has the next hint; after a refused one, n grows. If a walk finds nothing, the next waits for the bell.
 fn walks<L: RunLedger, R: Wait, G: Gate>(
     site: &Site<L, R, G>,
     done: &mut Done<L>,
@@ -63,8 +63,7 @@ fn walks<L: RunLedger, R: Wait, G: Gate>(
     Ok(())
 }
 
-/// The handoffs: walks over the hints, to the end of the first that began when all other threads had ended. It stops all where it meets a full
-/// history or want of memory.
+/// Hands off hints until all other threads have ended. A full history or lack of memory stops all threads.
 pub(crate) fn hand_off<L: RunLedger, R: Wait, G: Gate>(
     site: &Site<L, R, G>,
     done: Done<L>,

@@ -1,4 +1,4 @@
-//! What the threads of a drive leave behind.
+//! What the threads of a drive leave.
 
 ghost use Rattle.std.specs.Prelude.{◌≡◌, ◌⊎◌, ◌≤◌, All, None, false, vec_len, IfOk, IfErr, IsTrue};
 ghost use Rattle.ring_names.specs.declared.refusal.Refusal.TheVariants.{OutOfMemory};
@@ -11,9 +11,8 @@ use ring_names::{Listed, Refusal};
 use ring_receipts::Receipt;
 use std::alloc::Global;
 
-/// The seats of the workers, the shares of all threads, their receipts in the order in which the threads were joined, the worst refusal that
-/// ended one, and whether all threads were started and left no line undone. There is room for all of them from the start, so that no thread's are
-/// lost.
+/// The results of all threads, in the order of their joins, and the worst refusal. Room for all is reserved first, so
+/// that none is lost.
 #[derive(Drop)]
 pub(crate) struct Left<L: RunLedger> {
     pub seats: Vec<Seat>,
@@ -23,7 +22,6 @@ pub(crate) struct Left<L: RunLedger> {
     pub complete: bool,
 }
 
-// How bad a refusal is: want of memory least, a limit of turns most.
 fn weight(refusal: &Option<Refusal>) -> u8
     ensures { result ≡ gravity refusal.now }
 {
@@ -35,7 +33,7 @@ fn weight(refusal: &Option<Refusal>) -> u8
     }
 }
 
-/// The worse of the two: a limit of turns comes before a full history and records that disagree, and these before want of memory.
+/// Returns the worse refusal: the limit of turns, then a full history or disagreeing records, then lack of memory.
 pub(crate) fn worse(one: Option<Refusal>, other: Option<Refusal>) -> Option<Refusal>
     ensures one { (result ≡ one) ⊎ (result ≡ other) }
     ensures graver { (gravity one ≤ gravity result) × (gravity other ≤ gravity result) }
@@ -48,7 +46,7 @@ pub(crate) fn worse(one: Option<Refusal>, other: Option<Refusal>) -> Option<Refu
 }
 
 impl<L: RunLedger> Left<L> {
-    /// Nothing yet, with room for that many workers and clients, the first seat, the first share and the thread of handoffs.
+    /// Reserves room for the workers, the clients, the first seat, the first share, and the handoffs.
     pub fn with_room(alloc: Global, workers: usize, clients: usize) -> Result<Left<L>, Refusal>
         ensures none { IfOk result (λ l. (vec_len l.seats ≡ 0) × (l.refusal ≡ None)) }
         ensures memory { IfErr result (λ e. e ≡ OutOfMemory) }
@@ -66,7 +64,6 @@ impl<L: RunLedger> Left<L> {
         })
     }
 
-    /// Notes a refusal.
     pub fn note(&mut self, refusal: Option<Refusal>)
         ensures seats { self.new.seats ≡ self.old.seats }
         ensures spent { IsSpent self.new.refusal → IsSpent self.old.refusal ⊎ IsSpent refusal }
@@ -75,7 +72,6 @@ impl<L: RunLedger> Left<L> {
         self.refusal = worse(self.refusal.take(), refusal);
     }
 
-    /// Notes whether a start was refused.
     pub fn note_start(&mut self, refused: bool)
         ensures seats { self.new.seats ≡ self.old.seats }
         ensures spent { IsSpent self.new.refusal → IsSpent self.old.refusal }
@@ -87,7 +83,6 @@ impl<L: RunLedger> Left<L> {
         }
     }
 
-    /// Takes a share.
     pub fn share(&mut self, share: Share<L>)
         ensures seats { self.new.seats ≡ self.old.seats }
         ensures spent { IsSpent self.new.refusal → IsSpent self.old.refusal }
@@ -98,7 +93,7 @@ impl<L: RunLedger> Left<L> {
         }
     }
 
-    /// Takes what a thread hands back.
+    /// Takes a thread's results.
     pub fn take(&mut self, done: Done<L>)
         ensures seats { self.new.seats ≡ self.old.seats }
         ensures spent { IsSpent self.new.refusal → IsSpent self.old.refusal ⊎ IsSpent done.stopped }
@@ -118,7 +113,7 @@ impl<L: RunLedger> Left<L> {
         self.note(stopped);
     }
 
-    /// Takes what a worker hands back.
+    /// Takes a worker's results.
     pub fn take_seat(&mut self, board: &Board, sat: Sat<L>)
         requires old { All (λ s. s.board ≡ board.now.id) self.old.seats.items }
         requires one { sat.seat.board ≡ board.now.id }

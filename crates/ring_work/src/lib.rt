@@ -1,4 +1,4 @@
-//! What runs an approved plan: puts and gets of clients through the lock, and the threads of a drive, with all that they were answered.
+//! Runs an approved plan: puts and gets of clients through the lock, and the threads of a drive, with their receipts.
 #![tactic(auto)]
 
 mod attempt;

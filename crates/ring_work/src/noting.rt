@@ -1,4 +1,4 @@
-//! Events that are submitted, with their receipts kept.
+//! Submits events and keeps their receipts.
 
 ghost use Rattle.std.specs.Prelude.{◌≡◌, ◌≢◌, ◌+◌, ◌∷◌, ◌++◌, ◌⊎◌, ◌↔◌, [], true, vec_len, if◌then◌else◌, IfOk, IfErr, OnOk, OnErr, IsTrue};
 ghost use Rattle.ring_names.specs.declared.refusal.Refusal.TheVariants.{HistoryFull, OutOfMemory, TurnsSpent};
@@ -16,29 +16,29 @@ use std::sync::Wait;
 /// The most rounds of a put or a get.
 pub(crate) const MAX_ROUNDS: u32 = 64;
 
-/// The history's length before the last round of a put or a get, where nothing was answered in that round. While the length stays, the store does,
-/// and another round would be refused all the same.
+/// The history's length before the last round, if that round had no replies. Until it grows, another round would be
+/// refused too.
 #[derive(Drop)]
 pub(crate) struct Idle {
     length: Option<u32>,
 }
 
 impl Idle {
-    /// Before the first round.
+    /// The state before the first round.
     pub fn new() -> Idle
         ensures { result.length ≡ None }
     {
         Idle { length: None }
     }
 
-    /// Whether nothing was answered in the last round, and nothing since it began, where the history is so long now.
+    /// Whether the last round had no replies, and the history has not grown since it began.
     pub fn is_at(&self, length: u32) -> bool
         ensures { IsTrue result ↔ (self.now.length ≡ Some length) }
     {
         self.length == Some(length)
     }
 
-    /// Notes a round that began at that length, and whether something was answered in it.
+    /// Notes a round that began at this length, and whether it had replies.
     pub fn note(&mut self, length: u32, answered: bool)
         ensures { self.new.length ≡ (if answered then None else Some length) }
     {
@@ -46,7 +46,7 @@ impl Idle {
     }
 }
 
-/// Submits the event and keeps its receipt, for which there is room before the lock is asked. Refused, nothing is kept.
+/// Submits the event and keeps its receipt. Room is reserved before the lock is taken. If refused, nothing is kept.
 pub(crate) fn submit<L: RunLedger, R: Wait>(
     store: &LockedStore<L, R>,
     share: &mut Share<L>,
@@ -64,7 +64,7 @@ pub(crate) fn submit<L: RunLedger, R: Wait>(
     Ok(())
 }
 
-/// As `submit`. Takes the event, so that who notes one need not let it go at each of several ends.
+/// Does what `submit` does, and takes the event, so that callers need not drop it.
 pub(crate) fn note<L: RunLedger, R: Wait>(
     store: &LockedStore<L, R>,
     share: &mut Share<L>,
@@ -79,7 +79,6 @@ pub(crate) fn note<L: RunLedger, R: Wait>(
     submit(store, share, receipts, &event)
 }
 
-/// The number of the put that was started.
 pub(crate) fn put_number(reply: &Reply) -> u32
     requires { is_put reply.now ≡ true }
     ensures { reply.now ≡ Put result }
@@ -91,7 +90,6 @@ pub(crate) fn put_number(reply: &Reply) -> u32
     }
 }
 
-/// The number of the get that was started.
 pub(crate) fn get_number(reply: &Reply) -> u32
     requires { is_get reply.now ≡ true }
     ensures { reply.now ≡ Get result }
@@ -103,7 +101,7 @@ pub(crate) fn get_number(reply: &Reply) -> u32
     }
 }
 
-/// Goes on behind a refusal, but where it ends all: a full history, or want of memory.
+/// Passes over a refusal, unless it ends everything: a full history or lack of memory.
 pub(crate) fn go_on(refusal: Refusal) -> Result<(), Refusal>
     ensures { IfErr result (λ e. (e ≡ HistoryFull) ⊎ (e ≡ OutOfMemory)) }
 {
@@ -114,7 +112,7 @@ pub(crate) fn go_on(refusal: Refusal) -> Result<(), Refusal>
     }
 }
 
-/// A refusal by the store or the board, which know no limit of turns.
+/// Returns the refusal. The store and the board know no limit of turns.
 pub(crate) fn no_limit(refusal: Refusal) -> Refusal
     ensures { result ≢ TurnsSpent }
 {

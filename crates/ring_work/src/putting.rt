@@ -1,4 +1,4 @@
-//! A put through the lock.
+//! Puts through the lock.
 
 ghost use Rattle.std.specs.Prelude.{◌≡◌, ◌+◌, ◌∷◌, ◌++◌, [], true, false, vec_len, IfOk, IfErr, OnOk, OnErr, is_some};
 ghost use Rattle.plan_runs.specs.declared.event.Event.TheVariants.{StartPut};
@@ -20,7 +20,6 @@ use std::alloc::Global;
 use std::sync::Wait;
 use std::thread;
 
-// Starts the put. Its number.
 fn start_put<L: RunLedger, R: Wait>(
     store: &LockedStore<L, R>,
     share: &mut Share<L>,
@@ -41,7 +40,7 @@ fn start_put<L: RunLedger, R: Wait>(
     Ok(put)
 }
 
-// Leaves the put with a stand-in for the slot: the first node, by number, that takes it, if one does.
+// Leaves a hint for the slot with the first node, by number, that accepts it.
 fn leave_hint<L: RunLedger, R: Wait>(
     store: &LockedStore<L, R>,
     share: &mut Share<L>,
@@ -68,7 +67,7 @@ fn leave_hint<L: RunLedger, R: Wait>(
     Ok(())
 }
 
-// Writes the put to the slot, or leaves a hint where a node of the slot is down.
+// Writes the put to the slot, or leaves a hint if a node of the slot is down.
 fn send<L: RunLedger, R: Wait>(
     store: &LockedStore<L, R>,
     share: &mut Share<L>,
@@ -87,7 +86,6 @@ fn send<L: RunLedger, R: Wait>(
     }
 }
 
-// Sends the put to each slot in order.
 fn send_round<L: RunLedger, R: Wait>(
     store: &LockedStore<L, R>,
     share: &mut Share<L>,
@@ -104,7 +102,7 @@ fn send_round<L: RunLedger, R: Wait>(
     Ok(())
 }
 
-// A round: the put is sent to each slot, and then asks to be acknowledged.
+// Sends the put to each slot, then asks for its acknowledgement.
 fn round<L: RunLedger, R: Wait>(
     store: &LockedStore<L, R>,
     share: &mut Share<L>,
@@ -122,14 +120,14 @@ fn round<L: RunLedger, R: Wait>(
     Ok(())
 }
 
-// How many tickets of a put were current behind its last round, and whether that round is to be done again.
+// How many tickets were current after the last round, and whether another round can help.
 #[derive(Drop)]
 struct Last {
     current: u32,
     idle: Idle,
 }
 
-// Another round, where it can meet another answer than the last one. Refused as that one where it can not.
+// Runs another round, unless it would be refused like the last one.
 fn another_round<L: RunLedger, R: Wait>(
     store: &LockedStore<L, R>,
     share: &mut Share<L>,
@@ -153,7 +151,7 @@ fn another_round<L: RunLedger, R: Wait>(
     came
 }
 
-// Rounds, up to one behind which the put is acknowledged. The last refusal, where none is.
+// Runs rounds until the put is acknowledged. Returns the last refusal if it is not.
 fn send_rounds<L: RunLedger, R: Wait>(
     store: &LockedStore<L, R>,
     share: &mut Share<L>,
@@ -180,8 +178,7 @@ fn send_rounds<L: RunLedger, R: Wait>(
     Some(Refusal::StaleTickets(last.current))
 }
 
-/// A put, started by that event: rounds of at most 64 in which it is sent to each slot, or to a stand-in, and then asks to be acknowledged. Its
-/// receipts are put behind the others. The last refusal, where it was not acknowledged.
+/// Starts the put and sends it in at most 64 rounds. Returns the last refusal if it is not acknowledged.
 pub(crate) fn put_on<L: RunLedger, R: Wait>(
     store: &LockedStore<L, R>,
     share: &mut Share<L>,
@@ -199,10 +196,16 @@ pub(crate) fn put_on<L: RunLedger, R: Wait>(
     }
 }
 
-/// A put of that writer, which knows the replies of the gets `seen`. It is started; then come rounds, at most 64: for each slot in order a write,
-/// and where a node of the slot is down a hint at each node, by number, until one takes it; then it asks to be acknowledged, and where too few
-/// tickets are current there is another round. A round in which nothing was answered is not done again while nothing is answered to other threads
-/// either. A refused start, a full history and want of memory end it at once.
+/// Puts the value, with knowledge of the replies of the gets `seen`.
+///
+/// After the start there are at most 64 rounds. Each writes to the slots in order, then asks for the
+/// acknowledgement.
+///
+/// For a slot with a node down, a round tries hints at the nodes by number.
+///
+/// Too few current tickets lead to another round, but after a round without replies only if the history grew.
+///
+/// A refused start, a full history or lack of memory ends the put at once.
 pub fn put_all<'a, L: RunLedger, R: Wait>(
     rt: &R,
     alloc: Global,
@@ -213,9 +216,8 @@ pub fn put_all<'a, L: RunLedger, R: Wait>(
     value: Value,
     seen: Seen,
 ) -> Attempt
-    // Its block, with an acknowledgement just where nothing is refused in the end; nothing where the start is refused.
+    // The put's block, acknowledged exactly if nothing is refused in the end. Empty if the start is refused.
     ensures block { IsPutAttempt (StartPut writer key value seen) result.receipts.items result.refusal }
-    // The share counts what was answered.
     ensures count { share.new.count ≡ share.old.count + vec_len result.receipts }
     ensures parts { share.new.token.parts ≡ share.old.token.parts }
 {

@@ -1,4 +1,4 @@
-//! A drive that goes on from a history.
+//! Resumes a drive from a history.
 
 ghost use Rattle.std.specs.Prelude.{◌≡◌, ◌≢◌, ◌↔◌, ◌+◌, ◌<◌, ◌≤◌, [], ◌∷◌, true, length, map, vec_len, IfOk, IfErr};
 ghost use Rattle.std.specs.Prelude.{OnOk};
@@ -29,7 +29,6 @@ use std::sync::Wait;
 use std::sync::ledger::Blank;
 use std::thread::Threads;
 
-// The one list, alone.
 fn one_list(alloc: Global, list: Listed<Receipt>) -> Result<Vec<Listed<Receipt>>, Refusal>
     ensures { IfOk result (λ v. v.items ≡ list ∷ []) }
 {
@@ -38,7 +37,7 @@ fn one_list(alloc: Global, list: Listed<Receipt>) -> Result<Vec<Listed<Receipt>>
     Ok(front)
 }
 
-// The list of what came before the threads, with every copy broken off that the entries left open. It stands alone.
+// The list of what came before the threads, with the copies that the entries left open aborted.
 fn front_of<'a, L: RunLedger, R: Wait, G: Gate>(
     job: &Job<'a, R, G>,
     executor: &Executor<'a, L>,
@@ -60,7 +59,7 @@ fn front_of<'a, L: RunLedger, R: Wait, G: Gate>(
     one_list(job.alloc, list)
 }
 
-// The fault of a store that is given up before its threads, with the history that stands.
+// The fault of a store that is given up before its threads start, with the history so far.
 fn abort_drive<'a, L: RunLedger>(
     alloc: Global,
     executor: Executor<'a, L>,
@@ -84,7 +83,6 @@ fn abort_drive<'a, L: RunLedger>(
     }
 }
 
-// A drive whose store is behind the lock, and behind the entries.
 fn resume_on<'a, L: RunLedger + Send + Sync, R: Threads + Wait + Sync, G: Gate + Sync>(
     job: &Job<'a, R, G>,
     executor: Executor<'a, L>,
@@ -109,7 +107,7 @@ fn resume_on<'a, L: RunLedger + Send + Sync, R: Threads + Wait + Sync, G: Gate +
         (λ f. IsHistory job.now.approved.now.ring job.now.approved.now.plan f.history.items) }
 {
     let mut share = share;
-    // Room for the share, so that the history stands where an abort is refused.
+    // Reserves room for the share first, so that a refused abort keeps the history.
     let mut shares = match Vec::with_capacity(job.alloc, 1) {
         Ok(shares) => shares,
         Err(_) => {
@@ -126,7 +124,7 @@ fn resume_on<'a, L: RunLedger + Send + Sync, R: Threads + Wait + Sync, G: Gate +
     }
 }
 
-// Why a store is not restored, as a resume tells it.
+// Maps the refusal of a restore to that of a resume.
 fn stop_refusal(approved: &Approved, entries: &[Entry], refusal: Refusal) -> Refusal
     requires full { (refusal ≡ HistoryFull) ↔ (1000000 < length entries.now) }
     requires few { length entries.now ≤ 1000000 }
@@ -143,7 +141,6 @@ fn stop_refusal(approved: &Approved, entries: &[Entry], refusal: Refusal) -> Ref
     refusal
 }
 
-// A resume from the entries alone, by this ledger.
 fn resume_as<'a, L: RunLedger + Send + Sync, R: Threads + Wait + Sync, G: Gate + Sync>(
     job: &Job<'a, R, G>,
     blank: Blank,
@@ -179,12 +176,16 @@ fn resume_as<'a, L: RunLedger + Send + Sync, R: Threads + Wait + Sync, G: Gate +
     }
 }
 
-/// A run of the plan that goes on from a history which broke off. The store is restored behind its entries; each copy that they left open is
-/// broken off, by step number; then all is done as `drive` does it. The first list of receipts tells the entries, and behind them what these
-/// aborts were answered; the finisher of each step that the entries finished is the number of workers, which is no worker's. More than 1,000,000
-/// entries are refused before all else; else `Mismatch` tells the first entry at which they are no run of the plan, both with an empty history.
-/// Behind them it breaks off as `drive` does, with 70 also where there is no room in the history for an abort. Out of memory comes last at
-/// each entry.
+/// Resumes a run from a history that broke off: restores the store, aborts open copies by step number, then does as `drive`.
+///
+/// The first list of receipts has the entries, then these aborts. A step that the entries finished has the number of
+/// workers as its finisher.
+///
+/// Over 1,000,000 entries are refused first, then `Mismatch` names the first entry that is not part of a run;
+/// both with an empty history.
+///
+/// Later refusals are those of `drive`, with 70 also if an abort does not fit the history. Lack of memory comes
+/// last at each entry.
 pub fn resume<R: Threads + Wait + Sync, G: Gate + Sync>(
     rt: &R,
     alloc: Global,
@@ -197,16 +198,16 @@ pub fn resume<R: Threads + Wait + Sync, G: Gate + Sync>(
     requires workers { (0 < workers) × (workers ≤ 64) }
     requires scripts { (0 < length scripts.now) × (length scripts.now ≤ 8) }
     requires clients { AllByRecursion (λ s. list_all is_client_event s ≡ true) scripts.now }
-    // As drive's, and the first list of receipts continues the entries.
+    // As for `drive`, and the first list of receipts continues the entries.
     ensures ok { IfOk result (λ o. Resumed approved.now.ring approved.now.plan scripts.now workers entries.now o.history.items o.receipts.items o.finishers.items) }
-    // A list of what came before, and one for each worker, for each client and for the handoffs, and no other.
+    // One list for what came before, each worker, each client, and the handoffs.
     ensures threads { IfOk result (λ o. vec_len o.receipts ≡ 1 + (workers + (length scripts.now + 1))) }
-    // Each finisher is the word of its step with which the board was closed; only the end of a board makes such words.
+    // Each finisher is its step's word on the closed board. Only closing a board makes such words.
     ensures board { IfOk result (λ o. map finished_word o.finishers.items ≡ o.board) }
-    // Where the gate must refuse the pass before a line of a script, there is no outcome.
+    // No outcome if the gate must refuse some line.
     ensures turned { MustTurn (G.must_refuse gate.now) scripts.now → OnOk result ⊥ }
     ensures refusal { IfErr result (λ f. IsStop approved.now.ring approved.now.plan entries.now f.refusal) }
-    // Too many entries, and these alone, come before all else; else the first entry at which they are no run is told, memory aside.
+    // Only too many entries come before all else. Then comes the first entry that is not part of a run, memory aside.
     ensures full { IfErr result (λ f. (f.refusal ≡ HistoryFull) ↔ (1000000 < length entries.now)) }
     ensures fault { IfErr result (λ f. TellsFault approved.now.ring approved.now.plan entries.now f.refusal) }
     ensures spent { IfErr result

@@ -9,7 +9,7 @@ use std::alloc::Global;
 use std::sync::Wait;
 use std::sync::atomic::{AtomicBool, AtomicU64, Ordering};
 
-/// What a drive is asked for: an approved plan, its clients' scripts, how many workers, and the gate that threads pass.
+/// What a drive is asked to do.
 #[derive(Drop)]
 pub(crate) struct Job<'a, R: Wait, G: Gate> {
     pub rt: &'a R,
@@ -20,14 +20,14 @@ pub(crate) struct Job<'a, R: Wait, G: Gate> {
     pub gate: &'a G,
 }
 
-/// The store behind its lock, and what waits for the lock.
+/// The store behind its lock, and the runtime that waits for it.
 #[derive(Drop)]
 pub(crate) struct LockedStore<'r, 'e, 'a, L: RunLedger, R: Wait> {
     pub rt: &'r R,
     pub executor: &'e Executor<'a, L>,
 }
 
-/// That all threads are to stop, that all but the one of handoffs have ended, and the bell of that one, which counts how often it was rung.
+/// Whether all threads must stop, whether all but the handoffs have ended, and a bell that counts its rings.
 #[derive(Drop)]
 pub(crate) struct Flags {
     pub stop: AtomicBool,
@@ -36,7 +36,6 @@ pub(crate) struct Flags {
 }
 
 impl Flags {
-    /// None set, and the bell not rung.
     pub fn new() -> Flags {
         Flags {
             stop: AtomicBool::new(false),
@@ -46,7 +45,7 @@ impl Flags {
     }
 }
 
-/// The job and its plan, the store, the board and the flags.
+/// What all threads see: the job, its plan, the store, the board and the flags.
 #[derive(Drop)]
 pub(crate) struct Site<'e, 'a, L: RunLedger, R: Wait, G: Gate> {
     pub job: &'e Job<'a, R, G>,
@@ -56,23 +55,20 @@ pub(crate) struct Site<'e, 'a, L: RunLedger, R: Wait, G: Gate> {
     pub flags: &'e Flags,
 }
 
-/// Whether the flag is set.
 pub(crate) fn is_set(flag: &AtomicBool) -> bool {
     flag.load(Ordering::SeqCst)
 }
 
-/// Sets the flag.
 pub(crate) fn set(flag: &AtomicBool) {
     flag.store(true, Ordering::SeqCst);
 }
 
-/// Wakes the thread of handoffs.
 pub(crate) fn wake(bell: &AtomicU64) {
     bell.fetch_add(1, Ordering::SeqCst);
     bell.wake_all();
 }
 
-/// How often the bell was rung, in its last 32 bits.
+/// The last 32 bits of the bell's count.
 pub(crate) fn ring_count(bell: &AtomicU64) -> u32 {
     (bell.load(Ordering::SeqCst) & 0xffff_ffff) as u32
 }

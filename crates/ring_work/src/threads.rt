@@ -1,4 +1,4 @@
-//! The threads of a drive.
+//! Starts and joins the threads of a drive.
 
 ghost use Rattle.std.specs.Prelude.{◌≡◌, ◌⊎◌, ◌+◌, ◌<◌, ◌≤◌, ℕ, All, Any, [], None, true, false, is_some, length, vec_len};
 ghost use Rattle.std.specs.Prelude.{slice_index_or, IfOk, IfErr, IsTrue};
@@ -22,7 +22,7 @@ use std::sync::Wait;
 use std::thread;
 use std::thread::{Promise, PromisedHandle, Scope, Threads};
 
-// What a worker hands back has its seat at this board, and met no limit of turns where this plan has no step.
+// Promise of a worker: its seat is at this board, and it meets no limit of turns if the plan is empty.
 #[derive(Drop)]
 struct AtBoard(Snapshot<Board>, Snapshot<Plan>);
 
@@ -33,8 +33,7 @@ impl<L: RunLedger> Promise<Sat<L>> for AtBoard {
     ghost kept_by = { λ p r. (r.seat.board ≡ p.0.value.id) × (IsSpent r.done.stopped → 0 < length p.1.value) };
 }
 
-// What the client of that number hands back met no limit of turns that this gate may not make it meet; and where it did all of its lines, of which
-// there are so many, the gate let it pass before each.
+// Promise of a client: it meets the limit only if this gate may refuse. If all lines ran, the gate passed each.
 #[derive(Drop)]
 struct ByGate<G: Gate>(Snapshot<G>, u32, usize);
 
@@ -46,7 +45,7 @@ impl<L: RunLedger, G: Gate> Promise<Done<L>> for ByGate<G> {
         × (IsTrue r.complete → MayPass (G.must_refuse p.0.value) p.1 p.2) };
 }
 
-// What the thread of handoffs hands back met no limit of turns.
+// Promise of the handoffs: they meet no limit of turns.
 #[derive(Clone, Copy)]
 struct Never;
 
@@ -56,7 +55,7 @@ impl<L: RunLedger> Promise<Done<L>> for Never {
     ghost kept_by = { λ p r. IsSpent r.stopped → ⊥ };
 }
 
-// The handles of the workers and of the clients, and what all threads leave behind.
+// The handles of workers and clients, and what all threads leave.
 #[derive(Drop)]
 struct Room<L: RunLedger, G: Gate> {
     sitting: Vec<PromisedHandle<Sat<L>, AtBoard>>,
@@ -65,7 +64,6 @@ struct Room<L: RunLedger, G: Gate> {
 }
 
 impl<L: RunLedger, G: Gate> Room<L, G> {
-    // Room for so many workers and clients.
     fn new(alloc: Global, workers: usize, clients: usize) -> Result<Room<L, G>, Refusal>
         ensures none { IfOk result (λ r. (vec_len r.sitting ≡ 0) × (vec_len r.serving ≡ 0)) }
         ensures left { IfOk result (λ r. (vec_len r.left.seats ≡ 0) × (r.left.refusal ≡ None)) }
@@ -82,7 +80,6 @@ impl<L: RunLedger, G: Gate> Room<L, G> {
     }
 }
 
-// Starts the thread of handoffs.
 fn start_handoffs<'s, 'x, 'e, 'a, L: RunLedger + Send + Sync, R: Wait + Sync, G: Gate + Sync>(
     scope: &Scope<'s, &'x ()>,
     site: &'s Site<'e, 'a, L, R, G>,
@@ -100,7 +97,7 @@ fn start_handoffs<'s, 'x, 'e, 'a, L: RunLedger + Send + Sync, R: Wait + Sync, G:
     }
 }
 
-// Starts a worker and keeps its handle. Whether that was refused.
+// Starts a worker. Returns whether that was refused.
 fn start_worker<'s, 'x, 'e, 'a, L: RunLedger + Send + Sync, R: Wait + Sync, G: Gate + Sync>(
     scope: &Scope<'s, &'x ()>,
     site: &'s Site<'e, 'a, L, R, G>,
@@ -129,7 +126,7 @@ fn start_worker<'s, 'x, 'e, 'a, L: RunLedger + Send + Sync, R: Wait + Sync, G: G
     }
 }
 
-// Starts all workers, from the last one on, so that their handles are joined from the first one on. Whether one was refused.
+// Starts all workers, the last first, so that the first is joined first. Returns whether one was refused.
 fn start_workers<'s, 'x, 'e, 'a, L: RunLedger + Send + Sync, R: Wait + Sync, G: Gate + Sync>(
     scope: &Scope<'s, &'x ()>,
     site: &'s Site<'e, 'a, L, R, G>,
@@ -160,7 +157,7 @@ fn start_workers<'s, 'x, 'e, 'a, L: RunLedger + Send + Sync, R: Wait + Sync, G: 
     refused
 }
 
-// Starts the client of that number and keeps its handle. Whether that was refused, or a start was before.
+// Starts the client. Returns whether this or an earlier start was refused.
 fn start_client<'s, 'x, 'e, 'a, L: RunLedger + Send + Sync, R: Wait + Sync, G: Gate + Sync>(
     scope: &Scope<'s, &'x ()>,
     site: &'s Site<'e, 'a, L, R, G>,
@@ -202,7 +199,7 @@ fn start_client<'s, 'x, 'e, 'a, L: RunLedger + Send + Sync, R: Wait + Sync, G: G
     }
 }
 
-// Starts a client for each script, from the last one on. Whether one was refused, or a start was before.
+// Starts a client for each script, the last first. Returns whether this or an earlier start was refused.
 fn start_clients<'s, 'x, 'e, 'a, L: RunLedger + Send + Sync, R: Wait + Sync, G: Gate + Sync>(
     scope: &Scope<'s, &'x ()>,
     site: &'s Site<'e, 'a, L, R, G>,
@@ -229,7 +226,6 @@ fn start_clients<'s, 'x, 'e, 'a, L: RunLedger + Send + Sync, R: Wait + Sync, G: 
     refused
 }
 
-// Takes what the workers hand back, the last one's handle first.
 fn join_workers<L: RunLedger, R: Threads + Wait, G: Gate>(
     site: &Site<L, R, G>,
     handles: Vec<PromisedHandle<Sat<L>, AtBoard>>,
@@ -250,7 +246,6 @@ fn join_workers<L: RunLedger, R: Threads + Wait, G: Gate>(
     left
 }
 
-// Takes what the clients hand back, the last one's handle first.
 fn join_clients<L: RunLedger, R: Threads + Wait, G: Gate>(
     site: &Site<L, R, G>,
     handles: Vec<PromisedHandle<Done<L>, ByGate<G>>>,
@@ -276,7 +271,6 @@ fn join_clients<L: RunLedger, R: Threads + Wait, G: Gate>(
     left
 }
 
-// Takes what the thread of handoffs hands back, if it was started.
 fn join_handoffs<L: RunLedger, R: Threads + Wait>(
     rt: &R,
     handle: Option<PromisedHandle<Done<L>, Never>>,
@@ -293,7 +287,6 @@ fn join_handoffs<L: RunLedger, R: Threads + Wait>(
     left
 }
 
-// Starts the threads and joins them. The board's first seat, and what the threads left behind.
 fn run_in<'s, 'x, 'e, 'a, L: RunLedger + Send + Sync, R: Threads + Wait + Sync, G: Gate + Sync>(
     scope: &Scope<'s, &'x ()>,
     site: &'s Site<'e, 'a, L, R, G>,
@@ -339,8 +332,8 @@ fn run_in<'s, 'x, 'e, 'a, L: RunLedger + Send + Sync, R: Threads + Wait + Sync, 
     (first, left)
 }
 
-/// Starts a thread for the handoffs, one for each worker with a seat of its own, and one for each script, and joins them all. A start that is
-/// refused is a refused growth, and ends the others as soon as they see it. The board's first seat, and what the threads left behind.
+/// Starts the threads for handoffs, workers and scripts, and joins them all. A refused start ends the others as soon as
+/// they see it. Returns the board's first seat too.
 pub(crate) fn run_all<'e, 'a, L: RunLedger + Send + Sync, R: Threads + Wait + Sync, G: Gate + Sync>(
     job: &'e Job<'a, R, G>,
     executor: &'e Executor<'a, L>,

@@ -18,27 +18,24 @@ use std::alloc::Global;
 use std::sync::Wait;
 use std::{mem, thread};
 
-/// The most turns that a worker takes without finishing a step.
+/// The most turns without finishing a step.
 const MAX_TURNS: u32 = 1_000_000;
 
-// The chunks of a copy.
 const CHUNKS: u32 = 16;
 
-// No step.
 const NONE: u32 = 0xffff_ffff;
 
-// What a worker knows of the steps, and where its next walk begins. A walk leaves out each step that is known finished, and each that waits: for
-// one on which it directly depends and which is not known finished. So what was looked at once is looked at again only where it may have changed,
-// and each dependency of a step is passed once.
+// What a worker knows of the steps. Walks skip steps known to be finished, and steps that wait for a dependency not
+// known to be. So a step is looked at again only after a change, and each dependency is passed once.
 #[derive(Drop)]
 struct Walk {
     finished: Vec<bool>,
     // A bit for each step that walks look at.
     open: Vec<u64>,
-    // For each step the first of those that wait for it, and for each of these the next.
+    // By step, the first step that waits for it; and by waiting step, the next one.
     waiting: Vec<u32>,
     behind: Vec<u32>,
-    // For each step how many of its dependencies, the first ones, are known finished.
+    // By step, how many of its dependencies, from the first on, are known to be finished.
     passed: Vec<u32>,
     left: u32,
     from: u32,
@@ -68,7 +65,7 @@ impl Walk {
         self.finished.get(step as usize).copied().unwrap_or(false)
     }
 
-    // Has walks look at the step, or leave it out.
+    // Lets walks look at the step, or skip it.
     fn set_open(&mut self, step: u32, is: bool) {
         if let Some(word) = self.open.get_mut((step / 64) as usize) {
             let bit = 1u64 << (step % 64);
@@ -80,7 +77,7 @@ impl Walk {
         }
     }
 
-    // The first step to look at from that one on, below the end.
+    // The first step to look at, from `from` on.
     fn first_open(&self, from: u32, end: u32) -> Option<u32>
         ensures { IfSome result (λ s. s < end) }
     {
@@ -98,7 +95,7 @@ impl Walk {
         None
     }
 
-    // Leaves the step out until the other one is known finished.
+    // Skips the step until the other one is known to be finished.
     fn wait(&mut self, step: u32, other: u32) {
         if let (Some(first), Some(next)) = (
             self.waiting.get_mut(other as usize),
@@ -110,19 +107,17 @@ impl Walk {
         }
     }
 
-    // How many dependencies of the step are known finished, of the first ones.
     fn passed_count(&self, step: u32) -> usize {
         self.passed.get(step as usize).copied().unwrap_or(0) as usize
     }
 
-    // Notes that so many more are.
     fn pass(&mut self, step: u32, more: u32) {
         if let Some(passed) = self.passed.get_mut(step as usize) {
             *passed = passed.saturating_add(more);
         }
     }
 
-    // Has walks look at what waits for the step.
+    // Lets walks look at the steps that wait for this one.
     fn wake(&mut self, step: u32) {
         let mut next = match self.waiting.get_mut(step as usize) {
             Some(first) => mem::replace(first, NONE),
@@ -137,7 +132,6 @@ impl Walk {
         }
     }
 
-    // Notes that the step is finished.
     fn note(&mut self, step: u32) {
         if let Some(known) = self.finished.get_mut(step as usize) {
             if !*known {
@@ -150,7 +144,6 @@ impl Walk {
     }
 }
 
-// Whether the step is found finished, which is asked of the board where it is not known.
 fn is_finished(board: &Board, seat: &mut Seat, walk: &mut Walk, step: u32) -> bool
     requires board { seat.old.board ≡ board.now.id }
     requires step { step < board.now.steps }
@@ -167,7 +160,7 @@ fn is_finished(board: &Board, seat: &mut Seat, walk: &mut Walk, step: u32) -> bo
     finished
 }
 
-// Whether the step is not found finished, and all that it directly depends on is. Where it is not, it waits.
+// Whether the step is unfinished and all its dependencies are finished. Otherwise it waits.
 fn is_next(board: &Board, seat: &mut Seat, walk: &mut Walk, step: u32, others: &[u32]) -> bool
     requires board { seat.old.board ≡ board.now.id }
     requires step { step < board.now.steps }
@@ -190,7 +183,7 @@ fn is_next(board: &Board, seat: &mut Seat, walk: &mut Walk, step: u32, others: &
     true
 }
 
-// The events of a step that is no copy. Whether it is done.
+// Does a step that is not a copy. Returns whether it is done.
 fn do_step<L: RunLedger, R: Wait, G: Gate>(
     site: &Site<L, R, G>,
     done: &mut Done<L>,
@@ -205,7 +198,7 @@ fn do_step<L: RunLedger, R: Wait, G: Gate>(
     }
 }
 
-// The events that are left of a copy that is open: its chunks, and its close.
+// The remaining events of an open copy: its chunks, and its close.
 fn rest_of(alloc: Global, step: u32) -> Result<Vec<Event>, Refusal> {
     let mut rest = Vec::with_capacity(alloc, CHUNKS as usize + 1)?;
     for chunk in 0..CHUNKS {
@@ -215,8 +208,8 @@ fn rest_of(alloc: Global, step: u32) -> Result<Vec<Event>, Refusal> {
     Ok(rest)
 }
 
-// These events, under one hold of the lock unless a chunk is marked already, which is passed over. Whether the copy is closed, and not a node is
-// down, so that it is broken off.
+// Submits the events under one lock. If a chunk is already marked, continues after it. Returns whether the copy was
+// closed; if a node is down it must be aborted.
 fn copy_rest<L: RunLedger, R: Wait, G: Gate>(
     site: &Site<L, R, G>,
     done: &mut Done<L>,
@@ -238,7 +231,6 @@ fn copy_rest<L: RunLedger, R: Wait, G: Gate>(
     Ok(true)
 }
 
-// A copy that is open, up to its end. Whether it is done.
 fn copy_on<L: RunLedger, R: Wait, G: Gate>(
     site: &Site<L, R, G>,
     done: &mut Done<L>,
@@ -256,7 +248,6 @@ fn copy_on<L: RunLedger, R: Wait, G: Gate>(
     Ok(false)
 }
 
-// A copy. Whether it is done.
 fn copy<L: RunLedger, R: Wait, G: Gate>(
     site: &Site<L, R, G>,
     done: &mut Done<L>,
@@ -272,7 +263,7 @@ fn copy<L: RunLedger, R: Wait, G: Gate>(
     }
 }
 
-// The events of a step that the seat holds; then it is finished, or given back. Whether it is finished.
+// Does a claimed step, then marks it finished or gives it back. Returns whether it is finished.
 fn carry_out<L: RunLedger, R: Wait, G: Gate>(
     site: &Site<L, R, G>,
     sat: &mut Sat<L>,
@@ -296,7 +287,7 @@ fn carry_out<L: RunLedger, R: Wait, G: Gate>(
     came
 }
 
-// Claims the first step, of those from that one on and below the end, that is not found finished and behind steps that are.
+// Claims the first step in the range that is unfinished and has all dependencies finished.
 fn claim_from<L: RunLedger, R: Wait, G: Gate>(
     site: &Site<L, R, G>,
     seat: &mut Seat,
@@ -326,7 +317,7 @@ fn claim_from<L: RunLedger, R: Wait, G: Gate>(
     None
 }
 
-// Claims a step that is next, of all steps, once round from the one after the last that was claimed.
+// Claims a step that is next, searching once round from the last claimed one.
 fn claim_next<L: RunLedger, R: Wait, G: Gate>(
     site: &Site<L, R, G>,
     seat: &mut Seat,
@@ -351,7 +342,7 @@ fn claim_next<L: RunLedger, R: Wait, G: Gate>(
     found
 }
 
-// A walk over the steps. Whether the seat finished one.
+// Walks over the steps once. Returns whether a step was finished.
 fn turn<L: RunLedger, R: Wait, G: Gate>(
     site: &Site<L, R, G>,
     sat: &mut Sat<L>,
@@ -373,7 +364,7 @@ fn turn<L: RunLedger, R: Wait, G: Gate>(
     Ok(finished)
 }
 
-// Turns, until the seat finds every step finished or all are to stop. The refusal that ends them, if one does.
+// Takes turns until every step is finished or all threads must stop.
 fn turns<L: RunLedger, R: Wait, G: Gate>(
     site: &Site<L, R, G>,
     sat: &mut Sat<L>,
@@ -402,7 +393,7 @@ fn turns<L: RunLedger, R: Wait, G: Gate>(
     Ok(())
 }
 
-// Works until nothing is left, and knows of no step at first.
+// Works until nothing is left. At first no step is known to be finished.
 fn work_on<L: RunLedger, R: Wait, G: Gate>(
     site: &Site<L, R, G>,
     sat: &mut Sat<L>,
@@ -421,8 +412,8 @@ fn work_on<L: RunLedger, R: Wait, G: Gate>(
     turns(site, sat, &mut walk)
 }
 
-/// A worker: turns, until its seat finds every step finished. It stops all where it meets a full history or want of memory, where its gate
-/// answers false, and where it took 1,000,000 turns without finishing a step.
+/// Runs a worker until every step is finished. It stops all threads on a full history, lack of memory, a gate that
+/// refuses, or 1,000,000 turns without finishing a step.
 pub(crate) fn work<L: RunLedger, R: Wait, G: Gate>(site: &Site<L, R, G>, sat: Sat<L>) -> Sat<L>
     requires board { sat.seat.board ≡ site.now.board.now.id }
     requires worker { is_some sat.seat.worker ≡ true }

@@ -39,7 +39,7 @@ fn screen(rt: &HostRuntime) -> Screen {
     Screen::Colored
 }
 
-// The words of the command line. They may be no text, and memory may be refused.
+// The words of the command line. They may not be text, and memory may be refused.
 fn words(rt: &HostRuntime) -> Result<Vec<String>, ErrorKind> {
     match env::args(rt) {
         Ok(arguments) => match arguments.collect::<Vec<String>>(rt.alloc()) {

@@ -4,7 +4,7 @@ ghost use Rattle.std.specs.Prelude.{◌≡◌, ◌≢◌};
 
 use plan_runs::Back;
 
-/// Where a text for people goes.
+/// What a text for people is written to.
 #[derive(Clone, Copy, Debug, PartialEq, Eq)]
 pub enum Screen {
     /// To a terminal whose user wants colours.
@@ -18,7 +18,7 @@ pub enum Screen {
 /// Whether a text for people has colours.
 #[derive(Clone, Copy, Debug, PartialEq, Eq)]
 pub enum Color {
-    /// Where the screen has them; nowhere if no screen is known.
+    /// If the screen has them; nowhere if no screen is known.
     Auto,
     /// Wherever it goes.
     Always,
@@ -84,7 +84,7 @@ pub enum Picture {
 pub struct Cut {
     /// How many rounds of copies a window has.
     pub rounds: u32,
-    /// The window that is wanted, from 1 on; all where there is none.
+    /// The wanted window, from 1 on, or None for all windows.
     pub only: Option<u32>,
 }
 
@@ -93,7 +93,7 @@ pub struct Cut {
 pub enum Exit {
     /// That there is one: 0.
     Printed,
-    /// Whether it has steps: 4 where it has some, and else 0.
+    /// Whether it has steps: 4 if it has some, and 0 otherwise.
     Steps,
 }
 
@@ -106,10 +106,10 @@ pub enum Extent {
     Begun,
 }
 
-/// How another plan goes on where one stopped.
+/// How another plan goes on after one that stopped.
 #[derive(Clone, Copy, Debug)]
 pub struct Detour {
-    /// Whether mirrors may be taken back.
+    /// Whether mirrors may be undone.
     pub back: Back,
     pub extent: Extent,
     /// How much is said of slots that do not go where they were to go: sums by node, or a line for each.
@@ -121,7 +121,8 @@ pub struct Detour {
 pub enum Statement {
     /// Why it is refused, or what a yes says.
     Why,
-    /// What the plan does to each node, and how far a history has come; of a ring alone, its nodes. Whatever the shape and the colours, it is all.
+    /// What the plan does to each node, and how far a history has come; of only a ring, its nodes. All of it,
+    /// whatever the shape and the colours.
     Show(Wish),
     /// A plan that leads to the ring that is wished for, and how much it moves.
     Goal(Exit),

@@ -6,7 +6,8 @@ use Rattle.ring_names.specs.declared.refusal.Refusal.{Refusal}
 use Rattle.ring_names.specs.declared.refusal.Refusal.TheVariants.{TooLarge, OutOfMemory, ReadFailed}
 pub use Rattle.bundle_text.specs.Input.{max_input, Tells}
 
--- what reading an input of bs gives: its bytes, or the refusal of too many, or a fault of reading or of memory
+-- what reading an input of bs gives: its bytes, or a refusal: too many bytes, or a failed read, or want of
+-- memory
 abbrev pub Reads : List ℕ → Result (Vec ℕ) Refusal → Type 0
 Reads bs (Ok v) = (v.items ≡ bs) × (length bs ≤ max_input)
 Reads bs (Err (TooLarge line)) = (line ≡ 0) × (max_input < length bs)

@@ -6,11 +6,11 @@ use Rattle.ringplan_jobs.specs.Io.{max_input}
 use Rattle.ringplan_jobs.specs.Verdict.{Makes}
 use Rattle.ringplan_job.specs.declared.job.Job.{Job}
 
--- what comes of an input: what the job makes of it, and of more than the most that may come that it is too large
+-- what comes of an input: what the job makes of it, or `TooLarge` if there are too many bytes
 abbrev pub Outcome : Job → List ℕ → Result (List ℕ) Refusal → Type 0
 Outcome job bytes r = ((length bytes ≤ max_input) × Makes job bytes r) ⊎ ((max_input < length bytes) × (r ≡ Err (TooLarge 0)))
 
--- what was found is what comes of the input, where memory was there and no read failed
+-- what was found is what comes of the input, if memory was there and no read failed
 abbrev pub Finds : Job → List ℕ → Result (List ℕ) Refusal → Type 0
 Finds job bytes (Ok text) = Outcome job bytes (Ok text)
 Finds job bytes (Err e) = e ≢ OutOfMemory → e ≢ ReadFailed → Outcome job bytes (Err e)

@@ -22,7 +22,7 @@ abbrev pub IsJudgedIf : RingValue → List Planned → List Entry → Result (Li
 IsJudgedIf ring plan history (Ok text) = IsJudged ring plan history (Ok text)
 IsJudgedIf ring plan history (Err e) = e ≢ OutOfMemory → IsJudged ring plan history (Err e)
 
--- the checker's refusal of the plan, and where there is none that
+-- the checker's refusal of the plan, if there is one, and otherwise that
 abbrev pub IsReplayBy : Option Refusal → RingValue → List Planned → List Entry → Result (List ℕ) Refusal → Type 0
 IsReplayBy (Some e) ring plan history r = r ≡ Err e
 IsReplayBy None ring plan history r = IsJudged ring plan history r
@@ -31,7 +31,7 @@ IsReplayBy None ring plan history r = IsJudged ring plan history r
 abbrev pub IsReplayOf : Parts → Result (List ℕ) Refusal → Type 0
 IsReplayOf x r = IsReplayBy (first_refusal x.0 x.1.0 x.1.1.0) x.0 x.1.0 x.1.1.1.0 r
 
--- the first fault of what was read, and where there is none that
+-- the first fault of what was read, if there is one, and otherwise that
 abbrev pub IsReplayTo : Result Parts Refusal → Result (List ℕ) Refusal → Type 0
 IsReplayTo (Ok x) r = IsReplayOf x r
 IsReplayTo (Err e) r = r ≡ Err e

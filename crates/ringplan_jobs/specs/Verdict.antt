@@ -28,7 +28,7 @@ abbrev pub judged : Option Refusal → Result (Unit {0}) Refusal
 judged None = Ok tt
 judged (Some e) = Err e
 
--- the first fault of the text, and where there is none the checker's answer
+-- the first fault of the text, if there is one, and otherwise the checker's answer
 unfoldable pub verdict : List ℕ → Result (Unit {0}) Refusal
 verdict bytes = whole_text (bundle_at kind.Check) bytes >>= λ b. judged (first_refusal b.ring b.plan b.cert)
 
@@ -40,7 +40,7 @@ TextsKeepPromises bytes = (b : Bundle) × (whole_text (bundle_at kind.Check) byt
 abbrev pub migrated_text : Bundle → List ℕ
 migrated_text b = ring_text (migrated b.ring) ++ (plan_text b.ring b.plan ++ cert_text (migrated b.ring) b.cert)
 
--- the first fault of the text, and where there is none those texts; nothing is checked
+-- the first fault of the text, if there is one, and otherwise those texts; nothing is checked
 unfoldable pub migration : List ℕ → Result (List ℕ) Refusal
 migration bytes = map_ok migrated_text (whole_text (bundle_at kind.Check) bytes)
 
@@ -48,16 +48,17 @@ migration bytes = map_ok migrated_text (whole_text (bundle_at kind.Check) bytes)
 abbrev pub shown : Bundle → Result (List ℕ) Refusal
 shown b = map_ok (λ _. play_text b.ring b.plan b.script) (judged (first_refusal b.ring b.plan b.cert))
 
--- the first fault of the text, and where there is none that
+-- the first fault of the text, if there is one, and otherwise that
 unfoldable pub plays : List ℕ → Result (List ℕ) Refusal
 plays bytes = whole_text (bundle_at kind.Play) bytes >>= shown
 
--- the text of a plan that makes the change, and of its certificate; or why there is none, and where nobody leaves that is want of memory
+-- the text of a plan that makes the change, and of its certificate. Or why there is none, and if no node leaves
+-- that is want of memory
 abbrev pub IsAnswer : Wanted → Result (List ℕ) Refusal → Type 0
 IsAnswer w (Ok text) = (plan : List Planned) × (cert : Cert) × IsProposed w.ring w.change plan cert × (text ≡ plan_text w.ring plan ++ cert_text w.ring cert)
 IsAnswer w (Err e) = IsTurnedAway w.ring w.change e × (w.change.leaves ≡ [] → e ≡ OutOfMemory)
 
--- the first fault of what was read, and where there is none an answer to the change
+-- the first fault of what was read, if there is one, and otherwise an answer to the change
 abbrev pub IsAnswerTo : Result Wanted Refusal → Result (List ℕ) Refusal → Type 0
 IsAnswerTo (Ok w) r = IsAnswer w r
 IsAnswerTo (Err e) r = r ≡ Err e
@@ -66,8 +67,8 @@ IsAnswerTo (Err e) r = r ≡ Err e
 abbrev pub Plans : List ℕ → Result (List ℕ) Refusal → Type 0
 Plans bytes r = IsAnswerTo (whole_text wanted_at bytes) r
 
--- what a job makes of a bundle: `yes` and the byte 0A, and then the plan keeps its promises; the migrated texts, what a play prints, a plan for a change,
--- or what a replay prints
+-- what a job makes of a bundle: `yes` and the byte 0A, and then the plan keeps its promises. Or the migrated
+-- texts, what a play prints, a plan for a change, or what a replay prints
 abbrev pub Makes : Job → List ℕ → Result (List ℕ) Refusal → Type 0
 Makes Check bytes r = (map_ok (λ _. codes "yes" ++ 10 ∷ []) (verdict bytes) ≡ r) × OnOk r (TextsKeepPromises bytes)
 Makes Migrate bytes r = migration bytes ≡ r

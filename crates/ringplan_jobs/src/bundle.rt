@@ -1,4 +1,4 @@
-//! What a job makes of a bundle.
+//! Jobs with a bundle.
 
 ghost use Rattle.std.specs.Prelude.{◌≡◌, ◌++◌, ◌∷◌, [], IfOk, IfErr, OnOk, codes};
 ghost use Rattle.ring_names.specs.declared.refusal.Refusal.TheVariants.{OutOfMemory};
@@ -34,7 +34,6 @@ use std::alloc::Global;
 use std::sync::Wait;
 use std::thread::Threads;
 
-// The checker's answer to a plan of the ring with its certificate.
 fn check_plan(alloc: Global, ring: Ring, plan: Plan, cert: &Cert) -> Result<(), Refusal>
     requires { Suits ring plan }
     ensures answer { Gives result (judged (first_refusal ring plan cert.now)) }
@@ -46,14 +45,15 @@ fn check_plan(alloc: Global, ring: Ring, plan: Plan, cert: &Cert) -> Result<(), 
     }
 }
 
-/// The verdict on a bundle: `Ok` where it is a ring with a plan that the checker accepts by its certificate, which then keeps its promises. Else the first
-/// fault of the texts, and where there is none the checker's first refusal. `OutOfMemory` comes only where memory ran out, behind
-/// the first four lines of the ring.
+/// Checks a bundle: `Ok` exactly if the checker accepts the plan with its certificate, so that the plan keeps
+/// its promises.
+///
+/// Fails with the first fault of the texts, then as the checker does. `OutOfMemory` comes only after the ring's
+/// first four lines.
 pub fn check_bundle(alloc: Global, bytes: &[u8]) -> Result<(), Refusal>
     ensures read { Gives result (verdict bytes.now) }
     // The headline.
     ensures keeps { OnOk result (TextsKeepPromises bytes.now) }
-    // Memory may run out only if the first four lines have no fault.
     ensures late { IfErr result (λ e. e ≡ OutOfMemory → NoFaultBefore 5 (whole_text (bundle_at Check) bytes.now)) }
 {
     match read_bundle(alloc, Kind::Check, bytes) {
@@ -62,7 +62,6 @@ pub fn check_bundle(alloc: Global, bytes: &[u8]) -> Result<(), Refusal>
     }
 }
 
-// Whether the bundle's plan is accepted, asked by workers.
 fn check_plan_by<RT: Threads + Wait + Sync>(
     rt: &RT,
     alloc: Global,
@@ -80,7 +79,7 @@ fn check_plan_by<RT: Threads + Wait + Sync>(
     }
 }
 
-/// The verdict of `check_bundle`, the headline with it, by that many workers, each with a share of the partitions; none is as one. May wait for them.
+/// Checks a bundle as `check_bundle` does, with workers that share the partitions; 0 means 1. Waits for them.
 pub fn check_bundle_by<RT: Threads + Wait + Sync>(
     rt: &RT,
     alloc: Global,
@@ -90,7 +89,6 @@ pub fn check_bundle_by<RT: Threads + Wait + Sync>(
     ensures read { Gives result (verdict bytes.now) }
     // The headline.
     ensures keeps { OnOk result (TextsKeepPromises bytes.now) }
-    // Memory may run out only if the first four lines have no fault.
     ensures late { IfErr result (λ e. e ≡ OutOfMemory → NoFaultBefore 5 (whole_text (bundle_at Check) bytes.now)) }
 {
     match read_bundle(alloc, Kind::Check, bytes) {
@@ -99,7 +97,7 @@ pub fn check_bundle_by<RT: Threads + Wait + Sync>(
     }
 }
 
-// The text of the ring, the plan's text as it is given, and the certificate's text.
+// The texts of the ring, the plan as given, and the certificate.
 fn write_parts(alloc: Global, ring: &Ring, plan: &[u8], cert: &Cert) -> Result<Vec<u8>, Refusal>
     requires { IsCertOf ring.now cert.now }
     ensures text { IfOk result (λ v. v.items ≡ ring_text ring.now ++ (plan.now ++ cert_text ring.now cert.now)) }
@@ -129,12 +127,12 @@ fn write_migrated(alloc: Global, bundle: Bundle) -> Result<Vec<u8>, Refusal>
     write_parts(alloc, &ring, steps.as_slice(), &cert)
 }
 
-/// The texts of a bundle with a ring of format 1 in format 2, and the certificate in the format that goes with it. A ring of
-/// another format stays, and with it the texts. Nothing is checked: the only refusals are the first fault of the texts, and
-/// `OutOfMemory`, which comes only where memory ran out, behind the first four lines of the ring.
+/// Rewrites a bundle with a ring of format 1 in format 2, and its certificate to match. Other rings stay.
+/// Nothing is checked.
+///
+/// Fails only with the first fault of the texts, or with `OutOfMemory` after the ring's first four lines.
 pub fn migrate_bundle(alloc: Global, bytes: &[u8]) -> Result<Vec<u8>, Refusal>
     ensures read { Gives (texts_of result) (migration bytes.now) }
-    // Memory may run out only if the first four lines have no fault.
     ensures late { IfErr result (λ e. e ≡ OutOfMemory → NoFaultBefore 5 (whole_text (bundle_at Check) bytes.now)) }
 {
     match read_bundle(alloc, Kind::Check, bytes) {
@@ -143,7 +141,7 @@ pub fn migrate_bundle(alloc: Global, bytes: &[u8]) -> Result<Vec<u8>, Refusal>
     }
 }
 
-// What a play of the bundle's script prints, where the checker accepts its plan; then the program ends, or goes on.
+// The text of a play, if the checker accepts the plan. `ends` means that the program ends then.
 fn play_checked(alloc: Global, bundle: Bundle, ends: bool) -> Result<Vec<u8>, Refusal>
     requires { IsOfRing bundle }
     ensures { Gives (texts_of result) (shown bundle) }
@@ -154,12 +152,13 @@ fn play_checked(alloc: Global, bundle: Bundle, ends: bool) -> Result<Vec<u8>, Re
     }
 }
 
-/// What a play of a bundle with a script prints, where it is a ring with a plan that the checker accepts by its certificate: `yes`, a line for
-/// each event, the owners behind the last, and `end`. Else the first fault of the texts, and where there is none the checker's first refusal.
-/// `OutOfMemory` comes only where memory ran out, at whatever event, behind the first four lines of the ring.
+/// Plays a bundle's script, if the checker accepts the plan: `yes`, a line for each event, the final owners,
+/// and `end`.
+///
+/// Fails with the first fault of the texts, then as the checker does. `OutOfMemory` comes only after the ring's
+/// first four lines, at any event.
 pub fn play_bundle(alloc: Global, bytes: &[u8]) -> Result<Vec<u8>, Refusal>
     ensures read { Gives (texts_of result) (plays bytes.now) }
-    // Memory may run out only if the first four lines have no fault.
     ensures late { IfErr result (λ e. e ≡ OutOfMemory → NoFaultBefore 5 (whole_text (bundle_at Play) bytes.now)) }
 {
     match read_bundle(alloc, Kind::Play, bytes) {
@@ -168,7 +167,6 @@ pub fn play_bundle(alloc: Global, bytes: &[u8]) -> Result<Vec<u8>, Refusal>
     }
 }
 
-// The parts of a bundle of a play, whose bytes are given up once they are read.
 fn read_given(alloc: Global, bytes: Vec<u8>) -> Result<Bundle, Refusal>
     ensures read { Gives result (whole_text (bundle_at Play) bytes.items) }
     ensures parts { IfOk result IsOfRing }
@@ -176,7 +174,8 @@ fn read_given(alloc: Global, bytes: Vec<u8>) -> Result<Bundle, Refusal>
     read_bundle(alloc, Kind::Play, bytes.as_slice())
 }
 
-// What a play prints of a bundle whose bytes are given up, so that the store takes their memory, which is left to the system in the end.
+// Plays a bundle whose bytes are dropped after reading, so that the store reuses their memory. The store's
+// memory is left to the system in the end.
 fn play_given(alloc: Global, bytes: Vec<u8>) -> Result<Vec<u8>, Refusal>
     ensures { Gives (texts_of result) (plays bytes.items) }
 {
@@ -186,7 +185,6 @@ fn play_given(alloc: Global, bytes: Vec<u8>) -> Result<Vec<u8>, Refusal>
     }
 }
 
-// Writes the texts of a plan that makes the change, and of its certificate.
 fn plan_wanted(alloc: Global, wanted: Wanted) -> Result<Vec<u8>, Refusal>
     requires { IsChange wanted.ring wanted.change }
     ensures { IsAnswer wanted (texts_of result) }
@@ -197,12 +195,13 @@ fn plan_wanted(alloc: Global, wanted: Wanted) -> Result<Vec<u8>, Refusal>
     }
 }
 
-/// The texts of a plan that makes the change of a bundle of a ring and a change, and of the plan's certificate, where the checker accepts the plan.
-/// Else the first fault of the texts, and where there is none `NoPlan` or the checker's refusal; where nobody leaves there is always a plan.
-/// `OutOfMemory` comes only where memory ran out, behind the first four lines of the ring.
+/// Reads a ring and a change. Returns a plan for the change and its certificate, if the checker accepts them.
+/// Without leaving nodes there is always a plan.
+///
+/// Fails with the first fault of the texts, then with `NoPlan` or the checker's refusal. `OutOfMemory` comes
+/// only after the ring's first four lines.
 pub fn plan_bundle(alloc: Global, bytes: &[u8]) -> Result<Vec<u8>, Refusal>
     ensures plans { MakesIf Planning bytes.now (texts_of result) }
-    // Memory may run out only if the first four lines have no fault.
     ensures late { IfErr result (λ e. e ≡ OutOfMemory → NoFaultBefore 5 (whole_text wanted_at bytes.now)) }
 {
     match read_wanted(alloc, bytes) {
@@ -211,7 +210,6 @@ pub fn plan_bundle(alloc: Global, bytes: &[u8]) -> Result<Vec<u8>, Refusal>
     }
 }
 
-// What is printed where a plan is accepted.
 fn yes(alloc: Global) -> Result<Vec<u8>, Refusal>
     ensures text { IfOk result (λ v. v.items ≡ codes "yes" ++ 10 ∷ []) }
     ensures memory { IfErr result (λ e. e ≡ OutOfMemory) }
@@ -220,7 +218,7 @@ fn yes(alloc: Global) -> Result<Vec<u8>, Refusal>
     Ok(text)
 }
 
-/// The text that a job makes of a bundle, or the refusal. Where a check makes one, the plan keeps its promises.
+/// Does a job with a bundle, and returns its text. If a check succeeds, the plan keeps its promises.
 pub fn make(alloc: Global, job: Job, bytes: &[u8]) -> Result<Vec<u8>, Refusal>
     ensures { MakesIf job bytes.now (texts_of result) }
 {
@@ -236,8 +234,9 @@ pub fn make(alloc: Global, job: Job, bytes: &[u8]) -> Result<Vec<u8>, Refusal>
     }
 }
 
-/// The text that a job makes of a bundle whose bytes it may consume, or the refusal. It is for a program that ends after it: the store of a play
-/// or a replay is left to the system.
+/// Does a job with a bundle, and may drop the bytes early.
+///
+/// For a program that ends then: the store of a play or a replay is left to the system.
 pub fn answer_bytes(alloc: Global, job: Job, bytes: Vec<u8>) -> Result<Vec<u8>, Refusal>
     ensures { MakesIf job bytes.items (texts_of result) }
 {
@@ -248,7 +247,7 @@ pub fn answer_bytes(alloc: Global, job: Job, bytes: Vec<u8>) -> Result<Vec<u8>, 
     }
 }
 
-/// The text that a check by workers makes of a bundle, or the refusal. Where it makes one, the plan keeps its promises.
+/// Does a check with workers, and returns its text. If it succeeds, the plan keeps its promises.
 pub fn answer_check<RT: Threads + Wait + Sync>(
     rt: &RT,
     alloc: Global,

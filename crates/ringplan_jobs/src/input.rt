@@ -1,4 +1,4 @@
-//! The whole input, up to a limit.
+//! Reads a whole input, up to a limit.
 
 ghost use Rattle.std.specs.Prelude.{ℕ, List};
 ghost use Rattle.ringplan_jobs.specs.Io.{Reads, Tells};
@@ -8,11 +8,11 @@ use ring_names::Refusal;
 use std::alloc::Global;
 use std::io::{ErrorKind, Read};
 
-// How many bytes one read asks for.
+// The bytes of one read.
 const CHUNK: usize = 65_536;
 
-/// Reads until the input ends. Refused are an input of more than `MAX_INPUT` bytes (`TooLarge(0)`),
-/// a read that fails (`ReadFailed`), and a growth of memory (`OutOfMemory`). A read that a signal interrupted is tried again.
+/// Reads until the input ends. Fails with `TooLarge(0)` for more than `MAX_INPUT` bytes, with `ReadFailed`, and with
+/// `OutOfMemory`. Interrupted reads are repeated.
 pub fn read_all<R: Read + Drop>(alloc: Global, input: &mut R) -> Result<Vec<u8>, Refusal>
     ensures { (bytes : List ℕ) × Tells (R.remaining input.old) bytes × Reads bytes result }
 {

@@ -1,4 +1,4 @@
-//! The jobs of the program over bytes: what comes of a bundle, with its exit status. No job here starts a thread but a check by workers.
+//! The program's jobs over bytes, with their exit statuses. Only a check with workers starts threads.
 #![tactic(auto)]
 
 mod answer;

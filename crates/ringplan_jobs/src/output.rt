@@ -1,4 +1,4 @@
-//! The whole output.
+//! Writes a whole output.
 
 ghost use Rattle.std.specs.Prelude.{◌≡◌, IfErr, OnOk, OnErr};
 ghost use Rattle.std.specs.Io.KnownBytes.{Appends, Keeps};
@@ -7,7 +7,6 @@ ghost use Rattle.ringplan_jobs.specs.Io.{AppendsPart};
 use ring_names::Refusal;
 use std::io::{ErrorKind, Write};
 
-// Flushes what was written.
 fn flush<W: Write>(output: &mut W) -> Result<(), Refusal>
     ensures bytes { Keeps (W.contents output.old) (W.contents output.new) }
     ensures fault { IfErr result (λ e. e ≡ Refusal.WriteFailed) }
@@ -25,8 +24,8 @@ fn flush<W: Write>(output: &mut W) -> Result<(), Refusal>
     Err(Refusal::WriteFailed)
 }
 
-/// Writes all the bytes, and then flushes. A write that fails or takes no byte, and a flush that
-/// fails, is `WriteFailed`; then some first part of the bytes was written. What a signal interrupted is tried again.
+/// Writes all the bytes, and flushes. Fails with `WriteFailed` if a write fails or takes no byte, or a flush fails;
+/// then a prefix was written. Interrupted calls are repeated.
 pub fn write_all<W: Write>(output: &mut W, bytes: &[u8]) -> Result<(), Refusal>
     ensures whole { OnOk result (Appends (W.contents output.old) (W.contents output.new) bytes.now) }
     ensures part { OnErr result (AppendsPart (W.contents output.old) (W.contents output.new) bytes.now) }

@@ -1,4 +1,4 @@
-//! What a replay makes of a bundle.
+//! Replays of a bundle.
 
 ghost use Rattle.std.specs.Prelude.{◌≡◌, ◌≤◌, length, IfErr};
 ghost use Rattle.ring_names.specs.declared.refusal.Refusal.TheVariants.{OutOfMemory};
@@ -17,7 +17,7 @@ use ring_names::Refusal;
 use ring_script::replay_history;
 use std::alloc::Global;
 
-// What a replay of the history prints, of a plan that is accepted; then the program ends, or goes on.
+// The text of a replay of an accepted plan. `ends` means that the program ends then.
 fn replay_approved(
     alloc: Global,
     approved: &Approved,
@@ -33,7 +33,7 @@ fn replay_approved(
     }
 }
 
-// What a replay of the bundle's history prints, where the checker accepts its plan; then the program ends, or goes on.
+// The text of a replay, if the checker accepts the plan. `ends` means that the program ends then.
 fn replay_checked(alloc: Global, bundle: ReplayBundle, ends: bool) -> Result<Vec<u8>, Refusal>
     requires { IsReplay bundle }
     ensures { ReplaysOfIf (parts_of bundle) (texts_of result) }
@@ -44,13 +44,15 @@ fn replay_checked(alloc: Global, bundle: ReplayBundle, ends: bool) -> Result<Vec
     }
 }
 
-/// What a replay of a bundle with a history prints, where it is a ring with a plan that the checker accepts by its certificate, and the history is a
-/// run of it: `yes`, the owners behind the last entry, and `end`. Else the first fault of the texts, where there is none the checker's first
-/// refusal, and else `Mismatch` of the first entry that cannot have happened so. `OutOfMemory` comes only where memory ran out, at whatever
-/// entry, behind the first four lines of the ring.
+/// Replays a bundle's history, if the checker accepts the plan and the history is a run of it: `yes`, the final
+/// owners, and `end`.
+///
+/// Fails with the first fault of the texts, then as the checker does, then with `Mismatch` of the first
+/// impossible entry.
+///
+/// `OutOfMemory` comes only after the ring's first four lines, at any entry.
 pub fn replay_bundle(alloc: Global, bytes: &[u8]) -> Result<Vec<u8>, Refusal>
     ensures replays { MakesIf Replaying bytes.now (texts_of result) }
-    // Memory may run out only if the first four lines have no fault.
     ensures late { IfErr result (λ e. e ≡ OutOfMemory → NoFaultBefore 5 (whole_text replay_at bytes.now)) }
 {
     match read_replay(alloc, bytes) {
@@ -59,7 +61,7 @@ pub fn replay_bundle(alloc: Global, bytes: &[u8]) -> Result<Vec<u8>, Refusal>
     }
 }
 
-/// What a replay prints of bytes that are given up once they are read, so that the store takes their memory.
+/// Replays bytes that are dropped after reading, so that the store reuses their memory.
 pub(crate) fn replay_whole(alloc: Global, bytes: Vec<u8>) -> Result<Vec<u8>, Refusal>
     ensures { MakesIf Replaying bytes.items (texts_of result) }
 {

@@ -1,4 +1,4 @@
-//! An answer as a line of JSON.
+//! Answers as a line of JSON.
 
 ghost use Rattle.std.specs.Prelude.{◌≡◌, ◌++◌, ◌∷◌, [], false, IfOk, OnOk, codes, map};
 ghost use Rattle.serde_json.specs.Data.{member, no_members, object, string, put as with_member};
@@ -13,7 +13,6 @@ use ring_names::Refusal;
 use serde_json::{Map, Value, put};
 use std::alloc::{AllocError, Global};
 
-// The name of a refusal.
 fn name_of(refusal: &Refusal) -> &'static str
     ensures { result.now ≡ name_of refusal.now }
 {
@@ -60,7 +59,6 @@ fn name_of(refusal: &Refusal) -> &'static str
     }
 }
 
-// The values of a refusal's line, in order.
 fn values_of(alloc: Global, refusal: &Refusal) -> Result<Vec<Value>, AllocError>
     ensures { IfOk result (λ v. map view v.items ≡ map number_data (values_of refusal.now)) }
 {
@@ -75,7 +73,6 @@ fn values_of(alloc: Global, refusal: &Refusal) -> Result<Vec<Value>, AllocError>
     Ok(out)
 }
 
-// Puts a text among the members, under that name.
 fn put_text(
     members: &mut Map<String, Value>,
     alloc: Global,
@@ -88,7 +85,6 @@ fn put_text(
     put(members, alloc, name, Value::String(text))
 }
 
-// The object of an answer that is yes.
 fn yes_object(alloc: Global) -> Result<Value, AllocError>
     ensures { IfOk result (λ v. view v ≡ object (member (codes "answer") (string (codes "yes")) no_members)) }
 {
@@ -97,7 +93,7 @@ fn yes_object(alloc: Global) -> Result<Value, AllocError>
     Ok(Value::Object(map))
 }
 
-/// The members of the object of a refusal: `answer`, which is `no`, and the refusal's name, number and values.
+/// Returns the members of a refusal's object: `answer`, which is `no`, and its name, number and values.
 pub fn refusal_members(alloc: Global, refusal: &Refusal) -> Result<Map<String, Value>, AllocError>
     ensures { IfOk result (λ map. members_view map.entries ≡ refusal_members refusal.now) }
 {
@@ -110,14 +106,12 @@ pub fn refusal_members(alloc: Global, refusal: &Refusal) -> Result<Map<String, V
     Ok(map)
 }
 
-// The object of a refusal.
 fn no_object(alloc: Global, refusal: &Refusal) -> Result<Value, AllocError>
     ensures { IfOk result (λ v. view v ≡ no_object refusal.now) }
 {
     Ok(Value::Object(refusal_members(alloc, refusal)?))
 }
 
-// The object of an answer.
 fn answer_value(alloc: Global, found: &Result<Vec<u8>, Refusal>) -> Result<Value, AllocError>
     ensures { IfOk result (λ v. view v ≡ answer_value (texts_of found.now)) }
 {
@@ -127,7 +121,6 @@ fn answer_value(alloc: Global, found: &Result<Vec<u8>, Refusal>) -> Result<Value
     }
 }
 
-// The exit status at what was found.
 fn found_status(found: &Result<Vec<u8>, Refusal>) -> u8
     ensures { result ≡ status_of (texts_of found.now) }
 {
@@ -137,7 +130,7 @@ fn found_status(found: &Result<Vec<u8>, Refusal>) -> u8
     }
 }
 
-// The compact text of a value, and the byte 0A.
+// The compact text of a value, and a newline.
 fn line_of(alloc: Global, value: &Value) -> Result<Vec<u8>, AllocError>
     requires { has_float (view value.now) ≡ false }
     ensures { IfOk result (λ v. v.items ≡ compact_text (view value.now) ++ 10 ∷ []) }
@@ -147,7 +140,7 @@ fn line_of(alloc: Global, value: &Value) -> Result<Vec<u8>, AllocError>
     Ok(line)
 }
 
-/// The answer to what a job found, as a line of JSON, with the exit status of the answer as text.
+/// Returns the answer to a job's result as a line of JSON, with the exit status of the answer as text.
 pub fn stated_of(alloc: Global, found: &Result<Vec<u8>, Refusal>) -> Result<Answer, AllocError>
     ensures output { IfOk result (λ answer. answer.output.items ≡ json_of (texts_of found.now)) }
     ensures status { IfOk result (λ answer. answer.status ≡ status_of (texts_of found.now)) }

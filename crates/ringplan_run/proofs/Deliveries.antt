@@ -48,7 +48,7 @@ saved asked target bytes shown old status result some written (text, wanted, say
     (text, wanted, says, filed some refl (subst (λ (s : ℕ). IsWritten s) is written) (subst (λ (s : ℕ). (result ≡ s) ⊎ (result ≡ 3)) is h))
 saved asked target bytes shown old status result some written (text, wanted, says, inr (part, three)) h = absurd (not_written status written three)
 
--- where no file is written, all is printed
+-- if no file is written, all is printed
 only_printed : (target : Option (List ℕ)) (old new : Option (List ℕ)) (text : List ℕ) (status result : ℕ) → Delivers None old new text status result → Delivers target old new text status result
 only_printed target old new text status result (printed p) = printed p
 only_printed target old new text status result (filed some e zero r) = absurd cc
@@ -105,7 +105,7 @@ ran_unopened asked files found told old result some (inl e) h =
     subst (λ (f : Names). RanBy asked f told old old result) e ([], tells_nothing found.inputs told [] some, inr (some, refl, h))
 ran_unopened asked files found told old result some (inr e) h = absurd (some (ap (λ (f : Names). f.inputs) e))
 
--- the word of a job alone asks for just that, and names no file
+-- a line of only a job's word asks for just that job, and names no file
 pub ran_alone : (job : Job) (words : List (List ℕ)) (told old new : Option (List ℕ)) (result : ℕ) → drop 1 words ≡ word_of job ∷ [] → RanBy (asked words) (files_of words) told old new result
     → RanBy (only job) no_files told old new result
 ran_alone job words told old new result e h =

@@ -62,7 +62,7 @@ ran asked told old new text shown status result (bytes, tells, says) e h =
     let P : List ℕ → Type 0 = λ l. Prints old new l status result in
     (bytes, tells, (text, status, says, subst P e h))
 
--- and so where memory was refused
+-- and so if memory was refused
 pub ran_out : (asked : Asked) (told old new : Option (List ℕ)) (result : ℕ) → Prints old new (line_of OutOfMemory) 3 result → Ran asked told old new result
 ran_out asked told old new result h =
     ran asked told old new _ _ 3 result (said asked told _ 3 (λ bytes. out_of_memory refl refl)) refl h
@@ -156,13 +156,13 @@ pub no_place : (entry : Option ℕ) (part : Part) → is_some entry ≡ true →
 no_place None part some none = (let bad : false ≡ true = some in absurd cc)
 no_place (Some n) part some none = rw none (refl, refl)
 
--- what is printed of a part that was cut is that of a part of the bytes
+-- if a part was cut, what is printed is that of a part of the bytes
 pub parts_shown : (wish : PartWish) (wanted : ℕ) (bytes : List ℕ) (part : Part) (old new : Option (List ℕ)) (result : ℕ) → IsWanted wish.entry wanted → IsCut wish.choice wanted bytes (Ok part)
     → ShowsCut wish.entry part old new result → ShowsPart wish bytes old new result
 parts_shown wish wanted bytes part old new result w is (text, status, inl shown, prints) = (text, status, cut wanted (Ok part) w is shown, prints)
 parts_shown wish wanted bytes part old new result w is (text, status, inr (none, three), prints) = (text, status, failed none three, prints)
 
--- nothing is printed where there is no part
+-- nothing is printed if there is no part
 pub none_shown : (wish : PartWish) (wanted : ℕ) (bytes : List ℕ) (e : NoPart) (old : Option (List ℕ)) (status : ℕ) → IsWanted wish.entry wanted → IsCut wish.choice wanted bytes (Err e) → status ≡ refused_status (number_of (refusal_of e))
     → ShowsPart wish bytes old old status
 none_shown wish wanted bytes e old status w is s = ([], status, cut wanted (Err e) w is (refl, s), prints_nothing old status)

@@ -8,7 +8,7 @@ use Rattle.ringplan_command.proofs.Commands.{asked_alone}
 use Rattle.ringplan_run.specs.Watch.{RunsLine}
 use Rattle.ringplan_run.proofs.Deliveries.{RanBy, ran_alone}
 
--- the word of a job alone asks for no watch
+-- a line of only a job's word asks for no watch
 pub ran_job : (job : Job) (words : List (List ℕ)) (input left old new : Option (List ℕ)) (result : ℕ) → drop 1 words ≡ word_of job ∷ [] → RunsLine (asked words) (files_of words) input left old new result
     → RanBy (only job) no_files input old new result
 ran_job job words input left old new result e (inl ran) = ran_alone job words input old new result e ran

@@ -30,14 +30,14 @@ IsOutcome ring plan names scripts workers form (Ok text) =
     × Driven ring plan scripts workers history lists finishers × (text ≡ outcome_text ring names history finishers workers form)
 IsOutcome ring plan names scripts workers form (Err e) = IsFault e
 
--- the checker's refusal of the plan, and where there is none that
+-- the checker's refusal of the plan, if there is one, and otherwise that
 abbrev pub IsDriveOf : ℕ → Form → DriveBundle → Result (List ℕ) Refusal → Type 0
 IsDriveOf workers form b r = elim (first_refusal b.ring b.plan b.cert) [
   | Some e ↦ r ≡ Err e
   | None ↦ IsOutcome b.ring b.plan b.writers b.scripts workers form r
 ]
 
--- the first fault of what was read, and where there is none that
+-- the first fault of what was read, if there is one, and otherwise that
 abbrev pub IsDriveTo : ℕ → Form → Result DriveBundle Refusal → Result (List ℕ) Refusal → Type 0
 IsDriveTo workers form (Ok b) r = IsDriveOf workers form b r
 IsDriveTo workers form (Err e) r = r ≡ Err e

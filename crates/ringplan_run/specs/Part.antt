@@ -14,7 +14,7 @@ abbrev pub IsPlaceShown : Option ℕ → List ℕ → ℕ → Type 0
 IsPlaceShown None text status = (text ≡ []) × (status ≡ 2)
 IsPlaceShown (Some k) text status = (text ≡ decimal k ++ 10 ∷ []) × (status ≡ 0)
 
--- the bundle of a part, or where one of its entries is asked for, the place of that
+-- the bundle of a part, or if one of its entries is asked for, the place of that
 abbrev pub IsCutShown : Option ℕ → Part → List ℕ → ℕ → Type 0
 IsCutShown None part text status = (text ≡ part.text.items) × (status ≡ 0)
 IsCutShown (Some n) part text status = IsPlaceShown part.place text status
@@ -29,7 +29,7 @@ abbrev pub IsWanted : Option ℕ → ℕ → Type 0
 IsWanted None wanted = Unit {0}
 IsWanted (Some n) wanted = n ≡ wanted
 
--- what is printed of a part of the bytes, and the status; or nothing, where memory or a read failed
+-- what is printed of a part of the bytes, and the status; or nothing, if memory or a read failed
 pub data Parts (wish : PartWish) (bytes : List ℕ) (text : List ℕ) (status : ℕ) : Type 0 where
   cut : (wanted : ℕ) (r : Result Part NoPart) → IsWanted wish.entry wanted → IsCut wish.choice wanted bytes r → IsPartShown wish.entry r text status → Parts wish bytes text status
   failed : text ≡ [] → status ≡ 3 → Parts wish bytes text status

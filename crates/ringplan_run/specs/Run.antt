@@ -21,11 +21,12 @@ use Rattle.layout_text.specs.Reading.{layout_reading}
 use Rattle.change_text.specs.declared.options.Options.{Options}
 use Rattle.ringplan_people.specs.Made.{IsReport}
 
--- what comes of an input to a drive by so many workers, printed in that form: what the drive makes of it, and of more than the most that may come that it is too large
+-- what comes of an input to a drive by so many workers, printed in that form. It is what the drive makes of the
+-- input, or that the input is too large, if it has too many bytes
 abbrev pub DriveOutcome : ℕ → Form → List ℕ → Result (List ℕ) Refusal → Type 0
 DriveOutcome workers form bytes r = ((length bytes ≤ max_input) × Drives workers form bytes r) ⊎ ((max_input < length bytes) × (r ≡ Err (TooLarge 0)))
 
--- what was found is what comes of the input, where memory was there and no read failed
+-- what was found is what comes of the input, if memory was there and no read failed
 abbrev pub FindsDrive : ℕ → Form → List ℕ → Result (List ℕ) Refusal → Type 0
 FindsDrive workers form bytes (Ok text) = DriveOutcome workers form bytes (Ok text)
 FindsDrive workers form bytes (Err e) = e ≢ OutOfMemory → e ≢ ReadFailed → DriveOutcome workers form bytes (Err e)
@@ -42,8 +43,9 @@ IsRead layout = (text : List ℕ) × (layout_reading text ≡ Ok layout)
 abbrev pub HasLayout : Options → Type 0
 HasLayout options = MatchOption options.layout_file (options.layout.entries ≡ []) (λ name. IsRead options.layout)
 
--- what is printed for people, and the status: a report of the bytes, by the options with the layout that was read; or nothing if the layout that is named is refused, if there
--- are too many bytes, or if memory or a read failed
+-- what is printed for people, and the status. It is a report of the bytes, by the options with the layout that
+-- was read. It is nothing if the named layout is refused, if there are too many bytes, or if memory or a read
+-- failed
 pub data Reports (making : Making) (options : Options) (bytes : List ℕ) (text : List ℕ) (status : ℕ) : Type 0 where
   read : (made : Options) → unlaid made ≡ unlaid options → HasLayout made → IsReport making made bytes text status → Reports making options bytes text status
   no_layout : text ≡ [] → status ≡ 2 → Reports making options bytes text status
@@ -77,7 +79,8 @@ ShowsReport making options bytes old new result = (text : List ℕ) × (status :
 abbrev pub IsWritten : ℕ → Type 0
 IsWritten status = (status ≡ 0) ⊎ (status ≡ 4)
 
--- a text is printed; or where a file is named for it and the status is 0 or 4, that is written, and nothing printed
+-- a text is printed. Or if a file is named for it and the status is 0 or 4, that is written, and nothing
+-- printed
 pub data Delivers (target : Option (List ℕ)) (old new : Option (List ℕ)) (text : List ℕ) (status result : ℕ) : Type 0 where
   printed : Prints old new text status result → Delivers target old new text status result
   filed : IsSome target → new ≡ old → IsWritten status → (result ≡ status) ⊎ (result ≡ 3) → Delivers target old new text status result
@@ -90,7 +93,8 @@ RunsTo asked target bytes old new result = (text : List ℕ) × (status : ℕ) �
 abbrev pub IsUnopened : List (List ℕ) → Option (List ℕ) → Option (List ℕ) → ℕ → Type 0
 IsUnopened sources old new result = (sources ≢ []) × (new ≡ old) × ((result ≡ 2) ⊎ (result ≡ 3))
 
--- a run says something and prints it, or writes it to the file that its line names; or it could not read one of the files
+-- a run says something and prints it, or writes it to the file that the line names. Or one of the files could
+-- not be read
 abbrev pub Runs : Asked → Names → List ℕ → Option (List ℕ) → Option (List ℕ) → ℕ → Type 0
 Runs asked files bytes old new result = RunsTo asked files.output bytes old new result ⊎ IsUnopened files.inputs old new result
 

@@ -1,4 +1,4 @@
-//! What is said at a terminal after a refusal in one line.
+//! What a terminal shows after a one-line refusal.
 
 ghost use Rattle.std.specs.Prelude.{map};
 ghost use Rattle.ringplan_command.specs.Command.{asked};
@@ -15,14 +15,13 @@ use std::rt::Files;
 use std::sync::Wait;
 use std::thread::Threads;
 
-// What is said of a refusal.
 const WHY: &[u8; 39] = b"ringplan: `ringplan why FILE` says why\n";
 
-// What is said of a refusal of a replay.
+// The advice after a refused replay.
 const WHY_REPLAY: &[u8; 70] =
     b"ringplan: `ringplan why FILE` says why; `replay` also wants a history\n";
 
-// What is said of a refusal of what is asked for, if it is one line of which `why` has words.
+// The advice after a one-line refusal that `why` can explain.
 fn advice_of(request: &Request) -> Option<&'static [u8]> {
     match request {
         Request::Do(Job::Check | Job::Plan | Job::Migrate) | Request::CheckBy(_) => Some(WHY),
@@ -31,7 +30,7 @@ fn advice_of(request: &Request) -> Option<&'static [u8]> {
     }
 }
 
-/// Runs a command line as `run` does, and then says at a terminal which command has words for a refusal in one line.
+/// Runs a command line as `run` does. After a one-line refusal, a terminal also shows which command explains it.
 pub fn run_advised<
     RT: AllocGlobal + Files + Eprint + Threads + Wait + Sync,
     S: AsStr,

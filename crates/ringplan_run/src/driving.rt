@@ -1,4 +1,4 @@
-//! What a drive makes of a bundle.
+//! Drives a bundle.
 
 ghost use Rattle.std.specs.Prelude.{◌≡◌, ◌<◌, ◌≤◌, IfOk, IfErr};
 ghost use Rattle.ring_names.specs.declared.refusal.Refusal.TheVariants.{OutOfMemory};
@@ -22,7 +22,6 @@ use std::mem::forget;
 use std::sync::Wait;
 use std::thread::Threads;
 
-// An approved plan, and the names of those who write while it runs.
 #[derive(Drop)]
 struct Named<'a> {
     alloc: Global,
@@ -30,7 +29,7 @@ struct Named<'a> {
     writers: &'a Names,
 }
 
-// The history behind `yes`. Each name in it is known, since the scripts' are; this is looked at once more, as the text asks for it.
+// Writes `yes` and the history. Its names are known from the scripts, but the text needs the check again.
 fn write_run(named: &Named, outcome: &Outcome) -> Result<Vec<u8>, Refusal>
     ensures text { IfOk result (λ v. v.items ≡ outcome_text named.now.approved.now.ring named.now.writers.now outcome.now.history.items outcome.now.finishers.items 0 Form.History) }
     ensures err { IfErr result IsFault }
@@ -45,7 +44,6 @@ fn write_run(named: &Named, outcome: &Outcome) -> Result<Vec<u8>, Refusal>
     Ok(out)
 }
 
-// The text of an outcome in that form.
 fn write_outcome(
     named: &Named,
     outcome: &Outcome,
@@ -63,7 +61,7 @@ fn write_outcome(
     }
 }
 
-// The text of a drive of the plan, with a client for each script, or why it broke off.
+// Drives the plan with a client for each script. Returns the text, or why it broke off.
 fn drive_approved<RT: Threads + Wait + Sync>(
     rt: &RT,
     named: &Named,
@@ -88,7 +86,6 @@ fn drive_approved<RT: Threads + Wait + Sync>(
     }
 }
 
-// What a drive of the bundle prints, where the checker accepts its plan.
 fn drive_checked<RT: Threads + Wait + Sync>(
     rt: &RT,
     alloc: Global,
@@ -116,10 +113,13 @@ fn drive_checked<RT: Threads + Wait + Sync>(
     }
 }
 
-/// What a drive of a bundle with 1 to 8 scripts prints, by that many workers, 1 to 64, where it is a ring with a plan that the checker accepts by its
-/// certificate: the text of an outcome, in that form. Else the first fault of the texts, and where there is none the checker's first refusal, or
-/// why the drive broke off. `OutOfMemory` comes only where memory ran out, or a thread could not be started, behind the first four lines of the
-/// ring. It waits for its threads, and leaves the memory of the history and the receipts to the system, since the program ends then.
+/// Drives a bundle with 1 to 8 scripts, and returns the outcome's text, if the checker accepts the plan.
+///
+/// Fails with the first fault of the texts, then the checker's first refusal, then why the drive broke off.
+///
+/// `OutOfMemory` comes only after the ring's first four lines, if memory or a thread was refused.
+///
+/// Waits for its threads. Leaves the memory of history and receipts to the system, since the program ends then.
 pub fn drive_bundle<RT: Threads + Wait + Sync>(
     rt: &RT,
     alloc: Global,
@@ -129,7 +129,6 @@ pub fn drive_bundle<RT: Threads + Wait + Sync>(
 ) -> Result<Vec<u8>, Refusal>
     requires { (0 < workers) × (workers ≤ 64) }
     ensures drives { DrivesIf workers form bytes.now (texts_of result) }
-    // Memory may run out only if the first four lines have no fault.
     ensures late { IfErr result (λ e. e ≡ OutOfMemory → NoFaultBefore 5 (whole_text drive_at bytes.now)) }
 {
     match read_drive(alloc, bytes) {

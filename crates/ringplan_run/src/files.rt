@@ -11,16 +11,16 @@ use std::path::PathBuf;
 use std::rt::Files;
 use std::{fmt, fs, io};
 
-/// How long a file may be that is read.
+/// How long an input file may be.
 #[derive(Clone, Copy, Debug, PartialEq, Eq)]
 pub(crate) enum Limit {
-    /// As long as an input that is read whole, `MAX_INPUT` bytes.
+    /// At most `MAX_INPUT` bytes, since it is read whole.
     Whole,
-    /// As long as it is.
+    /// Any length.
     Endless,
 }
 
-/// A text for a terminal, with a question mark for each control character but a line feed.
+/// A text for a terminal. Control characters other than newlines become question marks.
 #[derive(Clone, Copy)]
 pub(crate) struct Harmless<'a> {
     pub(crate) text: &'a str,
@@ -36,7 +36,7 @@ impl<'a> Display for Harmless<'a> {
     }
 }
 
-/// Says on standard error what stands in the text. Bytes that are not text are left out, and a control character is a question mark.
+/// Writes the text to standard error. Bytes that are not text are left out, and control characters become question marks.
 pub(crate) fn say<RT: Eprint>(rt: &RT, text: &[u8]) {
     for chunk in text.utf8_chunks() {
         let _ = rt.eprint(Harmless {
@@ -45,14 +45,13 @@ pub(crate) fn say<RT: Eprint>(rt: &RT, text: &[u8]) {
     }
 }
 
-// Says on standard error what is wrong with the file.
 fn say_of<RT: Eprint, D: Display>(rt: &RT, name: &str, fault: &D) {
     let name = Harmless { text: name };
     let _ = eprint!(rt; "ringplan: {name}: {fault}\n");
 }
 
-/// Opens a file to be read. Where that fails it says why on standard error, and gives the exit status: 2 where the file is longer than
-/// the limit, and else 3.
+/// Opens a file to read. On failure says why on standard error, and returns the exit status: 2 if the file is too long,
+/// otherwise 3.
 pub(crate) fn open<RT: Files + Eprint>(rt: &RT, name: &str, limit: Limit) -> Result<RT::File, u8>
     ensures { IfErr result (λ status. (status ≡ 2) ⊎ (status ≡ 3)) }
 {
@@ -65,7 +64,7 @@ pub(crate) fn open<RT: Files + Eprint>(rt: &RT, name: &str, limit: Limit) -> Res
     }
 }
 
-// The file, where it is no directory and within the limit.
+// The file, if it is not a directory and within the limit.
 fn sized<RT: Files + Eprint>(
     rt: &RT,
     name: &str,
@@ -89,13 +88,13 @@ fn sized<RT: Files + Eprint>(
     Ok(file)
 }
 
-// The most links that a name leads over, as Linux has it.
+// The most links to follow, as in Linux.
 const MOST_LINKS: u32 = 40;
 
-// The most names that are tried for a file beside another one.
+// The most names tried for a temporary file.
 const MOST_BESIDE: u32 = 1_000;
 
-// The path to which the links of that name lead, whether or not a file is there.
+// The path that the links lead to, whether or not a file is there.
 #[inline(never)]
 fn end_of_links<RT: Files + AllocGlobal>(rt: &RT, name: &str) -> io::Result<PathBuf> {
     let mut path = PathBuf::from_str(rt.alloc(), name)?;
@@ -112,7 +111,7 @@ fn end_of_links<RT: Files + AllocGlobal>(rt: &RT, name: &str) -> io::Result<Path
     Ok(path)
 }
 
-// Creates a file of that name, which nothing has. One that takes the place of a file is for its owner only until it has that file's permissions.
+// Creates a file of a new name. A replacement is for its owner only, until it gets the old file's permissions.
 fn create_beside<RT: Files>(
     rt: &RT,
     beside: &str,
@@ -126,7 +125,7 @@ fn create_beside<RT: Files>(
     options.open(rt, beside)
 }
 
-// Writes the text to a new file, with these permissions if there are any, as far as the disk.
+// Writes the text to a new file and syncs it to the disk, with these permissions if any.
 fn write_new<F: OpenFile + Write>(
     file: &mut F,
     permissions: Option<Permissions>,
@@ -139,7 +138,7 @@ fn write_new<F: OpenFile + Write>(
     file.sync_all()
 }
 
-// Writes the text to the new file, which then takes the name of the other one. Where that fails the new file is removed.
+// Writes the text to the new file, and renames it to the path. On failure removes the new file.
 fn take_place<RT: Files>(
     rt: &RT,
     beside: &str,
@@ -159,7 +158,7 @@ fn take_place<RT: Files>(
     done
 }
 
-// Writes the text to a file beside that of the path, which then takes its name. The new one has a name that nothing had: `PATH.1.part`, or that of the next number.
+// Replaces the file atomically. The temporary name is unused: `PATH.1.part`, or that of the next number.
 fn exchange<RT: Files + AllocGlobal>(
     rt: &RT,
     path: &str,
@@ -179,8 +178,8 @@ fn exchange<RT: Files + AllocGlobal>(
     Err(io::Error::from(ErrorKind::AlreadyExists))
 }
 
-// Writes the text to the file: to one beside it first, which then takes its name, so that the file has all of the text or what it had. A link
-// stays, and so do the permissions. What is there and is not a plain file, such as a terminal, is written to as it is.
+// Replaces the file atomically, so that it has all of the text or what it had. Links and permissions stay. Anything but
+// a plain file, such as a terminal, is written directly.
 #[inline(never)]
 fn replace<RT: Files + AllocGlobal>(rt: &RT, name: &str, text: &[u8]) -> io::Result<()> {
     let permissions = match fs::metadata(rt, name) {
@@ -196,8 +195,8 @@ fn replace<RT: Files + AllocGlobal>(rt: &RT, name: &str, text: &[u8]) -> io::Res
     exchange(rt, path.as_path().as_str(), permissions, text)
 }
 
-/// Writes the text to the file, all of it or nothing, and gives the exit status: that of the text, or 3 where the write fails, which is said on standard
-/// error.
+/// Writes the whole text to the file, or nothing. Returns the text's exit status, or 3 if the write fails, which is
+/// said on standard error.
 pub(crate) fn save<RT: Files + Eprint + AllocGlobal>(
     rt: &RT,
     name: &str,

@@ -1,4 +1,4 @@
-//! The layout that a file has.
+//! Reads layout files.
 
 ghost use Rattle.std.specs.Prelude.{◌≡◌, ◌⊎◌, IfErr, IfOk};
 ghost use Rattle.ringplan_run.specs.Run.{HasLayout, IsRead, unlaid};
@@ -13,14 +13,12 @@ use ringplan_people::layout_fault;
 use std::alloc::Global;
 use std::rt::Files;
 
-// The layout of a text.
 fn layout_of(alloc: Global, bytes: &[u8]) -> Result<Layout, Refusal>
     ensures { IfOk result IsRead }
 {
     read_layout(alloc, bytes)
 }
 
-// The exit status if a layout is refused.
 fn status_of(refusal: Refusal) -> u8
     ensures { (result ≡ 2) ⊎ (result ≡ 3) }
 {
@@ -30,7 +28,7 @@ fn status_of(refusal: Refusal) -> u8
     }
 }
 
-// Says why a layout is refused, with the line of its text.
+// Says why a layout is refused, with the faulty line.
 fn tell<RT: AllocGlobal + Eprint>(rt: &RT, refusal: Refusal, name: &str, bytes: &[u8]) {
     let Ok(words) = layout_fault(rt.alloc(), bytes, &refusal) else {
         say(rt, NO_MEMORY);
@@ -46,7 +44,6 @@ fn tell<RT: AllocGlobal + Eprint>(rt: &RT, refusal: Refusal, name: &str, bytes: 
     say(rt, words.as_slice());
 }
 
-// The layout that a file has.
 fn layout_in<RT: AllocGlobal + Files + Eprint>(rt: &RT, name: &str) -> Result<Layout, u8>
     ensures read { IfOk result IsRead }
     ensures status { IfErr result (λ status. (status ≡ 2) ⊎ (status ≡ 3)) }
@@ -68,8 +65,7 @@ fn layout_in<RT: AllocGlobal + Files + Eprint>(rt: &RT, name: &str) -> Result<La
     }
 }
 
-/// The options with the layout of the file that they name, if they name one. If it cannot be read, or has a fault, that is said on standard error, and the result is the
-/// exit status.
+/// Adds the layout from the named file, if any. A fault is said on standard error, and the result is the exit status.
 pub(crate) fn with_layout<RT: AllocGlobal + Files + Eprint>(
     rt: &RT,
     options: Options,

@@ -1,4 +1,4 @@
-//! What is printed of a part of a bundle's history.
+//! Prints a part of a bundle's history.
 
 ghost use Rattle.std.specs.Prelude.{◌≡◌, ℕ, List};
 ghost use Rattle.history_parts.specs.Choices.{IsChoice};
@@ -14,18 +14,18 @@ use ringplan_jobs::{MAX_INPUT, status_of};
 use std::io::{Read, Write};
 use texts::Fields;
 
-// In how many times as many parts so many would be few enough: at least twice.
+// How many times more parts would be small enough: at least twice.
 fn times(many: u64, most: u64) -> u64 {
     (many.saturating_sub(1) / most.max(1))
         .saturating_add(1)
         .max(2)
 }
 
-// What more and smaller parts do not help against.
+// When more parts do not help.
 const UNLESS: &str =
     ", unless one partition or what each part has, steps and outages, is too much\n";
 
-// Says why a part is too large, and in how many parts it may do.
+// Says why a part is too large, and how many parts may do.
 fn say_large<RT: Eprint>(rt: &RT, choice: Choice, entries: u64, bytes: u64) {
     let _ = eprint!(rt;
         "ringplan: the part has {entries} entries and {bytes} bytes, and {MOST_ENTRIES} and {MAX_INPUT} are judged at once: "
@@ -50,7 +50,6 @@ fn say_large<RT: Eprint>(rt: &RT, choice: Choice, entries: u64, bytes: u64) {
     }
 }
 
-// Says why there is no part.
 fn say_none<RT: Eprint>(rt: &RT, choice: Choice, none: &NoPart) {
     match none {
         NoPart::Large { entries, bytes } => say_large(rt, choice, *entries, *bytes),
@@ -61,7 +60,7 @@ fn say_none<RT: Eprint>(rt: &RT, choice: Choice, none: &NoPart) {
     }
 }
 
-// How many partitions the ring has with which the text begins: its second line says so.
+// The number of partitions of the ring, from the text's second line.
 fn partitions_of(text: &[u8]) -> Option<u64> {
     let mut lines = text.split(|byte| *byte == b'\n');
     let _ = lines.next()?;
@@ -70,7 +69,7 @@ fn partitions_of(text: &[u8]) -> Option<u64> {
     fields.value()
 }
 
-// Says that a partition is named which the part's ring does not have.
+// Says that a named partition is not in the part's ring.
 fn say_beyond<RT: Eprint>(rt: &RT, choice: Choice, part: &Part) {
     let Choice::Range { last, .. } = choice else {
         return;
@@ -84,7 +83,6 @@ fn say_beyond<RT: Eprint>(rt: &RT, choice: Choice, part: &Part) {
     }
 }
 
-// Prints a part, or the place in the whole of one of its entries.
 fn print_cut<RT: AllocGlobal + Eprint, W: Write>(
     rt: &RT,
     entry: Option<u32>,
@@ -110,7 +108,7 @@ fn print_cut<RT: AllocGlobal + Eprint, W: Write>(
     }
 }
 
-/// Reads a bundle to its end, and prints the part that is asked for, or the place of one of its entries. Says on standard error why nothing is printed.
+/// Reads a whole bundle, and prints the wanted part or an entry's place. Says on standard error why nothing is printed.
 pub(crate) fn print_part<RT: AllocGlobal + Eprint, R: Read + Drop, W: Write>(
     rt: &RT,
     wish: PartWish,

@@ -35,25 +35,35 @@ use std::rt::Files;
 use std::sync::Wait;
 use std::thread::Threads;
 
-// The line of a refusal for want of memory, which itself needs none.
+// The line for lack of memory, which needs none.
 pub(crate) const NO_MEMORY: &[u8; 6] = b"no 60\n";
 
-// The exit status where memory, the input or the output failed.
+// The exit status if memory, the input or the output failed.
 pub(crate) const FAILED: u8 = 3;
 
-// The exit status where the command line is refused.
+// The exit status if the command line is refused.
 pub(crate) const REFUSED: u8 = 2;
 
-// The exit status of a plan with steps, where the command line asks for it.
+// The exit status of a plan with steps, if asked for.
 const STEPS: u8 = 4;
 
-/// Runs a command line, whose first word is the program's name, and returns the exit status: 0 for what was printed, for yes and for help, 1 for a plan
-/// that is refused or that there is none of, for a drive that broke off and for a history that is no run, 2 for a text or a command line that is
-/// refused, 3 where memory, an input or an output failed, and 4 for a plan with steps where `goal --exit-code` asks for that. `plan`, `check`, `play`, `drive`,
-/// `replay` and `migrate` print refusals of a bundle on the output, the other commands on standard error. What is wrong with a command line goes to standard error.
+/// Runs a command line, whose first word is the program's name, and returns the exit status:
 ///
-/// Words for people have colours where the screen has them, or the line says so. If the line names files, these are read one after the other in place of the input, which `-` names among them; if it names one with `-o`, what would be printed with status 0 or 4 is written there. It
-/// waits for the threads that `drive` and `check --workers` ask for; every other line that names a job is done by `run_alone`.
+/// - 0 for what was printed, yes and help.
+/// - 1 for a plan that is refused or does not exist, a drive that broke off, and a history that is not a run.
+/// - 2 for a text or command line that is refused.
+/// - 3 if memory, an input or an output failed.
+/// - 4 for a plan with steps if `goal --exit-code` asks for that.
+///
+/// `plan`, `check`, `play`, `drive`, `replay` and `migrate` print refusals of a bundle on the output, other commands on
+/// standard error. Faults of a command line go to standard error.
+///
+/// Words for people have colours if the screen has them or the line says so. Named files are read one after the
+/// other instead of the input, which `-` names.
+///
+/// With `-o`, what would be printed with status 0 or 4 is written to the file.
+///
+/// Waits for the threads of `drive` and `check --workers`; other jobs are done by `run_alone`.
 pub fn run<
     RT: AllocGlobal + Files + Eprint + Threads + Wait + Sync,
     S: AsStr,
@@ -62,7 +72,7 @@ pub fn run<
 >(rt: &RT, screen: Screen, words: &[S], input: &mut R, output: &mut W) -> u8
     ensures line { RunsLine (asked (map S.text words.now)) (files_of (map S.text words.now)) (R.remaining input.old) (R.remaining input.new)
         (W.contents output.old) (W.contents output.new) result }
-    // `check` alone asks for the check, and `migrate` alone for the migration.
+    // Only the word `check` asks for the check, and only `migrate` for the migration.
     ensures job { (job : Job) → drop 1 (map S.text words.now) ≡ word_of job ∷ []
         → (bytes : List ℕ) × Tells (R.remaining input.old) bytes
         × Runs (only job) no_files bytes (W.contents output.old) (W.contents output.new) result }
@@ -85,7 +95,6 @@ pub fn run<
     }
 }
 
-// How long a file may be that is read for the request.
 fn limit_of(request: &Request) -> Limit {
     match request {
         Request::Part(_) => Limit::Endless,
@@ -93,7 +102,7 @@ fn limit_of(request: &Request) -> Limit {
     }
 }
 
-// Where a text goes: to the screen, unless a file is named for it.
+// A text in a named file is plain.
 fn seen_on(screen: Screen, target: &Option<String>) -> Screen {
     match target {
         None => screen,
@@ -101,7 +110,7 @@ fn seen_on(screen: Screen, target: &Option<String>) -> Screen {
     }
 }
 
-// Does what is asked for with the whole input, and prints what comes of it, or writes it to the target.
+// Does the request with the whole input. Prints the result, or writes it to the target.
 fn run_to<RT: AllocGlobal + Files + Eprint + Threads + Wait + Sync, R: Read + Drop, W: Write>(
     rt: &RT,
     request: Request,
@@ -126,14 +135,13 @@ fn run_to<RT: AllocGlobal + Files + Eprint + Threads + Wait + Sync, R: Read + Dr
     }
 }
 
-// Whether a text with this status is written to the file that is named for it.
+// Whether a text with this status is written to the named file.
 fn is_written(status: u8) -> bool
     ensures { result ≡ true → IsWritten status }
 {
     status == 0 || status == STEPS
 }
 
-// Does what is asked for with the whole input, and prints what comes of it.
 fn run_request<RT: AllocGlobal + Files + Eprint + Threads + Wait + Sync, R: Read + Drop, W: Write>(
     rt: &RT,
     request: Request,
@@ -177,7 +185,6 @@ fn run_request<RT: AllocGlobal + Files + Eprint + Threads + Wait + Sync, R: Read
     }
 }
 
-// Reads the layout that is named, and does what is asked for with the whole input for people.
 fn run_making<RT: AllocGlobal + Files + Eprint, R: Read + Drop, W: Write>(
     rt: &RT,
     making: Making,
@@ -194,7 +201,7 @@ fn run_making<RT: AllocGlobal + Files + Eprint, R: Read + Drop, W: Write>(
     }
 }
 
-// Prints what is made of the whole input for people, on standard error why nothing is, and returns the exit status.
+// Prints the report, or why there is none on standard error. Returns the exit status.
 fn print_report<RT: AllocGlobal + Eprint, R: Read + Drop, W: Write>(
     rt: &RT,
     making: Making,
@@ -218,7 +225,6 @@ fn print_report<RT: AllocGlobal + Eprint, R: Read + Drop, W: Write>(
     }
 }
 
-// What is printed of the whole input for people.
 fn report_of<R: Read + Drop>(
     alloc: Global,
     making: Making,
@@ -235,7 +241,7 @@ fn report_of<R: Read + Drop>(
     }
 }
 
-/// Does a job with the whole input, prints what comes of it, and returns the exit status, as `run` does. It waits for no thread.
+/// Does a job with the whole input, prints the result, and returns the exit status, as `run` does. Waits for no thread.
 pub fn run_alone<R: Read + Drop, W: Write>(
     alloc: Global,
     job: Job,
@@ -249,21 +255,20 @@ pub fn run_alone<R: Read + Drop, W: Write>(
     tell(alloc, found, output)
 }
 
-/// Says that memory was refused, and returns the exit status of that, 3.
+/// Says that memory ran out, and returns its exit status, 3.
 pub fn end_without_memory<W: Write>(output: &mut W) -> u8
     ensures { Prints (W.contents output.old) (W.contents output.new) (line_of Refusal.OutOfMemory) 3 result }
 {
     finish(output, NO_MEMORY, FAILED)
 }
 
-/// Says that the words of a command line are no text, and returns the exit status of that, 2.
+/// Says that the words of a command line are not text, and returns its exit status, 2.
 pub fn end_without_words<W: Write>(output: &mut W) -> u8
     ensures { Prints (W.contents output.old) (W.contents output.new) NO_WORDS.now 2 result }
 {
     finish(output, NO_WORDS, REFUSED)
 }
 
-/// Prints what was found, and returns the exit status of that.
 pub(crate) fn tell<W: Write>(alloc: Global, found: Result<Vec<u8>, Refusal>, output: &mut W) -> u8
     ensures { PrintsFound (W.contents output.old) (W.contents output.new) (texts_of found) result }
 {
@@ -273,7 +278,6 @@ pub(crate) fn tell<W: Write>(alloc: Global, found: Result<Vec<u8>, Refusal>, out
     }
 }
 
-// Whether memory was refused.
 fn lacks_memory(found: &Result<Vec<u8>, Refusal>) -> bool
     ensures { result ≡ false → texts_of found.now ≢ Err Refusal.OutOfMemory }
 {
@@ -283,7 +287,7 @@ fn lacks_memory(found: &Result<Vec<u8>, Refusal>) -> bool
     }
 }
 
-// Prints what was found as JSON, and returns the exit status of that.
+// Prints the result as JSON, and returns its exit status.
 fn state<W: Write>(alloc: Global, found: Result<Vec<u8>, Refusal>, output: &mut W) -> u8
     ensures { PrintsStated (W.contents output.old) (W.contents output.new) (texts_of found) result }
 {
@@ -296,7 +300,6 @@ fn state<W: Write>(alloc: Global, found: Result<Vec<u8>, Refusal>, output: &mut 
     }
 }
 
-// The text that a job makes of the whole input.
 fn answer_input<R: Read + Drop>(alloc: Global, job: Job, input: &mut R) -> Result<Vec<u8>, Refusal>
     ensures { (bytes : List ℕ) × Tells (R.remaining input.old) bytes × Finds job bytes (texts_of result) }
 {
@@ -304,7 +307,6 @@ fn answer_input<R: Read + Drop>(alloc: Global, job: Job, input: &mut R) -> Resul
     answer_bytes(alloc, job, bytes)
 }
 
-// The text that a check by workers makes of the whole input.
 fn answer_input_by<RT: Threads + Wait + Sync, R: Read + Drop>(
     rt: &RT,
     alloc: Global,
@@ -317,7 +319,6 @@ fn answer_input_by<RT: Threads + Wait + Sync, R: Read + Drop>(
     answer_check(rt, alloc, workers, bytes.as_slice())
 }
 
-// The text that a drive makes of the whole input.
 fn drive_of<RT: Threads + Wait + Sync, R: Read + Drop>(
     rt: &RT,
     alloc: Global,
@@ -332,7 +333,7 @@ fn drive_of<RT: Threads + Wait + Sync, R: Read + Drop>(
     drive_bundle(rt, alloc, workers, form, bytes.as_slice())
 }
 
-// Prints the text, and ends with the status, or with 3 where the output fails.
+// Prints the text, and returns the status, or 3 if the output fails.
 pub(crate) fn finish<W: Write>(output: &mut W, text: &[u8], status: u8) -> u8
     ensures { Prints (W.contents output.old) (W.contents output.new) text.now status result }
 {

@@ -8,7 +8,7 @@ use std::io;
 use std::io::Read;
 use std::rt::Files;
 
-/// Files that are read one after the other: their bytes in the order of the command line, with nothing between them. The input may be among them.
+/// Files read one after the other, in the order of the command line, with nothing between them. The input may be among them.
 #[derive(Drop)]
 pub(crate) struct Several<'a, F, R> {
     // None is the input
@@ -21,7 +21,6 @@ pub(crate) struct Several<'a, F, R> {
 impl<'a, F: Read + Drop, R: Read + Drop> Several<'a, F, R> {
     ghost use Rattle.std.specs.Io.{ReadsAtMost};
 
-    // Reads from the part of that place.
     fn read_part(&mut self, place: usize, buf: &mut [u8]) -> io::Result<usize>
         ensures { ReadsAtMost result buf.new }
     {
@@ -45,7 +44,7 @@ impl<'a, F: Read + Drop, R: Read + Drop> Read for Several<'a, F, R> {
     }
 }
 
-/// Opens the files to be read one after the other, with `-` for the input. If that fails it says why on standard error, and gives the exit status, as `open` does.
+/// Opens the files to read one after the other, with `-` for the input. Fails as `open` does.
 pub(crate) fn open_all<'a, RT: AllocGlobal + Files + Eprint, R: Read + Drop>(
     rt: &RT,
     names: &[String],

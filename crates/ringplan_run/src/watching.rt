@@ -1,4 +1,4 @@
-//! What is printed of a history while it is read.
+//! Prints the judgement of a history while it is read.
 
 ghost use Rattle.ringplan_run.specs.Watch.{PrintsWatch, PrintsWatchOf};
 
@@ -9,11 +9,9 @@ use ringplan_jobs::read_all;
 use std::io::{Read, Write};
 use std::rt::Files;
 
-// Why there is no bundle.
 const NO_BUNDLE: &[u8; 121] =
     b"error: the bundle is a file of its own, since the history comes from standard input\n\nFor more information, try '--help'.\n";
 
-// Judges the history by the bundle that is read.
 fn print_by<RT: AllocGlobal, B: Read + Drop, R: Read + Drop, W: Write>(
     rt: &RT,
     bundle: &mut B,
@@ -33,7 +31,7 @@ fn print_by<RT: AllocGlobal, B: Read + Drop, R: Read + Drop, W: Write>(
     }
 }
 
-/// Reads the bundle in the file that is named, and judges the history on the input. Says on standard error why a file is not read.
+/// Reads the bundle in the named file, and judges the history on the input. Says on standard error why a file is not read.
 pub(crate) fn print_watch<RT: AllocGlobal + Files + Eprint, R: Read + Drop, W: Write>(
     rt: &RT,
     names: &[String],

@@ -5,7 +5,7 @@ ghost use Rattle.script_text.specs.Client.{is_client_event};
 
 use plan_runs::Event;
 
-/// Whether a client can bring the event about: a put or a get that starts, a node that goes down or comes up.
+/// Whether a client can bring the event about: a put or get that starts, a node that goes down or up.
 pub fn is_client_event(event: &Event) -> bool
     ensures { result ≡ is_client_event event.now }
 {

@@ -11,7 +11,7 @@ use ring_names::{Names, NodeId, Refusal, WriterId};
 use ring_table::{Ring, node_field};
 use texts::{CAP, Fields, NumberRow, both, is_name};
 
-/// A number. Else that is `BadLine` or `TooLarge`.
+/// Takes a number. Another field is `BadLine`, a greater number `TooLarge`.
 #[inline(always)]
 pub fn count(fields: &mut Fields) -> Result<u32, Refusal>
     ensures { Does count_at fields.old result fields.new }
@@ -19,7 +19,7 @@ pub fn count(fields: &mut Fields) -> Result<u32, Refusal>
     fields.number(u32::MAX)
 }
 
-/// Two numbers. Else that is `BadLine` or `TooLarge`.
+/// Takes two numbers, as `number` does.
 #[inline(always)]
 #[tactic(auto, unfolding(crate::specs::Reading::pair_at))]
 pub fn pair(fields: &mut Fields) -> Result<(u32, u32), Refusal>
@@ -30,7 +30,7 @@ pub fn pair(fields: &mut Fields) -> Result<(u32, u32), Refusal>
     both(first, second)
 }
 
-// A writer that was seen, or a new one for which there is room.
+// A writer that was seen, or a new one if there is room.
 fn writer<'a>(names: &Names, fields: &mut Fields<'a>) -> Result<SaidWriter<'a>, Refusal>
     ensures { Does (λ k. field_at k (judge_writer names.now k)) fields.old result fields.new }
 {
@@ -48,7 +48,7 @@ fn writer<'a>(names: &Names, fields: &mut Fields<'a>) -> Result<SaidWriter<'a>, 
     }
 }
 
-/// A key. Else that is `BadLine`.
+/// Takes a key. Another field is `BadLine`.
 pub fn key<'a>(fields: &mut Fields<'a>) -> Result<KeyWord<'a>, Refusal>
     ensures { Does (λ k. field_at k (judge_key k)) fields.old result fields.new }
 {
@@ -62,7 +62,6 @@ pub fn key<'a>(fields: &mut Fields<'a>) -> Result<KeyWord<'a>, Refusal>
     }
 }
 
-// A value.
 fn value<'a>(fields: &mut Fields<'a>) -> Result<ValueWord<'a>, Refusal>
     ensures { Does (λ k. field_at k (judge_value k)) fields.old result fields.new }
 {
@@ -76,7 +75,6 @@ fn value<'a>(fields: &mut Fields<'a>) -> Result<ValueWord<'a>, Refusal>
     }
 }
 
-// The gets that a put knows.
 fn known<'a>(fields: &Fields, row: NumberRow<'a>) -> Result<SeenRow<'a>, Refusal>
     ensures { result ≡ judge_seen fields.now.number row.entry }
 {
@@ -96,7 +94,7 @@ fn known<'a>(fields: &Fields, row: NumberRow<'a>) -> Result<SeenRow<'a>, Refusal
     Ok(SeenRow::of(row))
 }
 
-// Nothing, or `seen` and the numbers behind it.
+// Nothing, or `seen` and the numbers after it.
 #[tactic(auto, unfolding(crate::specs::Reading::seen_at))]
 fn seen<'a>(fields: &mut Fields<'a>) -> Result<SeenRow<'a>, Refusal>
     ensures { Does seen_at fields.old result fields.new }
@@ -111,7 +109,7 @@ fn seen<'a>(fields: &mut Fields<'a>) -> Result<SeenRow<'a>, Refusal>
     Err(Refusal::BadLine(fields.line()))
 }
 
-/// Who starts a put, of which key, with which value, and the gets that it knows. Takes no memory.
+/// Takes what starts a put: writer, key, value, and the gets that it knows. Takes no memory.
 #[tactic(auto, unfolding(crate::specs::Reading::put_at))]
 pub fn put<'a>(names: &Names, fields: &mut Fields<'a>) -> Result<SaidPut<'a>, Refusal>
     ensures { Does (put_at names.now) fields.old result fields.new }
@@ -129,7 +127,7 @@ pub fn put<'a>(names: &Names, fields: &mut Fields<'a>) -> Result<SaidPut<'a>, Re
     })
 }
 
-/// A put, the index of a slot, and a declared node.
+/// Takes a put, the index of a slot, and a declared node.
 #[tactic(auto, unfolding(crate::specs::Reading::hint_at))]
 pub fn hint(ring: &Ring, fields: &mut Fields) -> Result<((u32, u32), NodeId), Refusal>
     ensures { Does (hint_at ring.now) fields.old result fields.new }
@@ -139,7 +137,7 @@ pub fn hint(ring: &Ring, fields: &mut Fields) -> Result<((u32, u32), NodeId), Re
     both(place, node)
 }
 
-/// A declared node, and a slot.
+/// Takes a declared node and a slot.
 #[tactic(auto, unfolding(crate::specs::Reading::handoff_at))]
 pub fn handoff(ring: &Ring, fields: &mut Fields) -> Result<(NodeId, (u32, u32)), Refusal>
     ensures { Does (handoff_at ring.now) fields.old result fields.new }

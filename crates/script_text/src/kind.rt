@@ -1,4 +1,4 @@
-//! What an event is, by the word that begins its line and what stands behind it.
+//! Events, by the first word of a line and its other fields.
 
 ghost use Rattle.std.specs.Prelude.{◌≡◌, Some};
 ghost use Rattle.std.specs.Map.{lookup};
@@ -14,7 +14,7 @@ use ring_names::{Names, Refusal, Slot};
 use ring_table::{Ring, node_field};
 use texts::Fields;
 
-// The word that begins an event's line.
+// The first word of an event's line.
 #[derive(Clone, Copy)]
 enum EventWord {
     Do,
@@ -36,7 +36,6 @@ enum EventWord {
 }
 
 impl EventWord {
-    // Which word it is, if it is one.
     fn of(word: &[u8]) -> Option<EventWord>
         ensures { result ≡ lookup (bytes_eq word.now) words }
     {
@@ -62,7 +61,7 @@ impl EventWord {
     }
 }
 
-// What it says behind its word. Scripts and histories read events, each by a copy of its own: a call for each line would cost more.
+// What the line says after its first word. Inlined into the readers of scripts and of histories: a call for each line would cost more.
 #[inline(always)]
 fn said_behind<'a>(
     word: EventWord,
@@ -99,8 +98,9 @@ fn said_behind<'a>(
     }
 }
 
-/// Takes what an event's line says, behind the writers seen: a field that is none is `BadLine`, a number above 4,294,967,295, more than 16 gets that a put
-/// knows and a new writer behind 1,024 are `TooLarge`, and of several faults the one of the lesser number decides. Takes no memory.
+/// Takes what an event's line says. Takes no memory.
+///
+/// A wrong field is `BadLine`. A number above 4,294,967,295, more than 16 gets and a writer after 1,024 are `TooLarge`. `BadLine` comes first.
 #[inline(always)]
 #[tactic(auto, unfolding(crate::specs::Reading::kind_at))]
 pub fn said_event<'a>(

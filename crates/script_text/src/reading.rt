@@ -24,7 +24,7 @@ use ring_table::Ring;
 use std::alloc::Global;
 use texts::{Fields, Lines, both, end, finish, header, need};
 
-// What an event's line says, behind the events of the script and the writers known. Takes no memory.
+// What an event's line says, after the events so far. Takes no memory.
 #[tactic(auto, unfolding(crate::specs::Reading::said_at))]
 fn judge_line<'a>(
     ring: &Ring,
@@ -40,7 +40,7 @@ fn judge_line<'a>(
     Ok(said)
 }
 
-// The event of a line, where the line may be said, and that it can be the next event.
+// The event of a line, if the speaker may say it.
 fn event_line<'a>(
     may: bool,
     ring: &Ring,
@@ -59,7 +59,6 @@ fn event_line<'a>(
 }
 
 impl Speaker {
-    // Reads the events of a script, up to a line that begins with `end`.
     #[tactic(auto, unfolding(crate::specs::Reading::events_at))]
     fn read_events(
         self,
@@ -102,8 +101,8 @@ fn read_parts(
     Ok(script)
 }
 
-/// Reads the lines of a script, up to its line `end`, and leaves what follows them. New writers are added behind those that were seen.
-/// Refused as `read_script` is; then some of the new writers may have been added.
+/// Reads a script up to its line `end`, and leaves what follows. Adds new writers after those that were seen, some also if it is refused.
+/// Refusals are those of `read_script`.
 pub fn read_script_section(
     alloc: Global,
     ring: &Ring,
@@ -111,9 +110,8 @@ pub fn read_script_section(
     lines: &mut Lines,
 ) -> Result<Script, Refusal>
     ensures read { Reads (map_ok (λ s. (s, writers.new)) result) lines.new (script_at ring.now writers.old lines.old) }
-    // What is read is a script over the ring, if the writers that were seen are at most 1,024 names.
     ensures found { IfOk result (λ s. AreWriters writers.old → IsScriptOf ring.now writers.old writers.new s) }
-    // Memory may run out behind its first two lines, if these have no fault, and later only behind lines that have none.
+    // Memory may run out only after the first two lines, and after lines without a fault.
     ensures late { Late 2 result lines.old lines.new (script_at ring.now writers.old lines.old) }
 {
     // A ring is valid, which the prover knows once a number of it is read.
@@ -122,8 +120,7 @@ pub fn read_script_section(
     read_parts(alloc, Speaker::Anyone, ring, writers, lines)
 }
 
-/// Reads the lines of a client's script, up to its line `end`, and leaves what follows them, as `read_script_section` does, but a line that begins
-/// with another word than `put`, `get`, `down` and `up` is `BadLine`, whatever else stands in it.
+/// Reads a client's script, as `read_script_section` does. A line that does not begin with `put`, `get`, `down` or `up` is `BadLine`.
 pub fn read_client_section(
     alloc: Global,
     ring: &Ring,
@@ -131,9 +128,8 @@ pub fn read_client_section(
     lines: &mut Lines,
 ) -> Result<Script, Refusal>
     ensures read { Reads (map_ok (λ s. (s, writers.new)) result) lines.new (client_at ring.now writers.old lines.old) }
-    // Each event is one that a client can bring about.
     ensures clients { IfOk result (λ s. list_all is_client_event s ≡ true) }
-    // Memory may run out behind its first two lines, if these have no fault, and later only behind lines that have none.
+    // Memory may run out only after the first two lines, and after lines without a fault.
     ensures late { Late 2 result lines.old lines.new (client_at ring.now writers.old lines.old) }
 {
     read_parts(alloc, Speaker::Client, ring, writers, lines)
@@ -156,16 +152,15 @@ fn read_whole(
     Ok(script)
 }
 
-/// Reads a script from its whole text. New writers are numbered in order of first sight, behind those that were seen. The first line
-/// at fault decides, and in it the fault of the least number: 1 `BadLine`, 2 `TooLarge`, 3 `UnknownNode`. `OutOfMemory` comes only where
-/// memory ran out, behind lines that have no fault. Refused, some of the new writers may have been added.
+/// Reads a script from its whole text. Numbers new writers in order of first sight, some also if the text is refused.
+///
+/// The first line at fault decides, and in this line the least number: 1 `BadLine`, 2 `TooLarge`, 3 `UnknownNode`. `OutOfMemory` comes last.
 pub fn read_script(
     alloc: Global,
     ring: &Ring,
     writers: &mut Names,
     text: &[u8],
 ) -> Result<Script, Refusal>
-    // What is read was spelled so.
     ensures found { IfOk result (λ s. AreWriters writers.old
         → IsScriptOf ring.now writers.old writers.new s × (text.now ≡ script_text ring.now writers.new s)) }
     // What is spelled so is read, unless memory runs out.

@@ -4,7 +4,7 @@ use crate::words::{KeyWord, SeenRow, ValueWord, Word};
 use plan_runs::Event;
 use ring_names::WriterId;
 
-/// Who starts a put: a writer that was seen, or a new name.
+/// The writer of a put: one that was seen, or a new name.
 #[derive(Drop)]
 pub enum SaidWriter<'a> {
     Known(WriterId),
@@ -27,6 +27,6 @@ pub enum SaidEvent<'a> {
     Put(SaidPut<'a>),
     /// A get starts.
     Get(KeyWord<'a>),
-    /// Any other event, which is all that it says.
+    /// Any other event.
     Plain(Event),
 }

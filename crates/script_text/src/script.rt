@@ -11,7 +11,7 @@ use ring_names::Refusal;
 use std::alloc::Global;
 use std::marker::Model;
 
-/// Events in the order in which they are to happen, at most 1,000,000.
+/// Events in order, at most 1,000,000.
 #[derive(Debug, Drop)]
 pub struct Script {
     events: Vec<Event>,
@@ -29,7 +29,7 @@ impl Model for Script {
 }
 
 impl Script {
-    /// A script of no events.
+    /// Returns a script without events.
     pub fn new(alloc: Global) -> Script
         ensures { result ≡ [] }
     {
@@ -38,14 +38,14 @@ impl Script {
         }
     }
 
-    /// The number of events, at most 1,000,000.
+    /// Returns the number of events.
     pub fn len(&self) -> usize
         ensures { result ≡ length self.now }
     {
         self.events.len()
     }
 
-    /// The events, the first one first.
+    /// Returns the events in order.
     pub fn events(&self) -> &[Event]
         ensures value { result.now ≡ self.now }
         ensures few { length self.now ≤ 1000000 }
@@ -53,7 +53,7 @@ impl Script {
         self.events.as_slice()
     }
 
-    /// The events as a vector, which takes no memory: for whoever gives up the script.
+    /// Returns the events as a vector. Takes no memory.
     pub fn into_vec(self) -> Vec<Event>
         ensures value { result.items ≡ self }
         ensures few { length self ≤ 1000000 }
@@ -62,7 +62,7 @@ impl Script {
         events
     }
 
-    /// Adds an event behind the others. Refused, the script is as before, and only for want of memory.
+    /// Adds an event. Its only refusal is `OutOfMemory`, and then nothing changes.
     pub fn push(&mut self, event: Event) -> Result<(), Refusal>
         requires { length self.old < 1000000 }
         ensures ok { OnOk result (self.new ≡ self.old ++ event ∷ []) }
@@ -74,7 +74,7 @@ impl Script {
         Ok(())
     }
 
-    /// Whether each event is one that a client can bring about: a put or a get that starts, a node that goes down or comes up.
+    /// Whether a client can bring each event about.
     pub fn is_client(&self) -> bool
         ensures { result ≡ list_all is_client_event self.now }
     {

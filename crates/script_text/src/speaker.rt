@@ -1,4 +1,4 @@
-//! Who says the lines of a script.
+//! Speakers: who says the lines of a script.
 
 ghost use Rattle.std.specs.Prelude.{◌≡◌};
 ghost use Rattle.script_text.specs.Reading.{may_say};
@@ -8,14 +8,14 @@ use texts::Lines;
 /// Who says the lines of a script.
 #[derive(Clone, Copy, Debug, PartialEq, Eq)]
 pub enum Speaker {
-    /// Anyone: all events may come.
+    /// Anyone: all events.
     Anyone,
-    /// A client: puts and gets start, nodes go down and come up.
+    /// A client: puts and gets that start, nodes that go down or up.
     Client,
 }
 
 impl Speaker {
-    /// Whether the speaker may say a line that begins like the next one.
+    /// Whether the speaker may say the next line, by its first word.
     pub fn may_say(self, lines: &Lines) -> bool
         ensures { result ≡ may_say self lines.now.lines }
     {

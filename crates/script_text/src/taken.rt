@@ -1,4 +1,4 @@
-//! Keeping the event of a line that was judged.
+//! Keeping the event of a line that was read.
 
 ghost use Rattle.std.specs.Prelude.{◌≡◌, ◌<◌, ◌+◌, ◌++◌, ◌∷◌, [], length, IfOk, IfErr, OnOk};
 ghost use Rattle.ring_names.specs.declared.refusal.Refusal.TheVariants.{OutOfMemory};
@@ -11,7 +11,6 @@ use plan_runs::Event;
 use ring_names::{Names, Refusal, WriterId};
 use std::alloc::Global;
 
-// The number of a writer, who is a new one or not.
 fn to_writer(names: &mut Names, writer: SaidWriter) -> Result<WriterId, Refusal>
     requires { FitsWriter names.old writer }
     ensures ok { IfOk result (λ number. number ≡ writer_of names.old writer.entry) }
@@ -28,7 +27,6 @@ fn to_writer(names: &mut Names, writer: SaidWriter) -> Result<WriterId, Refusal>
     }
 }
 
-// The put, in memory of its own.
 fn to_put(alloc: Global, names: &mut Names, put: SaidPut) -> Result<Event, Refusal>
     requires { FitsWriter names.old put.writer }
     ensures ok { IfOk result (λ event. event ≡ event_of names.old (Put put.entry)) }
@@ -42,8 +40,7 @@ fn to_put(alloc: Global, names: &mut Names, put: SaidPut) -> Result<Event, Refus
     Ok(Event::StartPut(writer, key, value, seen))
 }
 
-/// The event that a line says, in memory of its own. A new writer is added behind those known, and the event names it by its number.
-/// Its only refusal is `OutOfMemory`; then the writer may have been added.
+/// Returns the event that a line says, and adds a new writer. Its only refusal is `OutOfMemory`, and the writer may be added all the same.
 #[inline(always)]
 pub fn keep_event(alloc: Global, names: &mut Names, said: SaidEvent) -> Result<Event, Refusal>
     requires { Fits names.old said }
@@ -61,7 +58,7 @@ pub fn keep_event(alloc: Global, names: &mut Names, said: SaidEvent) -> Result<E
     }
 }
 
-/// Adds the event of a line that was judged behind the events of the script and the writers known.
+/// Adds the event of a line that was read.
 pub fn add(
     alloc: Global,
     names: &mut Names,

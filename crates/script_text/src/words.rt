@@ -45,7 +45,7 @@ impl<'a> Model for KeyWord<'a> {
 }
 
 impl<'a> KeyWord<'a> {
-    /// The key of these bytes, where they are one.
+    /// Returns the key of these bytes, if they are one.
     pub fn of(bytes: &'a [u8]) -> Option<KeyWord<'a>>
         ensures some { is_some result ≡ is_key bytes.now }
         ensures same { IfSome result (λ key. key ≡ bytes.now) }
@@ -56,7 +56,7 @@ impl<'a> KeyWord<'a> {
         None
     }
 
-    /// The key, in memory of its own.
+    /// Returns the key in memory of its own.
     pub fn to_key(&self, alloc: Global) -> Result<Key, Refusal>
         ensures ok { IfOk result (λ key. key ≡ self.now) }
         ensures memory { IfErr result (λ e. e ≡ OutOfMemory) }
@@ -69,14 +69,12 @@ impl<'a> KeyWord<'a> {
     }
 }
 
-// Whether the byte is one of `0-9a-f`.
 fn is_digit(byte: u8) -> bool
     ensures { result ≡ is_digit byte }
 {
     matches!(byte, b'0'..=b'9' | b'a'..=b'f')
 }
 
-// What a digit counts.
 fn digit_value(digit: u8) -> u8
     requires { is_digit digit ≡ true }
     ensures value { result ≡ digit_value digit }
@@ -89,7 +87,7 @@ fn digit_value(digit: u8) -> u8
     }
 }
 
-// Whether each byte is a digit. All are looked at, so that the processor may take many at a time.
+// Whether each byte is a digit. Looks at all, so that the processor may take many at a time.
 fn are_digits(bytes: &[u8]) -> bool
     ensures { result ≡ list_all is_digit bytes.now }
 {
@@ -100,7 +98,6 @@ fn are_digits(bytes: &[u8]) -> bool
     found
 }
 
-// Whether these are pairs of digits.
 #[tactic(auto, using(crate::proofs::DigitLaws::pairs_are))]
 fn are_pairs(digits: &[u8]) -> bool
     ensures { result ≡ are_pairs digits.now }
@@ -108,7 +105,6 @@ fn are_pairs(digits: &[u8]) -> bool
     digits.len() % 2 == 0 && are_digits(digits)
 }
 
-// The bytes that pairs of digits spell.
 fn bytes_of(alloc: Global, digits: &[u8]) -> Result<Vec<u8>, Refusal>
     requires { are_pairs digits.now ≡ true }
     ensures ok { IfOk result (λ out. out.items ≡ bytes_of digits.now) }
@@ -141,7 +137,7 @@ impl<'a> Model for ValueWord<'a> {
 }
 
 impl<'a> ValueWord<'a> {
-    /// The value that these bytes spell, where they spell one.
+    /// Returns the value that these bytes spell, if they spell one.
     pub fn of(bytes: &'a [u8]) -> Option<ValueWord<'a>>
         ensures some { is_some result ≡ is_value_text bytes.now }
         ensures same { IfSome result (λ value. value ≡ value_of bytes.now) }
@@ -155,7 +151,7 @@ impl<'a> ValueWord<'a> {
         None
     }
 
-    /// The value, in memory of its own.
+    /// Returns the value in memory of its own.
     #[tactic(auto, using(crate::proofs::DigitLaws::few_bytes))]
     pub fn to_value(&self, alloc: Global) -> Result<Value, Refusal>
         ensures ok { IfOk result (λ value. value ≡ self.now) }
@@ -189,7 +185,7 @@ impl<'a> Model for SeenRow<'a> {
 }
 
 impl<'a> SeenRow<'a> {
-    /// The gets of these numbers.
+    /// Returns the gets of these numbers.
     pub fn of(row: NumberRow<'a>) -> SeenRow<'a>
         requires small { are_small row ≡ true }
         requires seen { is_seen row ≡ true }
@@ -198,7 +194,7 @@ impl<'a> SeenRow<'a> {
         SeenRow { row }
     }
 
-    /// The gets, in memory of their own.
+    /// Returns the gets in memory of their own.
     pub fn to_seen(&self, alloc: Global) -> Result<Seen, Refusal>
         ensures ok { IfOk result (λ seen. seen ≡ self.now) }
         ensures memory { IfErr result (λ e. e ≡ OutOfMemory) }

@@ -18,7 +18,6 @@ use ring_table::{Ring, push_name};
 use std::alloc::{AllocError, Global};
 use texts::push_numbers;
 
-// One of `0-9a-f`.
 fn digit_text(digit: u8) -> u8
     requires { digit < 16 }
     ensures { result ≡ digit_text digit }
@@ -26,7 +25,6 @@ fn digit_text(digit: u8) -> u8
     if digit < 10 { 48 + digit } else { 87 + digit }
 }
 
-// A byte, as two digits.
 fn push_byte(out: &mut Vec<u8>, byte: u8) -> Result<(), AllocError>
     ensures { OnOk result (out.new.items ≡ out.old.items ++ byte_text byte) }
 {
@@ -35,7 +33,6 @@ fn push_byte(out: &mut Vec<u8>, byte: u8) -> Result<(), AllocError>
     Ok(())
 }
 
-// Bytes, as two digits each.
 fn push_bytes(out: &mut Vec<u8>, bytes: &[u8]) -> Result<(), AllocError>
     ensures { OnOk result (out.new.items ≡ out.old.items ++ flat_map byte_text bytes.now) }
 {
@@ -45,7 +42,6 @@ fn push_bytes(out: &mut Vec<u8>, bytes: &[u8]) -> Result<(), AllocError>
     Ok(())
 }
 
-// A value, behind a space.
 fn push_value(out: &mut Vec<u8>, bytes: &[u8]) -> Result<(), AllocError>
     ensures { OnOk result (out.new.items ≡ out.old.items ++ 32 ∷ value_text bytes.now) }
 {
@@ -53,7 +49,6 @@ fn push_value(out: &mut Vec<u8>, bytes: &[u8]) -> Result<(), AllocError>
     push_bytes(out, bytes)
 }
 
-// A word, behind a space.
 fn push_word(out: &mut Vec<u8>, word: &[u8]) -> Result<(), AllocError>
     ensures { OnOk result (out.new.items ≡ out.old.items ++ 32 ∷ word.now) }
 {
@@ -61,7 +56,6 @@ fn push_word(out: &mut Vec<u8>, word: &[u8]) -> Result<(), AllocError>
     out.extend_from_slice(word)
 }
 
-// The name of a writer, behind a space.
 fn push_writer(out: &mut Vec<u8>, names: &Names, writer: WriterId) -> Result<(), AllocError>
     ensures { OnOk result (out.new.items ≡ out.old.items ++ 32 ∷ writer_at names.now writer) }
 {
@@ -72,7 +66,6 @@ fn push_writer(out: &mut Vec<u8>, names: &Names, writer: WriterId) -> Result<(),
     Ok(())
 }
 
-// The gets that a put knows, behind a space.
 fn push_seen(out: &mut Vec<u8>, gets: &[u32]) -> Result<(), AllocError>
     ensures { OnOk result (out.new.items ≡ out.old.items ++ spaced (seen_fields gets.now)) }
 {
@@ -83,7 +76,6 @@ fn push_seen(out: &mut Vec<u8>, gets: &[u32]) -> Result<(), AllocError>
     push_numbers(out, gets)
 }
 
-// A word, and numbers behind it.
 fn push_numbered(out: &mut Vec<u8>, word: &[u8], numbers: &[u32]) -> Result<(), AllocError>
     ensures { OnOk result (out.new.items ≡ out.old.items ++ word.now ++ spaced (map decimal numbers.now)) }
 {
@@ -91,7 +83,6 @@ fn push_numbered(out: &mut Vec<u8>, word: &[u8], numbers: &[u32]) -> Result<(), 
     push_numbers(out, numbers)
 }
 
-// A word, and another one behind it.
 fn push_worded(out: &mut Vec<u8>, word: &[u8], text: &[u8]) -> Result<(), AllocError>
     ensures { OnOk result (out.new.items ≡ out.old.items ++ word.now ++ 32 ∷ text.now) }
 {
@@ -99,7 +90,6 @@ fn push_worded(out: &mut Vec<u8>, word: &[u8], text: &[u8]) -> Result<(), AllocE
     push_word(out, text)
 }
 
-// A word, and a node behind it.
 fn push_node(out: &mut Vec<u8>, ring: &Ring, word: &[u8], node: NodeId) -> Result<(), AllocError>
     ensures { OnOk result (out.new.items ≡ out.old.items ++ word.now ++ 32 ∷ name_at (names_of ring.now) node) }
 {
@@ -107,7 +97,7 @@ fn push_node(out: &mut Vec<u8>, ring: &Ring, word: &[u8], node: NodeId) -> Resul
     push_name(out, ring.nodes(), node)
 }
 
-/// Adds the event as its line of a script has it, without the byte 0A.
+/// Adds the event's line without its line feed.
 pub fn push_event(
     out: &mut Vec<u8>,
     ring: &Ring,
@@ -149,7 +139,6 @@ pub fn push_event(
     }
 }
 
-// The line of an event.
 fn push_line(out: &mut Vec<u8>, ring: &Ring, names: &Names, event: &Event) -> Result<(), AllocError>
     ensures { OnOk result
         (out.new.items ≡ out.old.items ++ line_text (event_fields (names_of ring.now) names.now event.now)) }
@@ -159,7 +148,6 @@ fn push_line(out: &mut Vec<u8>, ring: &Ring, names: &Names, event: &Event) -> Re
     Ok(())
 }
 
-// The lines of events.
 fn push_lines(
     out: &mut Vec<u8>,
     ring: &Ring,
@@ -175,7 +163,7 @@ fn push_lines(
     Ok(())
 }
 
-/// The one text of a script over the ring whose writers are numbered so. Its only refusal is `OutOfMemory`.
+/// Writes a script over the ring, with writers by number. Its only refusal is `OutOfMemory`.
 pub fn write_script(
     alloc: Global,
     ring: &Ring,

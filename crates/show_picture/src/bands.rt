@@ -1,14 +1,14 @@
-//! The rows of a picture of many rounds or many nodes: one for each of the busiest nodes, and one for the others of each kind.
+//! Rows for many rounds or many nodes: one for each of the busiest nodes, and one for the others of each kind.
 
 use crate::order::{KINDS, kind};
 use crate::sheet::Sheet;
 use helpers::{at, small};
 use ring_names::Refusal;
 
-// How many nodes have a row of their own.
+// The most nodes with a row of their own.
 const NAMED: usize = 27;
 
-/// A row: a node, or so many of one kind together.
+/// The row of a node, or of several nodes with one kind.
 #[derive(Clone, Copy)]
 pub struct Band {
     pub node: Option<u32>,
@@ -20,11 +20,11 @@ pub struct Band {
 #[derive(Drop)]
 pub struct Bands {
     pub bands: Vec<Band>,
-    // by node, 1 and its row, or 0
+    // by node, 1 plus its row, or 0
     rows: Vec<u32>,
 }
 
-// How many nodes of each kind get a row: in turns, until there are enough.
+// How many nodes of each kind get a row, chosen in turns.
 fn rooms(sheet: &Sheet, nodes: &[u32]) -> [usize; KINDS] {
     let mut counts = [0usize; KINDS];
     for node in nodes {
@@ -47,7 +47,7 @@ fn rooms(sheet: &Sheet, nodes: &[u32]) -> [usize; KINDS] {
 }
 
 impl Bands {
-    /// The nodes come by kind, the busiest of each first.
+    /// Takes nodes by kind, the busiest of each first.
     pub fn of(sheet: &Sheet, nodes: &[u32]) -> Result<Bands, Refusal> {
         let mut bands = Bands {
             bands: Vec::new(sheet.alloc),
@@ -90,7 +90,7 @@ impl Bands {
         Ok(())
     }
 
-    /// Whether some rows are of many nodes together.
+    /// Whether some row has several nodes.
     pub fn have_sums(&self) -> bool {
         for band in self.bands.as_slice() {
             if band.node.is_none() {
@@ -100,7 +100,7 @@ impl Bands {
         false
     }
 
-    /// The row of the node, if it has one.
+    /// Returns the row of the node.
     pub fn row(&self, node: u32) -> Option<usize> {
         match at(self.rows.as_slice(), node as usize) {
             0 => None,

@@ -8,17 +8,17 @@ use crate::svg::{Area, Point, push_area, push_titled};
 use helpers::{Words, small};
 use show_plan::Shown;
 
-// How words stand on a bar: white on a filled one.
+// The classes of words on a filled bar and on a bare one.
 const LIGHT: &[u8] = b"b on";
 
 const DARK: &[u8] = b"b";
 
 const ROUND: &[u8] = b" rx=\"3\"";
 
-// How much room the words of a bar have less than the bar.
+// How much narrower the words of a bar are than the bar.
 const RIM: u32 = 2;
 
-// `5.1`
+// Writes `5.1`.
 fn slot_word(sheet: &Sheet, shown: &Shown) -> Words {
     let mut word = Words::new(sheet.alloc);
     word.number(shown.slot.partition);
@@ -27,7 +27,7 @@ fn slot_word(sheet: &Sheet, shown: &Shown) -> Words {
     word
 }
 
-// `5.1 ← n04`: the slot with the other node.
+// `5.1 ← n04`: the slot and the other node.
 fn whole_words(sheet: &Sheet, shown: &Shown, takes: bool) -> Words {
     let mut words = slot_word(sheet, shown);
     words.text(if takes {
@@ -47,7 +47,7 @@ fn whole_words(sheet: &Sheet, shown: &Shown, takes: bool) -> Words {
     words
 }
 
-// The words of a bar: the slot with the other node where there is room for it, else the slot, else the partition.
+// The words of a bar, by room: slot and other node, only the slot, or only the partition.
 fn label(sheet: &Sheet, shown: &Shown, takes: bool, room: u32) -> Words {
     let whole = whole_words(sheet, shown, takes);
     if can_fit(whole.as_slice(), room) {
@@ -62,7 +62,7 @@ fn label(sheet: &Sheet, shown: &Shown, takes: bool, room: u32) -> Words {
     partition
 }
 
-/// Whether a bar that is so wide has room for the number of each partition that moves.
+/// Whether a bar of this width has room for the number of each moving partition.
 pub fn have_room(sheet: &Sheet, wide: u32) -> bool {
     let mut most = 0u32;
     for shown in sheet.scene.shown.moves.as_slice() {
@@ -78,7 +78,6 @@ pub fn have_room(sheet: &Sheet, wide: u32) -> bool {
     can_fit(digits, wide.saturating_sub(RIM))
 }
 
-// What a bar says to a pointer.
 fn title(sheet: &Sheet, shown: &Shown) -> Words {
     let mut words = Words::new(sheet.alloc);
     words.text(b"step ");
@@ -94,7 +93,9 @@ fn title(sheet: &Sheet, shown: &Shown) -> Words {
     words
 }
 
-/// The bar of a copy at one of its nodes. It is bare while the copy is open, with a part for the chunks that are marked, and where it is left out.
+/// Writes the bar of a copy at one of its nodes.
+///
+/// It is bare while the copy is open, with a part for the marked chunks, and if the copy is left out.
 pub fn push_bar(sheet: &Sheet, out: &mut Words, area: Area, shown: &Shown, takes: bool) {
     let (fill, outline) = if takes {
         (TAKE, b"bare taker".as_slice())

@@ -1,35 +1,35 @@
-//! The cells of a map: how many slots of a row's partitions the nodes of a column own, before the plan and after it.
+//! The cells of a map: how many slots of a row's partitions the nodes of a column own, before and after the plan.
 
 use crate::columns::Columns;
 use crate::sheet::Sheet;
 use helpers::{at, raise};
 use ring_names::{NodeId, Refusal};
 
-// How many rows a map has at most.
+// The most rows of a map.
 const MOST: u32 = 128;
 
-/// How many marks there are.
+/// The number of marks.
 pub const MARKS: usize = 5;
 
-/// A slot that the node owns before and after.
+/// Slots that the node owns before and after.
 pub const KEPT: usize = 0;
 
-/// One that it gives, and with a history still owns.
+/// Slots that it gives, and with a history still owns.
 pub const GIVEN: usize = 1;
 
-/// One that it gave.
+/// Slots that it gave.
 pub const GONE: usize = 2;
 
-/// One that it takes, and with a history owns already.
+/// Slots that it takes, and with a history owns already.
 pub const TAKEN: usize = 3;
 
-/// One that it is still to take.
+/// Slots that it is still to take.
 pub const DUE: usize = 4;
 
-/// How many slots each cell has of each mark.
+/// By cell, its slots of each mark.
 #[derive(Drop)]
 pub struct Cells {
-    /// How many partitions a row has.
+    /// The partitions of a row.
     pub shared: u32,
     pub rows: usize,
     columns: usize,
@@ -71,12 +71,11 @@ impl Cells {
             .saturating_add(column)
     }
 
-    /// How many slots of that mark the cell has.
+    /// Returns the slots of the mark in the cell.
     pub fn at(&self, mark: usize, row: usize, column: usize) -> u32 {
         at(self.counts.as_slice(), self.place(mark, row, column))
     }
 
-    // Counts the owners of a partition.
     fn count(&mut self, sheet: &Sheet, columns: &Columns, partition: u32) {
         let before = owners_of(sheet, partition, Time::Before);
         let after = owners_of(sheet, partition, Time::After);
@@ -109,7 +108,7 @@ impl Cells {
         }
     }
 
-    /// The most slots that a cell has, of all marks together, and at least 1.
+    /// Returns the most slots of a cell, at least 1.
     pub fn most(&self) -> u32 {
         let mut most = 1u32;
         for row in 0..self.rows {
@@ -125,7 +124,6 @@ impl Cells {
     }
 }
 
-// When something is owned.
 #[derive(Clone, Copy)]
 enum Time {
     Before,
@@ -133,7 +131,6 @@ enum Time {
     After,
 }
 
-// The owners of a partition's slots.
 fn owners_of<'a>(sheet: &Sheet<'a>, partition: u32, time: Time) -> &'a [NodeId] {
     let rows = match time {
         Time::Before => sheet.ring.rows(),
@@ -146,7 +143,7 @@ fn owners_of<'a>(sheet: &Sheet<'a>, partition: u32, time: Time) -> &'a [NodeId] 
     }
 }
 
-/// How many partitions there are of which joiners own so many slots in the end, by that number, which is at most 7.
+/// By number of slots, at most 7, how many partitions have so many slots at joiners in the end.
 pub fn joined(sheet: &Sheet) -> [u32; 8] {
     let mut counts = [0u32; 8];
     for row in sheet.scene.last_rows.as_slice() {

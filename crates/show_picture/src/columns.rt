@@ -1,47 +1,46 @@
-//! The columns of a map: one for each node, or for many together.
+//! The columns of a map: one for each node, or for several.
 
 use crate::sheet::Sheet;
 use helpers::{Labels, at, small};
 use ring_names::{NodeId, Refusal};
 
-// How many columns a map has at most.
+// The most columns of a map.
 const MOST: usize = 60;
 
-/// A column: a node, or so many that stand together in one rack, or in none where racks are not asked for.
+/// The column of one node, or of several in one rack, or in none if racks are not asked for.
 #[derive(Clone, Copy)]
 pub struct Column {
     /// The first of its nodes.
     pub node: u32,
     pub count: u32,
-    /// The rack, by number; 0 where racks are not asked for.
+    /// The rack's number; 0 if racks are not asked for.
     pub rack: u32,
     pub is_joining: bool,
 }
 
-/// The columns, and the column of each node that is a member before the plan or after it.
+/// The columns, and the column of each node that is a member before or after.
 #[derive(Drop)]
 pub struct Columns<'a> {
     pub columns: Vec<Column>,
     /// Which nodes share a column.
     pub sharing: Sharing,
-    /// The racks of nodes, if a map is grouped by them.
+    /// The racks of nodes, if the map is grouped by them.
     pub racks: Option<&'a Labels>,
-    // by node, 1 and its column, or 0
+    // by node, 1 plus its column, or 0
     places: Vec<u32>,
 }
 
 /// Which nodes share a column.
 #[derive(Clone, Copy, Debug, PartialEq, Eq)]
 pub enum Sharing {
-    /// None: each has its own.
     Nobody,
     /// Those of a rack, joiners apart.
     Racks,
-    /// So many nodes, joiners apart.
+    /// Up to this many, joiners apart.
     Counts(u32),
 }
 
-// A node in the order of columns: by rack, and in a rack joiners last. Where nodes share columns by number, all joiners come last.
+// A node in the order of columns: by rack, joiners of a rack last. If nodes share columns by number, all joiners are last.
 #[derive(Clone, Copy, PartialEq, Eq, PartialOrd, Ord)]
 struct Placed {
     is_last: bool,
@@ -50,7 +49,6 @@ struct Placed {
     node: u32,
 }
 
-// The nodes that are members before the plan or after it, by rack, joiners of a rack last.
 fn place_nodes(sheet: &Sheet, racks: Option<&Labels>) -> Result<Vec<Placed>, Refusal> {
     let mut placed = Vec::new(sheet.alloc);
     for node in 0..small(sheet.ring.nodes().len()) {
@@ -72,7 +70,7 @@ fn place_nodes(sheet: &Sheet, racks: Option<&Labels>) -> Result<Vec<Placed>, Ref
     Ok(placed)
 }
 
-// How many racks there are, those with joiners twice.
+// Counts the racks, those with joiners twice.
 fn count_racks(placed: &[Placed]) -> usize {
     let mut count = 0usize;
     let mut last = None;
@@ -85,7 +83,7 @@ fn count_racks(placed: &[Placed]) -> usize {
     count
 }
 
-// Who shares a column, so that there are not too many.
+// Chooses which nodes share a column, so that there are few enough.
 fn choose_sharing(placed: &[Placed], has_racks: bool) -> Sharing {
     if placed.len() <= MOST {
         return Sharing::Nobody;
@@ -98,8 +96,8 @@ fn choose_sharing(placed: &[Placed], has_racks: bool) -> Sharing {
 }
 
 impl<'a> Columns<'a> {
-    /// A column for each node where there are at most 60; else one for each rack, joiners apart, where racks are asked for and there are no more of these; else
-    /// one for so many nodes, joiners apart.
+    /// Makes a column for each node, if at most 60. Otherwise a column has a rack, if racks are asked for and few
+    /// enough, or several nodes; joiners are apart.
     pub fn of(sheet: &Sheet, racks: Option<&'a Labels>) -> Result<Columns<'a>, Refusal> {
         let mut placed = place_nodes(sheet, racks)?;
         let sharing = choose_sharing(placed.as_slice(), racks.is_some());
@@ -143,7 +141,6 @@ impl<'a> Columns<'a> {
         Ok(())
     }
 
-    // Whether the node shares the last column.
     fn last_takes(&self, one: &Placed) -> bool {
         let Some(last) = self.columns.as_slice().last() else {
             return false;
@@ -155,7 +152,7 @@ impl<'a> Columns<'a> {
         }
     }
 
-    /// The column of the node, if it has one.
+    /// Returns the column of the node.
     pub fn column(&self, node: u32) -> Option<usize> {
         match at(self.places.as_slice(), node as usize) {
             0 => None,

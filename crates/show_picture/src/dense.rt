@@ -1,4 +1,4 @@
-//! A picture of many rounds or many nodes: columns of equal numbers of rounds, a row of bars for each of the busiest nodes, and the others summed.
+//! A picture of many rounds or many nodes: columns of several rounds each, rows for the busiest nodes, and sums of the others.
 
 use crate::bands::{Band, Bands};
 use crate::fitting::{Look, push_fitting};
@@ -16,32 +16,32 @@ use helpers::{Words, at, parts_of, raise, small};
 use ring_names::Refusal;
 use show_plan::{Shown, push_many};
 
-// How many columns there are at most.
+// The most columns.
 const COLUMNS: u32 = 60;
 
-// Where the bars of all copies begin, how high they are, and where the first row begins.
+// The bars of all copies: their top and height. Then the first row's top.
 const TOP: u32 = 96;
 
 const ALL: u32 = 74;
 
 const FIRST: u32 = 204;
 
-// How far behind the columns the words begin, how wide those of transfers at once are, and what stands behind them.
+// The gap after the columns, the width of transfers at once, and the panel after them.
 const GAP: u32 = 8;
 
 const AT_ONCE: u32 = 118;
 
 const PANEL: u32 = GAP + AT_ONCE + SLOTS + MARGIN;
 
-// How wide the words before the rows are at least and at most.
+// The least and the greatest width of the words before the rows.
 const NARROW: u32 = 90;
 
 const BROAD: u32 = 160;
 
-// How many copies each row takes and gives in each column, and how many of them are done.
+// By row and column, the copies taken and given, and how many are done.
 #[derive(Drop)]
 struct Tally {
-    // how many rounds a column has, and how many columns there are
+    // the rounds of a column, and the number of columns
     rounds: u32,
     columns: usize,
     takes: Vec<u32>,
@@ -83,7 +83,6 @@ impl Tally {
         Ok(tally)
     }
 
-    // The column of a round.
     fn column(&self, round: u32) -> usize {
         match round.saturating_sub(1).checked_div(self.rounds) {
             Some(column) => column as usize,
@@ -120,7 +119,7 @@ impl Tally {
         }
     }
 
-    // The most copies that a cell of a named row has, or of a summed one; at least 1.
+    // The most copies in a cell of a named or of a summed row, at least 1.
     fn most(&self, bands: &Bands, is_named: bool) -> u32 {
         let mut most = 1u32;
         let mut row = 0usize;
@@ -138,7 +137,6 @@ impl Tally {
     }
 }
 
-// Where the rows and columns stand.
 #[derive(Drop)]
 struct Grid {
     left: u32,
@@ -146,13 +144,13 @@ struct Grid {
     right: u32,
     row: u32,
     bottom: u32,
-    // the copies at full height of a named row, and of a summed one, if there is one
+    // the copies at full height in a named row, and in a summed one, if any
     scale: u32,
     sum_scale: u32,
     most: u32,
 }
 
-// What stands before the name of a node of that kind.
+// The sign before the name of a node of the kind.
 fn sign(kind: u32) -> &'static [u8] {
     match kind {
         0 => b"x ",
@@ -162,7 +160,6 @@ fn sign(kind: u32) -> &'static [u8] {
     }
 }
 
-// The words in front of a row.
 fn label(sheet: &Sheet, band: &Band) -> Words {
     let mut words = Words::new(sheet.alloc);
     match band.node {
@@ -231,7 +228,6 @@ impl Grid {
             .saturating_add(self.column.saturating_mul(small(column)))
     }
 
-    // The bar of the copies of all nodes in a column, of which the most are so many.
     fn push_sum(&self, sheet: &Sheet, out: &mut Words, tally: &Tally, sum: (usize, u32)) {
         let (column, most) = sum;
         let floor = TOP + ALL;
@@ -254,7 +250,6 @@ impl Grid {
         }
     }
 
-    // The copies of all nodes, by column.
     fn push_all(&self, sheet: &Sheet, out: &mut Words, tally: &Tally) {
         let mut most = 1u32;
         for count in tally.all.as_slice() {
@@ -276,7 +271,7 @@ impl Grid {
         )
     }
 
-    // The numbers of the rounds with which columns begin, and the heads of what stands at the right.
+    // Writes the first rounds of columns, and the heads at the right.
     fn push_heads(&self, sheet: &Sheet, out: &mut Words, tally: &Tally) {
         let every = (tally.columns / 12).max(1);
         for column in 0..tally.columns {
@@ -294,13 +289,11 @@ impl Grid {
         push_words(out, owned, b" class=\"h\"", slots_head(sheet))
     }
 
-    // The middle of the row of that number.
     fn middle(&self, number: usize) -> u32 {
         let above = self.row.saturating_mul(small(number));
         FIRST.saturating_add(above).saturating_add(self.row / 2)
     }
 
-    // What stands at both ends of a row.
     fn push_ends(&self, sheet: &Sheet, out: &mut Words, number: usize, band: &Band) {
         let middle = self.middle(number);
         let from = Point::at(self.left, middle);
@@ -331,7 +324,7 @@ impl Grid {
         push_slots(sheet, out, node, owned, self.most)
     }
 
-    // How many transfers a node never has more of at once, and below that how much it gives and takes.
+    // Writes a node's most transfers at once, and below how much it gives and takes.
     fn push_work(&self, sheet: &Sheet, out: &mut Words, node: u32, y: u32) {
         let look = Look::new(b"k", 10, b"");
         let x = self.right.saturating_add(GAP);
@@ -346,7 +339,7 @@ impl Grid {
         }
     }
 
-    // The bars of a row: takes upwards, gives downwards.
+    // Writes the bars of a row: takes upwards, gives downwards.
     fn push_bars(&self, sheet: &Sheet, out: &mut Words, tally: &Tally, numbered: (usize, &Band)) {
         let (number, band) = numbered;
         let scale = if band.node.is_some() {
@@ -371,7 +364,7 @@ impl Grid {
         }
     }
 
-    // What is said below the rows; how high the picture is with it.
+    // Writes the notes below the rows. Returns the picture's height.
     fn push_notes(&self, sheet: &Sheet, out: &mut Words, tally: &Tally) -> u32 {
         let y = self.bottom.saturating_add(24);
         let next = push_key(out, Point::at(self.left, y), TAKE, b"", b"takes, upwards");
@@ -415,7 +408,7 @@ struct Bar {
 }
 
 impl Bar {
-    // Of so many copies, of which so many are done; nothing of none.
+    // Writes a bar for copies, some of them done; nothing for none.
     fn push(&self, sheet: &Sheet, out: &mut Words, counts: (u32, u32), is_upwards: bool) {
         let (count, done) = counts;
         if count == 0 {
@@ -443,7 +436,7 @@ impl Bar {
     }
 }
 
-// `rounds 1 to 4: copies 12`
+// Writes `rounds 1 to 4: copies 12`.
 fn rounds_words(sheet: &Sheet, tally: &Tally, column: usize, what: &[u8], count: u32) -> Words {
     let first = small(column).saturating_mul(tally.rounds);
     let mut words = Words::new(sheet.alloc);
@@ -460,7 +453,7 @@ fn rounds_words(sheet: &Sheet, tally: &Tally, column: usize, what: &[u8], count:
     words
 }
 
-/// The picture of many rounds or nodes.
+/// Draws many rounds or nodes.
 pub fn dense_picture(sheet: &Sheet, nodes: &[u32]) -> Result<Vec<u8>, Refusal> {
     let bands = Bands::of(sheet, nodes)?;
     let tally = Tally::of(sheet, &bands)?;

@@ -1,4 +1,4 @@
-//! Which picture is drawn.
+//! Chooses which picture is drawn.
 
 use crate::dense::dense_picture;
 use crate::full::{Plot, full_picture};
@@ -12,8 +12,10 @@ const ROUNDS: u32 = 40;
 
 const LANES: u32 = 90;
 
-/// The picture of a plan, and of how far a run has come where there is one, as SVG. It has every copy up to 40 rounds and 90 lanes, where each bar
-/// has room for the number of its partition, and else at most 60 columns and 31 rows of sums. The same plan has the same bytes. Its only refusal is `OutOfMemory`.
+/// Draws a plan, and how far a run has come, as SVG. The same plan has the same bytes. Fails only with `OutOfMemory`.
+///
+/// Shows every copy up to 40 rounds and 90 lanes, if each bar has room for its partition's number. Otherwise shows
+/// sums, in at most 60 columns and 31 rows.
 pub fn picture(sheet: &Sheet) -> Result<Vec<u8>, Refusal> {
     let nodes = in_order(sheet)?;
     if sheet.scene.round_count() > ROUNDS || nodes.len() > LANES as usize {
@@ -34,7 +36,6 @@ pub fn picture(sheet: &Sheet) -> Result<Vec<u8>, Refusal> {
     full_picture(sheet, nodes.as_slice(), &plot)
 }
 
-// The lanes with all copies counted.
 fn counted(sheet: &Sheet, nodes: &[u32]) -> Result<Lanes, Refusal> {
     let mut lanes = Lanes::new(sheet, nodes)?;
     for shown in sheet.scene.shown.moves.as_slice() {

@@ -7,7 +7,7 @@ use helpers::Words;
 // The least size of words, in pixels.
 const LEAST: u32 = 10;
 
-/// How words look: their class, the size of its font, and further attributes, each after a space.
+/// The class of words, their font size, and further attributes, each after a space.
 #[derive(Clone, Copy)]
 pub struct Look<'a> {
     pub class: &'a [u8],
@@ -16,13 +16,13 @@ pub struct Look<'a> {
 }
 
 impl<'a> Look<'a> {
-    /// Words of that class and size with these attributes.
+    /// Words of the class and size, with attributes.
     pub fn new(class: &'a [u8], size: u32, more: &'a [u8]) -> Look<'a> {
         Look { class, size, more }
     }
 }
 
-// The greatest size from 10 pixels up to that of the look in which the words fit, if there is one.
+// The greatest size from 10 pixels on in which the words fit.
 fn size_for(look: Look, words: &[u8], room: u32) -> Option<u32> {
     let mut found = None;
     for size in LEAST..look.size.saturating_add(1) {
@@ -33,14 +33,13 @@ fn size_for(look: Look, words: &[u8], room: u32) -> Option<u32> {
     found
 }
 
-// ` style="font-size:10px"`
 fn push_size(out: &mut Words, size: u32) {
     out.text(b" style=\"font-size:");
     out.number(size);
     out.text(b"px\"");
 }
 
-/// Words in so much room: of their own size, of a smaller one from 10 pixels on, or as narrow as they must be.
+/// Writes words into a room: in their own size, in a smaller one from 10 pixels on, or narrowed.
 pub fn push_fitting(out: &mut Words, at: Point, look: Look, words: &Words, room: u32) {
     push_begin(out, at);
     out.text(b" class=\"");
@@ -60,14 +59,13 @@ pub fn push_fitting(out: &mut Words, at: Point, look: Look, words: &Words, room:
     out.text(b"</text>\n");
 }
 
-// Makes the words of that size as narrow as the room.
 fn push_narrow(out: &mut Words, size: u32, room: u32) {
     push_size(out, size);
     push_measure(out, b"textLength", room);
     out.text(b" lengthAdjust=\"spacingAndGlyphs\"");
 }
 
-/// Whether the words fit at their least size where they are made narrower by a fifth at most.
+/// Whether the words fit at their least size, narrowed by at most a fifth.
 pub fn can_fit(words: &[u8], room: u32) -> bool {
     width(words, LEAST).saturating_mul(4) <= room.saturating_mul(5)
 }

@@ -1,4 +1,4 @@
-//! What stands round the rows of a picture.
+//! The frame around the rows of a picture.
 
 use crate::fitting::{Look, push_fitting};
 use crate::sheet::Sheet;
@@ -11,13 +11,12 @@ use show_plan::{
     fewest_moves, push_change, push_many, push_moves, push_names, push_quorum, push_short,
 };
 
-// How wide the bar of progress is.
+// The width of the bar of progress.
 const BAR: u32 = 210;
 
-/// How wide the words of a picture are at most.
+/// The greatest width of words.
 pub const ROOM: u32 = WIDE - 2 * MARGIN;
 
-// What the plan does.
 fn tell_change(sheet: &Sheet, out: &mut Words) {
     let scene = sheet.scene;
     push_change(out, sheet.names, scene);
@@ -27,7 +26,6 @@ fn tell_change(sheet: &Sheet, out: &mut Words) {
     push_many(out, scene.round_count(), b"round", b"rounds")
 }
 
-// What the ring is, and how wide the rounds are.
 fn tell_ring(sheet: &Sheet, out: &mut Words) {
     let scene = sheet.scene;
     push_quorum(out, sheet.ring, b", any ", b" and any ");
@@ -40,7 +38,7 @@ fn tell_ring(sheet: &Sheet, out: &mut Words) {
     }
 }
 
-/// The title of a picture, and what is said below it.
+/// Returns the title of a picture, and the words below.
 pub fn caption_of(sheet: &Sheet) -> Caption {
     let mut caption = Caption {
         title: Words::new(sheet.alloc),
@@ -51,7 +49,7 @@ pub fn caption_of(sheet: &Sheet) -> Caption {
     caption
 }
 
-/// The title over a picture, what is said below it, and how many steps are done.
+/// Writes the title, the words below, and how many steps are done.
 pub fn push_frame(sheet: &Sheet, out: &mut Words, caption: &Caption) {
     // Bold words are wider by about an eighth.
     let title = Look::new(b"t", 19, b"");
@@ -68,7 +66,7 @@ pub fn push_frame(sheet: &Sheet, out: &mut Words, caption: &Caption) {
     push_progress(sheet, out)
 }
 
-// How much moves, or how much of it is left, if partitions have sizes.
+// Writes how much moves or remains, if partitions have sizes.
 fn push_sizes(sheet: &Sheet, out: &mut Words) {
     let Some(volumes) = sheet.volumes else {
         return;
@@ -90,7 +88,6 @@ fn push_sizes(sheet: &Sheet, out: &mut Words) {
     push_fitting(out, Point::at(MARGIN, 75), look, &words, ROOM / 2)
 }
 
-// The bar that says how many steps are done.
 fn push_progress(sheet: &Sheet, out: &mut Words) {
     let Some(progress) = sheet.progress else {
         return;
@@ -114,7 +111,7 @@ fn push_progress(sheet: &Sheet, out: &mut Words) {
     push_said(out, right, b" class=\"s\" text-anchor=\"end\"", &words)
 }
 
-/// A patch of that class with its meaning, and where the next one may stand.
+/// Writes a patch of the class with its meaning. Returns the place for the next.
 pub fn push_key(out: &mut Words, at: Point, class: &[u8], more: &[u8], words: &[u8]) -> Point {
     let patch = Area {
         x: at.x,
@@ -128,7 +125,7 @@ pub fn push_key(out: &mut Words, at: Point, class: &[u8], more: &[u8], words: &[
     Point::at(x.saturating_add(width(words, 11)).saturating_add(20), at.y)
 }
 
-/// The class of a node's name: its colour and weight say what it does, and it is crossed out if it does not answer.
+/// Returns the class of a node's name. Colour and weight show the role; nodes that do not answer are crossed out.
 pub fn name_class(sheet: &Sheet, node: u32) -> &'static [u8] {
     match (sheet.is_silent(node), sheet.leaves(node), sheet.joins(node)) {
         (false, true, _) => b"n leaves",
@@ -140,7 +137,7 @@ pub fn name_class(sheet: &Sheet, node: u32) -> &'static [u8] {
     }
 }
 
-/// The name of a node, which ends at its place.
+/// Writes the name of a node, ending at the place.
 pub fn push_name(sheet: &Sheet, out: &mut Words, at: Point, node: u32, room: u32) {
     let look = Look::new(name_class(sheet, node), 12, b" text-anchor=\"end\"");
     let mut words = Words::new(sheet.alloc);
@@ -154,7 +151,7 @@ pub fn push_name(sheet: &Sheet, out: &mut Words, at: Point, node: u32, room: u32
     push_fitting(out, at, look, &words, room)
 }
 
-/// The members that do nothing, in words, where there are any.
+/// Writes the members that do nothing, if any.
 pub fn push_idle(sheet: &Sheet, out: &mut Words, at: Point) -> Result<(), Refusal> {
     let mut idle = Vec::new(sheet.alloc);
     for node in 0..small(sheet.ring.nodes().len()) {

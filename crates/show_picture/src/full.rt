@@ -1,4 +1,4 @@
-//! A picture with every copy: a row for each node, a column for each round, a bar for each copy of a node.
+//! A picture with every copy: rows for nodes, columns for rounds, and a bar for each copy of a node.
 
 use crate::bars::{have_room, push_bar};
 use crate::fitting::{Look, push_fitting};
@@ -16,25 +16,24 @@ use helpers::Words;
 use ring_names::Refusal;
 use show_plan::Shown;
 
-// How high a lane is, and the least that a row is.
+// The height of a lane, and the least of a row.
 const LANE: u32 = 19;
 
 const ROW: u32 = 44;
 
-// The least that a row is if it says how much moves.
+// The least height of a row with sizes.
 const SIZED_ROW: u32 = 56;
 
-// Where the first row begins, and how far behind the columns the slots that a node owns begin.
+// The top of the first row, and the gap before the slots.
 const TOP: u32 = 112;
 
 const GAP: u32 = 16;
 
-// How wide the words before the rows are at least and at most.
+// The least and the greatest width of the words before the rows.
 const NARROW: u32 = 100;
 
 const BROAD: u32 = 190;
 
-// A row of a picture.
 #[derive(Clone, Copy)]
 struct Row {
     node: u32,
@@ -43,7 +42,7 @@ struct Row {
     lanes: u32,
 }
 
-/// Where the rows and columns of a picture stand.
+/// The places of the rows and columns.
 #[derive(Drop)]
 pub struct Plot {
     rows: Vec<Row>,
@@ -55,7 +54,7 @@ pub struct Plot {
 }
 
 impl Plot {
-    /// The rows of the nodes, as high as the most copies that one has in a round.
+    /// Places the nodes in rows, as high as their most copies in a round.
     pub fn of(sheet: &Sheet, nodes: &[u32], lanes: &Lanes) -> Result<Plot, Refusal> {
         let left = words_before(sheet, nodes)?.saturating_add(MARGIN + 12);
         let rounds = sheet.scene.round_count().max(1);
@@ -85,7 +84,6 @@ impl Plot {
         have_room(sheet, self.column.saturating_sub(4))
     }
 
-    // Gives each node its row, which is at least so high.
     fn place(&mut self, nodes: &[u32], lanes: &Lanes, least: u32) -> Result<(), Refusal> {
         for place in 0..nodes.len() {
             let needed = lanes.needed(place);
@@ -101,13 +99,11 @@ impl Plot {
         Ok(())
     }
 
-    // Where a round's column begins.
     fn start(&self, round: u32) -> u32 {
         let before = round.saturating_sub(1);
         self.left.saturating_add(self.column.saturating_mul(before))
     }
 
-    // The columns, and their numbers.
     fn push_columns(&self, sheet: &Sheet, out: &mut Words) {
         let rounds = sheet.scene.round_count();
         for round in 1..=rounds {
@@ -131,7 +127,6 @@ impl Plot {
         push_words(out, head, b" class=\"h\"", slots_head(sheet))
     }
 
-    // The number of a round over its column.
     fn push_round(&self, sheet: &Sheet, out: &mut Words, round: u32) {
         let mut words = Words::new(sheet.alloc);
         if self.column > 56 {
@@ -143,7 +138,6 @@ impl Plot {
         push_said(out, place, b" class=\"h\" text-anchor=\"middle\"", &words);
     }
 
-    // What stands at both ends of a row.
     fn push_ends(&self, sheet: &Sheet, out: &mut Words, row: &Row) {
         let middle = row.y.saturating_add(row.height / 2);
         self.push_role(sheet, out, row.node, middle);
@@ -154,7 +148,7 @@ impl Plot {
         push_rule(out, from, Point::at(self.right, line))
     }
 
-    // The name of a row's node, what it does, how many transfers it never has more of at once, and how much it gives and takes.
+    // Writes a node's name, role, most transfers at once, and sizes.
     fn push_role(&self, sheet: &Sheet, out: &mut Words, node: u32, middle: u32) {
         let (role, at_once, sizes) = sides_of(sheet, node);
         let first = match count_said(&role, &at_once, &sizes) {
@@ -170,7 +164,7 @@ impl Plot {
         let _ = self.push_side(out, y, &sizes);
     }
 
-    // Small words before a row, if there are any. Answers where the next may stand.
+    // Writes small words before a row, if any. Returns the next place.
     fn push_side(&self, out: &mut Words, y: u32, words: &Words) -> u32 {
         out.heed(words);
         if words.len() == 0 {
@@ -198,7 +192,7 @@ impl Plot {
         }
     }
 
-    // What is said below the rows; how high the picture is with it.
+    // Writes the notes below the rows. Returns the picture's height.
     fn push_notes(&self, sheet: &Sheet, out: &mut Words) -> Result<u32, Refusal> {
         let y = self.bottom.saturating_add(18);
         let start = Point::at(self.left, y);
@@ -221,13 +215,12 @@ impl Plot {
     }
 }
 
-// What stands below every picture.
 const LINES: [&[u8]; 2] = [
     b"In a round stand the copies that wait only for copies to their left. Nothing stops between rounds:",
     b"a copy begins as soon as the steps are done that it waits for.",
 ];
 
-// What the bars mean where a run has begun.
+// Writes what the bars mean in a run.
 fn push_done_keys(out: &mut Words, start: Point) {
     let round = b" rx=\"2\"";
     let next = push_key(out, start, SOME, round, b"copied");
@@ -235,7 +228,7 @@ fn push_done_keys(out: &mut Words, start: Point) {
     push_key(out, next, b"bare edge", round, b"still to do");
 }
 
-// What the bars mean of a plan alone.
+// Writes what the bars mean in a plan without a run.
 fn push_plan_keys(out: &mut Words, start: Point) {
     let round = b" rx=\"2\"";
     let next = push_key(out, start, GIVE, round, b"gives a slot");
@@ -243,7 +236,6 @@ fn push_plan_keys(out: &mut Words, start: Point) {
     push_key(out, next, TAKE, round, takes);
 }
 
-// How wide the words before the rows are.
 fn words_before(sheet: &Sheet, nodes: &[u32]) -> Result<u32, Refusal> {
     let mut wide = NARROW;
     for node in nodes {
@@ -256,21 +248,19 @@ fn words_before(sheet: &Sheet, nodes: &[u32]) -> Result<u32, Refusal> {
     Ok(wide.min(BROAD))
 }
 
-// What a node does, how many transfers it never has more of at once, and how much it gives and takes.
 fn sides_of(sheet: &Sheet, node: u32) -> (Words, Words, Words) {
     let at_once = sheet.at_once(node);
     let role = role_of(sheet, node, at_once.len() > 0);
     (role, at_once, sheet.sizes(node))
 }
 
-// How many of these have words.
 fn count_said(role: &Words, at_once: &Words, sizes: &Words) -> u32 {
     u32::from(role.len() > 0)
         .saturating_add(u32::from(at_once.len() > 0))
         .saturating_add(u32::from(sizes.len() > 0))
 }
 
-// `joins`, and `down, leaves, never more than`
+// Writes `joins`, or `down, leaves, never more than`.
 fn role_of(sheet: &Sheet, node: u32, has_bound: bool) -> Words {
     let parts = [
         (sheet.is_silent(node), sheet.present.silence(node)),
@@ -290,7 +280,7 @@ fn role_of(sheet: &Sheet, node: u32, has_bound: bool) -> Words {
     words
 }
 
-// The bars of a copy, one for each of its nodes.
+// Writes the bars of a copy, one for each of its nodes.
 fn push_copy(sheet: &Sheet, out: &mut Words, plot: &Plot, lanes: &mut Lanes, shown: &Shown) {
     push_part(sheet, out, plot, lanes, (shown, shown.to));
     for node in sheet.scene.shown.read_by(shown) {
@@ -298,7 +288,6 @@ fn push_copy(sheet: &Sheet, out: &mut Words, plot: &Plot, lanes: &mut Lanes, sho
     }
 }
 
-// The bar of a copy at that node.
 fn push_part(sheet: &Sheet, out: &mut Words, plot: &Plot, lanes: &mut Lanes, part: (&Shown, u32)) {
     let (shown, node) = part;
     let Some(place) = lanes.row(node) else {
@@ -312,7 +301,7 @@ fn push_part(sheet: &Sheet, out: &mut Words, plot: &Plot, lanes: &mut Lanes, par
     push_bar(sheet, out, area, shown, node == shown.to)
 }
 
-/// The picture of every copy, where each bar has room for words.
+/// Draws every copy. Each bar must have room for words.
 pub fn full_picture(sheet: &Sheet, nodes: &[u32], plot: &Plot) -> Result<Vec<u8>, Refusal> {
     let caption = caption_of(sheet);
     let mut shapes = Words::new(sheet.alloc);

@@ -1,22 +1,22 @@
-//! The lanes of a node: one for each copy that it has in a round.
+//! The lanes of a node: one for each copy in a round.
 
 use crate::sheet::Sheet;
 use helpers::{at, raise};
 use ring_names::Refusal;
 use show_plan::Shown;
 
-/// How many copies each row has in each round, as far as they are counted.
+/// By row and round, the copies counted so far.
 #[derive(Drop)]
 pub struct Lanes {
-    // by row, and then by round
+    // by row, then by round
     busy: Vec<u32>,
     rounds: usize,
-    // by node, 1 and its row, or 0
+    // by node, 1 plus its row, or 0
     rows: Vec<u32>,
 }
 
 impl Lanes {
-    /// No copy is counted yet.
+    /// Starts without copies.
     pub fn new(sheet: &Sheet, nodes: &[u32]) -> Result<Lanes, Refusal> {
         let rounds = sheet.scene.widths.len().saturating_add(1);
         let mut rows = vec![in sheet.alloc; 0u32; sheet.ring.nodes().len()]?;
@@ -34,7 +34,7 @@ impl Lanes {
         })
     }
 
-    /// The node's row, if it has one.
+    /// Returns the node's row.
     pub fn row(&self, node: u32) -> Option<usize> {
         match at(self.rows.as_slice(), node as usize) {
             0 => None,
@@ -42,13 +42,12 @@ impl Lanes {
         }
     }
 
-    // Where a row's copies of a round are counted.
     fn place(&self, row: usize, round: u32) -> usize {
         row.saturating_mul(self.rounds)
             .saturating_add(round as usize)
     }
 
-    /// Counts a copy of a row and a round, and tells how many stood there before: its lane.
+    /// Counts a copy of a row and a round. Returns its lane: the count before.
     pub fn take(&mut self, row: usize, round: u32) -> u32 {
         let place = self.place(row, round);
         let lane = at(self.busy.as_slice(), place);
@@ -68,7 +67,7 @@ impl Lanes {
         }
     }
 
-    /// How many lanes the row needs.
+    /// Returns how many lanes the row needs.
     pub fn needed(&self, row: usize) -> u32 {
         let mut most = 0u32;
         for round in 0..self.rounds {

@@ -1,4 +1,4 @@
-//! A plan as a picture: who gives what to whom in which round, as SVG.
+//! Draws a plan as SVG: which node gives which slot to which node, in which round.
 #![tactic(auto)]
 
 mod bands;

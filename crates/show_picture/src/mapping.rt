@@ -1,4 +1,4 @@
-//! A map of who owns what: a row for each partition, a column for each node, a cell where the node owns a slot before the plan or after it.
+//! A map of owners: rows for partitions, columns for nodes, and cells for the slots owned before or after the plan.
 
 use crate::cells::{Cells, DUE, GIVEN, GONE, KEPT, MARKS, TAKEN, joined};
 use crate::columns::{Column, Columns, Sharing};
@@ -11,21 +11,20 @@ use helpers::{Labels, Words, at, parts_of, small};
 use ring_names::Refusal;
 use show_plan::push_many;
 
-// How far down the names of racks stand, and those of the columns begin.
+// The place of rack names; the names of columns begin below.
 const HEAD: u32 = 98;
 
-// How much room the names of columns have.
+// The room for the names of columns.
 const NAMES: u32 = 120;
 
-// How wide a column is at most, and how far behind the left edge the first begins.
+// The greatest width of a column, and the place of the first.
 const WIDEST: u32 = 58;
 
-// Below which width of columns their names are small.
+// Narrower columns have small names.
 const NARROW: u32 = 18;
 
 const LEFT: u32 = MARGIN + 42;
 
-// How each mark is painted.
 fn class_of_mark(mark: usize) -> &'static [u8] {
     match mark {
         KEPT => b"kept",
@@ -36,14 +35,13 @@ fn class_of_mark(mark: usize) -> &'static [u8] {
     }
 }
 
-// Where rows and columns stand.
 #[derive(Clone, Copy)]
 struct Grid {
     top: u32,
     row: u32,
     column: u32,
     bottom: u32,
-    // how many slots fill a cell
+    // the slots that fill a cell
     most: u32,
 }
 
@@ -83,7 +81,6 @@ impl Grid {
         self.top.saturating_add(self.row.saturating_mul(small(row)))
     }
 
-    // The ground of a column.
     fn push_ground(&self, out: &mut Words, place: usize, column: &Column) {
         let ground = Area {
             x: self.x(place),
@@ -101,7 +98,7 @@ impl Grid {
         push_area(out, ground, class, b"")
     }
 
-    // What stands over a column, from below upwards.
+    // Writes a column's name upwards.
     fn push_label(&self, sheet: &Sheet, out: &mut Words, place: usize, named: (&Column, &Words)) {
         let (column, words) = named;
         let is_small = self.column < NARROW;
@@ -121,7 +118,7 @@ impl Grid {
         push_fitting(out, Point::at(x, y), look, words, NAMES / 9 * 8)
     }
 
-    // The columns, with the name of each rack over its first one.
+    // Writes the columns, and the name of each rack over its first.
     fn push_columns(&self, sheet: &Sheet, out: &mut Words, columns: &Columns) {
         let mut place = 0usize;
         let mut last = None;
@@ -142,7 +139,6 @@ impl Grid {
         }
     }
 
-    // The numbers of partitions before the rows.
     fn push_numbers(&self, sheet: &Sheet, out: &mut Words, cells: &Cells) {
         for row in 0..cells.rows {
             if self.row >= 12 || row % 4 == 0 {
@@ -155,7 +151,7 @@ impl Grid {
         }
     }
 
-    // The cells of a column, of one mark, as one shape.
+    // Writes a column's cells of one mark as one shape.
     fn push_cells(&self, out: &mut Words, cells: &Cells, column: usize, mark: usize) {
         let mut is_open = false;
         for row in 0..cells.rows {
@@ -180,7 +176,7 @@ impl Grid {
         }
     }
 
-    // A cell's part from one number of slots to another, of the most that a cell has.
+    // Writes the part of a cell between two numbers of slots.
     fn push_cell(&self, out: &mut Words, place: (usize, usize), slots: (u32, u32)) {
         let (row, column) = place;
         let (from, to) = slots;
@@ -203,7 +199,7 @@ impl Grid {
         out.byte(b'z');
     }
 
-    // What is said below the rows; how high the picture is with it.
+    // Writes the notes below the rows. Returns the picture's height.
     fn push_notes(&self, sheet: &Sheet, out: &mut Words, columns: &Columns, cells: &Cells) -> u32 {
         let y = self.bottom.saturating_add(26);
         push_keys(sheet, out, Point::at(MARGIN, y));
@@ -227,7 +223,6 @@ impl Grid {
     }
 }
 
-// What stands over a column: the name of its node or of the first, or that of its rack.
 fn label(sheet: &Sheet, columns: &Columns, column: &Column) -> Words {
     let own = sheet.names.name(column.node);
     let mut words = Words::new(sheet.alloc);
@@ -248,7 +243,6 @@ fn label(sheet: &Sheet, columns: &Columns, column: &Column) -> Words {
     words
 }
 
-// The class of those words.
 fn class_of(sheet: &Sheet, column: &Column, is_small: bool) -> Words {
     let mut class = Words::new(sheet.alloc);
     if column.count == 1 {
@@ -264,7 +258,6 @@ fn class_of(sheet: &Sheet, column: &Column, is_small: bool) -> Words {
     class
 }
 
-// What the marks mean.
 fn push_keys(sheet: &Sheet, out: &mut Words, start: Point) {
     let next = push_key(
         out,
@@ -284,7 +277,6 @@ fn push_keys(sheet: &Sheet, out: &mut Words, start: Point) {
     push_key(out, next, class_of_mark(DUE), b"", b"still to take");
 }
 
-// What rows and columns are.
 fn parts_words(sheet: &Sheet, columns: &Columns, cells: &Cells) -> Words {
     let mut words = Words::new(sheet.alloc);
     words.text(b"Who owns what before and after. A row is ");
@@ -307,7 +299,6 @@ fn parts_words(sheet: &Sheet, columns: &Columns, cells: &Cells) -> Words {
     words
 }
 
-// How many slots of how many partitions joiners own in the end.
 fn joiners_words(sheet: &Sheet) -> Words {
     let counts = joined(sheet);
     let mut words = Words::new(sheet.alloc);
@@ -327,8 +318,10 @@ fn joiners_words(sheet: &Sheet) -> Words {
     words
 }
 
-/// The map of who owns what before the plan and after it, as SVG: by node, grouped by rack where racks are asked for. Above 128 partitions rows have several, and
-/// above 60 nodes columns. Its only refusal is `OutOfMemory`.
+/// Draws the owners before and after the plan, as SVG, by node, grouped by rack if asked for. Fails only with
+/// `OutOfMemory`.
+///
+/// Above 128 partitions rows share, above 60 nodes columns do.
 pub fn map_picture(sheet: &Sheet, racks: Option<&Labels>) -> Result<Vec<u8>, Refusal> {
     let columns = Columns::of(sheet, racks)?;
     let cells = Cells::of(sheet, &columns)?;

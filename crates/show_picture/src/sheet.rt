@@ -1,4 +1,4 @@
-//! What a picture is made of.
+//! The input of a picture.
 
 use helpers::{Words, at, word};
 use plan_moves::Progress;
@@ -7,7 +7,7 @@ use ring_table::Ring;
 use show_plan::{NodeNames, Present, Scene, Shown, Volumes, push_short};
 use std::alloc::Global;
 
-/// An approved plan with what is shown of it, and how far a run has come, where there is one.
+/// An approved plan with what is shown of it, and a run's progress, if any.
 #[derive(Clone, Copy)]
 pub struct Sheet<'a> {
     pub alloc: Global,
@@ -15,7 +15,7 @@ pub struct Sheet<'a> {
     pub names: NodeNames<'a>,
     pub plan: &'a Plan,
     pub scene: &'a Scene,
-    /// How the ring stands after the last entry of the history, or before the first step.
+    /// The ring after the last entry of the history, or before the first step.
     pub present: &'a Present,
     pub progress: Option<&'a Progress>,
     /// How much moves, if partitions have sizes.
@@ -23,7 +23,7 @@ pub struct Sheet<'a> {
 }
 
 impl<'a> Sheet<'a> {
-    /// The move of that place.
+    /// Returns the move at the place.
     pub fn shown(&self, place: u32) -> Option<&Shown> {
         self.scene.shown.moves.as_slice().get(place as usize)
     }
@@ -38,12 +38,12 @@ impl<'a> Sheet<'a> {
         self.scene.joins.as_slice().contains(&node)
     }
 
-    /// Whether the node does not answer, since it is dead or down.
+    /// Whether the node is dead or down.
     pub fn is_silent(&self, node: u32) -> bool {
         self.present.is_silent(node)
     }
 
-    /// How much the node gives and takes: `gives 8.5 G, takes 120`. No words if partitions have no sizes, or nothing of its moves.
+    /// Writes how much the node gives and takes: `gives 8.5 G, takes 120`. Empty without sizes or moves.
     pub fn sizes(&self, node: u32) -> Words {
         let mut text = Words::new(self.alloc);
         let Some(volumes) = self.volumes else {
@@ -65,13 +65,13 @@ impl<'a> Sheet<'a> {
         text
     }
 
-    /// How many transfers the node has.
+    /// Returns how many transfers the node has.
     pub fn work(&self, node: u32) -> u32 {
         let gives = at(self.scene.loads.gives.as_slice(), node as usize);
         gives.saturating_add(at(self.scene.loads.takes.as_slice(), node as usize))
     }
 
-    /// How many transfers the node never has more of at once, and how many it bears: `3 at once (bears 4)`.
+    /// Writes the node's most transfers at once, and its allowance: `3 at once (bears 4)`.
     pub fn at_once(&self, node: u32) -> Words {
         let mut text = Words::new(self.alloc);
         if let Some(declared) = self.ring.nodes().get(node as usize) {

@@ -1,4 +1,4 @@
-//! How many slots a node owns, in the beginning, now and in the end, as a bar.
+//! Bars of the slots that a node owns: at first, now and in the end.
 
 use crate::fitting::{Look, push_fitting};
 use crate::sheet::Sheet;
@@ -9,13 +9,13 @@ use helpers::{Words, at, parts_of};
 // The width of the longest bar.
 const BAR: u32 = 70;
 
-// How wide the numbers behind a bar are at most.
+// The greatest width of the numbers after a bar.
 const NUMBERS: u32 = 86;
 
-/// How wide bar and numbers are at most.
+/// The greatest width of bar and numbers.
 pub const SLOTS: u32 = BAR + 8 + NUMBERS;
 
-/// The most slots that one of the nodes owns in the beginning or in the end, and at least 1.
+/// Returns the most slots that a node owns at first or in the end, at least 1.
 pub fn most_owned(sheet: &Sheet, nodes: &[u32]) -> u32 {
     let loads = &sheet.scene.loads;
     let mut most = 1u32;
@@ -28,7 +28,7 @@ pub fn most_owned(sheet: &Sheet, nodes: &[u32]) -> u32 {
 
 const ARROW: &[u8] = b" \xe2\x86\x92 ";
 
-/// What stands over the bars.
+/// Returns the words over the bars.
 pub fn slots_head(sheet: &Sheet) -> &'static [u8] {
     if sheet.progress.is_some() {
         return b"slots: begun \xe2\x86\x92 now \xe2\x86\x92 end";
@@ -36,8 +36,9 @@ pub fn slots_head(sheet: &Sheet) -> &'static [u8] {
     b"slots owned, now \xe2\x86\x92 then"
 }
 
-/// A grey bar of the slots that the node keeps, with what it takes in colour or what it gives in outline, and the numbers: `16 → 13`, or with a history
-/// `16 → 14 → 13`, where a line through the bar stands at what it owns now.
+/// Writes a grey bar of kept slots, with taken ones in colour or given ones in outline, and the numbers: `16 → 13`.
+///
+/// With a history they are `16 → 14 → 13`, and a line through the bar shows the slots owned now.
 pub fn push_slots(sheet: &Sheet, out: &mut Words, node: u32, at_place: Point, most: u32) {
     let loads = &sheet.scene.loads;
     let before = at(loads.before.as_slice(), node as usize);
@@ -63,7 +64,7 @@ pub fn push_slots(sheet: &Sheet, out: &mut Words, node: u32, at_place: Point, mo
     push_numbers(sheet, out, at_place, node)
 }
 
-// With a history a line at what the node owns now, where the end is another.
+// Writes a line at the slots owned now, if they differ from the end.
 fn push_now(sheet: &Sheet, out: &mut Words, node: u32, at_place: Point, most: u32) {
     let loads = &sheet.scene.loads;
     let before = at(loads.before.as_slice(), node as usize);
@@ -81,7 +82,7 @@ fn push_now(sheet: &Sheet, out: &mut Words, node: u32, at_place: Point, most: u3
     push_area(out, line, INK, b"")
 }
 
-// `16 → 13` behind the bar, with a history `16 → 14 → 13`, or one number where nothing changes.
+// Writes `16 → 13`, with a history `16 → 14 → 13`, or one number if nothing changes.
 fn push_numbers(sheet: &Sheet, out: &mut Words, place: Point, node: u32) {
     let loads = &sheet.scene.loads;
     let before = at(loads.before.as_slice(), node as usize);

@@ -8,15 +8,14 @@ use show_plan::Shown;
 pub enum State {
     /// There is no run.
     Planned,
-    /// It is copied.
     Copied,
-    /// It is open, and so many of its 16 chunks are copied.
+    /// It is open, with this many of its 16 chunks copied.
     Open(u32),
     /// It is still to do.
     Left,
 }
 
-/// The state of the move's copy.
+/// Returns the state of the move's copy.
 pub fn state_of(sheet: &Sheet, shown: &Shown) -> State {
     let Some(progress) = sheet.progress else {
         return State::Planned;

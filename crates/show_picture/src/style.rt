@@ -1,4 +1,4 @@
-//! How shapes and words look, by class, on a light page and on a dark one.
+//! The looks of shapes and words, by class, on light and dark pages.
 
 /// The ground of a picture.
 pub const PAGE: &[u8] = b"page";
@@ -18,13 +18,14 @@ pub const KEPT: &[u8] = b"kept";
 /// A mark in the colour of words.
 pub const INK: &[u8] = b"ink";
 
-/// Copies of whichever kind.
+/// Copies of any kind.
 pub const SOME: &[u8] = b"some";
 
 /// Copies that are still to do.
 pub const PALE: &[u8] = b"pale";
 
-/// The rules of the classes. Words are at least 10 pixels high; white on orange and on blue has a contrast of 4.5 and more in both.
+/// The rules of the classes. Words are at least 10 pixels high. White on orange or blue has a contrast of at least 4.5
+/// on both pages.
 pub const STYLE: &[u8] = b"<style>
 text{font-family:'DejaVu Sans',Verdana,sans-serif;fill:#16202c}
 .t{font-size:19px;font-weight:bold}.s,.n{font-size:12px}.b,.h{font-size:11px}.c,.k{font-size:10px}

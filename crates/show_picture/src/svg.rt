@@ -3,10 +3,10 @@
 use crate::style::{PAGE, STYLE};
 use helpers::Words;
 
-/// How wide every picture is: a page of a repository shows it in about this width.
+/// The width of every picture, about that of a repository's page.
 pub const WIDE: u32 = 900;
 
-/// How far from the edges of a picture its words begin and end.
+/// The margin of words at the edges.
 pub const MARGIN: u32 = 24;
 
 /// A rectangle.
@@ -26,13 +26,13 @@ pub struct Point {
 }
 
 impl Point {
-    /// The place at so many to the right and so many down.
+    /// Makes a place from its distance to the left and to the top.
     pub fn at(x: u32, y: u32) -> Point {
         Point { x, y }
     }
 }
 
-/// What is said of a picture: the title over it, and what stands below that.
+/// The title over a picture, and the words below it.
 #[derive(Drop)]
 pub struct Caption {
     pub title: Words,
@@ -48,7 +48,7 @@ pub fn push_measure(out: &mut Words, name: &[u8], number: u32) {
     out.byte(b'"');
 }
 
-// The beginning of a rectangle of that class, up to what closes it.
+// Writes a rectangle without its closing.
 fn push_open(out: &mut Words, area: Area, class: &[u8], more: &[u8]) {
     out.text(b"<rect");
     push_measure(out, b"x", area.x);
@@ -61,13 +61,13 @@ fn push_open(out: &mut Words, area: Area, class: &[u8], more: &[u8]) {
     out.text(more);
 }
 
-/// A rectangle of that class, with further attributes, each after a space.
+/// Writes a rectangle of the class, with attributes, each after a space.
 pub fn push_area(out: &mut Words, area: Area, class: &[u8], more: &[u8]) {
     push_open(out, area, class, more);
     out.text(b"/>\n");
 }
 
-/// Text as SVG has it, with references for its marks: an alias may have them.
+/// Writes text with references for the marks of SVG, which an alias may have.
 pub fn push_text(out: &mut Words, text: &[u8]) {
     for byte in text {
         match *byte {
@@ -80,13 +80,13 @@ pub fn push_text(out: &mut Words, text: &[u8]) {
     }
 }
 
-/// The text of words that were written elsewhere, as SVG has it.
+/// Writes the text of a buffer, escaped.
 pub fn push_escaped(out: &mut Words, words: &Words) {
     push_text(out, words.as_slice());
     out.heed(words);
 }
 
-/// A rectangle with words that show where a pointer rests on it.
+/// Writes a rectangle with a tooltip.
 pub fn push_titled(out: &mut Words, area: Area, class: &[u8], more: &[u8], title: &Words) {
     push_open(out, area, class, more);
     out.text(b"><title>");
@@ -94,14 +94,14 @@ pub fn push_titled(out: &mut Words, area: Area, class: &[u8], more: &[u8], title
     out.text(b"</title></rect>\n");
 }
 
-/// The beginning of words at a place, up to their attributes.
+/// Begins words at a place, up to their attributes.
 pub fn push_begin(out: &mut Words, at: Point) {
     out.text(b"<text");
     push_measure(out, b"x", at.x);
     push_measure(out, b"y", at.y);
 }
 
-/// Words at a place, with attributes, each after a space.
+/// Writes words at a place, with attributes, each after a space.
 pub fn push_words(out: &mut Words, at: Point, attributes: &[u8], words: &[u8]) {
     push_begin(out, at);
     out.text(attributes);
@@ -110,13 +110,13 @@ pub fn push_words(out: &mut Words, at: Point, attributes: &[u8], words: &[u8]) {
     out.text(b"</text>\n");
 }
 
-/// Words at a place, of a text that was written elsewhere.
+/// Writes the words of a buffer at a place.
 pub fn push_said(out: &mut Words, at: Point, attributes: &[u8], words: &Words) {
     push_words(out, at, attributes, words.as_slice());
     out.heed(words);
 }
 
-/// A thin line from one place to another.
+/// Writes a thin line.
 pub fn push_rule(out: &mut Words, from: Point, to: Point) {
     out.text(b"<line");
     push_measure(out, b"x1", from.x);
@@ -126,7 +126,7 @@ pub fn push_rule(out: &mut Words, from: Point, to: Point) {
     out.text(b" class=\"rule\"/>\n");
 }
 
-/// A whole picture of that height round its shapes. Its caption is what a screen reader says.
+/// Writes a whole picture around its shapes. Screen readers read the caption.
 pub fn push_picture(out: &mut Words, height: u32, caption: &Caption, shapes: &Words) {
     out.text(b"<svg xmlns=\"http://www.w3.org/2000/svg\" viewBox=\"0 0 ");
     out.number(WIDE);

@@ -1,6 +1,6 @@
-//! How wide text is.
+//! The width of text.
 
-// The width of a character's first byte, in hundredths of the size of the font: those of DejaVu Sans, rounded up. Further bytes of a character have none.
+// Hundredths of the font's size for a character's first byte: widths of DejaVu Sans, rounded up. Further bytes count 0.
 fn width_of(byte: u8) -> u32 {
     match byte {
         0x80..=0xbf => 0,
@@ -25,7 +25,7 @@ fn width_of(byte: u8) -> u32 {
     }
 }
 
-/// How many pixels the text takes at that size of the font, rounded up.
+/// Returns the pixels that the text takes at the font size, rounded up.
 pub fn width(text: &[u8], size: u32) -> u32 {
     let mut hundredths = 0u32;
     for byte in text {

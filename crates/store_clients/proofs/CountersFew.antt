@@ -80,7 +80,7 @@ module _ (ring : RingValue) (plan : List Planned) (k : Kept) (w : World) (m : Te
           let is = ap (λ (c : List Entry). counter c a) d.1 in
           omega arith
 
-  -- nor has the join of the clocks of what gets found and of a put
+  -- nor has a join of clocks that gets found and a put's clock
   pub few_joined : (seen : List ℕ) (last : Option ℕ) (d : List Entry) (a : ℕ) → IsJoinOfFound (clock_at k.puts) (found_at k.gets) seen last d → counter d a ≤ length k.puts
   few_joined seen last d a all = elim (all.from a) [
     | inl none ↦ omega arith

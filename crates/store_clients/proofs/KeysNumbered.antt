@@ -22,7 +22,7 @@ lies_in old new key n at same numbered lies within =
     let there : (place_of new.q key).partition < new.q = subst (λ (z : Place). z.partition < new.q) is within in
     subst (λ (z : ℕ). (place_of z key).partition < z) q there
 
--- a store that is sound tells of its worlds still where a key was numbered
+-- a store that is sound tells of its worlds still after a key was numbered
 pub named_still : (a : Parts) (keys : KeyTable) (key : List ℕ) → IsSound a → keys ≡ record a.keys { keys = with_name a.keys.keys key } → (place_of a.keys.q key).partition < a.keys.q
     → (w : World) → Meets a w → Tells (ring_of a) (plan_of a) (record (kept_of a) { keys = keys.keys }) w
 named_still a keys key sound same lies w m =

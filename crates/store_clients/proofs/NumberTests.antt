@@ -8,7 +8,7 @@ use Rattle.std.proofs.lemmas.Option.{slice_get_cases}
 pub is_less : (x y : ℕ) → x < y → nat_lt x y ≡ true
 is_less x y h = grind (arith, nat_tests)
 
--- where no item is read there is none
+-- if no item is read there is none
 pub none_there : {A : Type 0} (xs : List A) (n : ℕ) → slice_get xs n ≡ None → length xs ≤ n
 none_there xs n e = elim (slice_get_cases xs n).1 [ inl s ↦ absurd (let f = s.2 in cc) | inr s ↦ s.0 ]
 

@@ -69,7 +69,7 @@ module _ (ring : RingValue) (plan : List Planned) (k : Kept) (w : World) (m : Te
       ap (λ (o : Option SlotNow). elim o as (λ _. List Version) [ Some x ↦ k.stored x.owner.0 slot key | None ↦ [] ]) s.1
       ∙ ap (λ (x : NodeId). k.stored x.0 slot key) s.2.owner
 
-  -- the versions of its owner and of all keepers show what it has of the key
+  -- the versions that its owner and all keepers have show what it has of the key
   slot_shown : (slot : Slot) (key : List ℕ) (all : List Version) → is_ring_slot ring slot ≡ true → MergesOthers (owned_at k.rows k.stored slot key) (λ x. true) (λ x. k.hinted x slot key) all
       → Shows (clock_at k.puts) (value_of w) all (λ v. is_of_key w key v && slot_has ring plan w slot v)
   slot_shown slot key all is g =

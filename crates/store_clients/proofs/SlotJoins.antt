@@ -71,7 +71,7 @@ merge_told these others all x tells drawn joins apart = record {
   apart = apart;
 }
 
--- what tells of versions tells of a copy of them
+-- what tells about versions tells about their copy
 pub tells_copy : (these mid : List Version) (others : ℕ → List Version) → IsMerge [] these mid → JoinsTell these others → JoinsTell mid others
 tells_copy these mid others copied tells v some join is drawn =
     let back : (x : Version) → IsAmong mid others x → IsAmong these others x = λ x h. elim h [

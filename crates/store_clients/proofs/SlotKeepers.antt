@@ -75,7 +75,8 @@ passing_stops up held keys rest more y is others down some p = (
 
 -- ---- what they keep, merged
 
--- with some keepers left, all is drawn from these versions and those of keepers, and covers what these cover and what those of the other keepers cover
+-- with some keepers left, all is drawn from these versions and the keepers'. It covers what these cover and
+-- what the other keepers' versions cover
 pub record Merging (these : List Version) (keys rest : List NodeId) (others : ℕ → List Version) (all : List Version) : Type 0 where
   pub drawn : (v : Version) → IsIn v all → IsIn v these ⊎ ((x : ℕ) × IsIn v (others x))
   pub mine : (k : List Entry) → Covers these k → Covers all k
@@ -123,7 +124,7 @@ among_all these among others all none g = record {
   apart = g.apart;
 }
 
--- where no node has any, these are all
+-- if no node has any, these are all
 pub none_among : (these : List Version) (others : ℕ → List Version) → IsApart these → ((x : ℕ) → others x ≡ []) → MergesOthers these (λ x. true) others these
 none_among these others apart none = record {
   drawn = λ v i. inl i;

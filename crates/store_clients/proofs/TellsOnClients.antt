@@ -1,4 +1,4 @@
--- What a store keeps tells of the next world where an event of a client changes keys, puts and gets alone.
+-- What a store keeps tells of the next world if an event of a client changes only keys, puts and gets.
 use Rattle.std.proofs.Common.{◌≡◌, ◌∙◌, ℕ, Bool, true, false, List, length, refl, sym, subst}
 use Rattle.std.specs.Prelude.{Option, Ok}
 use Rattle.ring_names.specs.declared.ids.Slot.{Slot}

@@ -11,6 +11,6 @@ use Rattle.store_tables.specs.Slots.{slot_now}
 abbrev pub generation_in : List (List SlotNow) → Slot → ℕ
 generation_in rows slot = elim (slot_now rows slot) [ Some x ↦ x.generation | None ↦ 0 ]
 
--- whether the put's ticket for the slot of that index of the partition is of the slot's generation
+-- whether the put's ticket for the partition's slot with that index is of the slot's generation
 abbrev pub is_current_in : List (List SlotNow) → PutNow → ℕ → ℕ → Bool
 is_current_in rows put p i = elim (ticket_at put i) [ Some g ↦ g == generation_in rows (slot_at p i) | None ↦ false ]

@@ -1,4 +1,4 @@
--- How the clock of a put is made of those of what it follows.
+-- How a put's clock is made from the clocks of what it follows.
 use Rattle.std.specs.Prelude.{◌≡◌, ℕ, true, List, Option}
 use Rattle.ring_names.specs.Lists.{has}
 use Rattle.ring_clock.specs.declared.entry.Entry.{Entry}
@@ -11,6 +11,7 @@ use Rattle.store_tells.specs.Found.{IsJoinOfFound}
 abbrev pub IsFoundClock : (ℕ → List Version) → List ℕ → List Entry → Type 0
 IsFoundClock found seen c = (g : ℕ) × (x : Version) × (has g seen ≡ true) × IsIn x (found g) × (x.clock ≡ c)
 
--- c is the join of the clocks of the versions that these gets found and of the writer's last put, with one more for the writer
+-- c joins the clocks of the versions that these gets found, and that of the writer's last put, with one more
+-- for the writer
 abbrev pub IsNextOfFound : (ℕ → List Entry) → (ℕ → List Version) → List ℕ → Option ℕ → ℕ → List Entry → Type 0
 IsNextOfFound clock found seen last writer c = (d : List Entry) × IsJoinOfFound clock found seen last d × Bumps writer d c

@@ -17,7 +17,8 @@ abbrev pub IsFirstDown : (ℕ → Bool) → (ℕ → List Version) → Option Re
 IsFirstDown up held None = (y : ℕ) → (held y ≡ []) ⊎ (up y ≡ true)
 IsFirstDown up held (Some refusal) = (x : ℕ) × (refusal ≡ NodeDown x) × (up x ≡ false) × (held x ≡ [] → ⊥) × UpBelow up held x
 
--- all is drawn from these versions and those of others, covers what these cover and what those of the nodes that pass cover, and has no ancestors
+-- all is drawn from these versions and the others'. It covers what these cover and what the versions of nodes
+-- that pass cover, and has no ancestors
 pub record MergesOthers (these : List Version) (among : ℕ → Bool) (others : ℕ → List Version) (all : List Version) : Type 0 where
   pub drawn : (v : Version) → IsIn v all → IsIn v these ⊎ ((x : ℕ) × IsIn v (others x))
   pub mine : (k : List Entry) → Covers these k → Covers all k
@@ -26,15 +27,16 @@ pub record MergesOthers (these : List Version) (among : ℕ → Bool) (others : 
 
 -- ---- what joins of clocks tell
 
--- the version is one of these, or of those of others
+-- the version is one of these, or one that others have
 abbrev pub IsAmong : List Version → (ℕ → List Version) → Version → Type 0
 IsAmong these others v = IsIn v these ⊎ ((x : ℕ) × IsIn v (others x))
 
--- of these versions and those of others, a clock that is at most the join of the clocks of some is at most one of these clocks
+-- for these versions and those of others: a clock that is at most the join of some clocks is at most one of
+-- them
 abbrev pub JoinsTell : List Version → (ℕ → List Version) → Type 0
 JoinsTell these others = (v : Version) (some : List Version) (join : List Entry) → IsAmong these others v → ((x : Version) → IsIn x some → IsAmong these others x)
     → RaisesTo [] (IsClockIn some) join → IsAtMost v.clock join → (Covers some v.clock → ⊥) → ⊥
 
--- the join of the clocks of these versions is at most that of those
+-- the clocks of these versions join to at most what the clocks of those join to
 abbrev pub JoinIsAtMost : List Version → List Version → Type 0
 JoinIsAtMost these those = (c : List Entry) × (d : List Entry) × RaisesTo [] (IsClockIn these) c × RaisesTo [] (IsClockIn those) d × IsAtMost c d

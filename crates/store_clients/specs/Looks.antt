@@ -19,7 +19,8 @@ use Rattle.store_tells.specs.Kept.{Kept}
 abbrev pub owned_at : List (List SlotNow) → (ℕ → Slot → List ℕ → List Version) → Slot → List ℕ → List Version
 owned_at rows stored slot key = elim (slot_now rows slot) [ Some x ↦ stored x.owner.0 slot key | None ↦ [] ]
 
--- these versions show what the slot has of the get's key, the numbers are those of their puts, and merged with what the get had found they are what it found
+-- these versions show what the slot has of the get's key, and the numbers are those of their puts. Merged with
+-- what the get had found, they are what it found
 pub record FindsAt (ring : RingValue) (plan : List Planned) (k : Kept) (w : World) (g i : ℕ) (found : List Version) (puts : List ℕ) : Type 0 where
   pub get : GetNow
   pub is : slice_get k.gets g ≡ Some get

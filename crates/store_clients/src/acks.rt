@@ -14,7 +14,6 @@ use ring_names::{Refusal, Slot};
 use store_tables::{PutNow, Slots};
 use store_tells::Parts;
 
-// The generation of the put's ticket for the slot of that index, if there is one.
 fn ticket(put: &PutNow, index: u32) -> Option<u32>
     ensures { result ≡ ticket_at put.now index }
 {
@@ -24,7 +23,6 @@ fn ticket(put: &PutNow, index: u32) -> Option<u32>
     }
 }
 
-// The generation of the slot, 0 where the ring does not have it.
 fn generation(slots: &Slots, slot: Slot) -> u32
     ensures { result ≡ generation_in slots.now slot }
 {
@@ -34,7 +32,6 @@ fn generation(slots: &Slots, slot: Slot) -> u32
     }
 }
 
-// Whether the put's ticket for the slot of that index of the partition is of the slot's generation.
 fn is_current(slots: &Slots, put: &PutNow, partition: u32, index: u32) -> bool
     ensures { result ≡ is_current_in slots.now put.now partition index }
 {
@@ -44,7 +41,6 @@ fn is_current(slots: &Slots, put: &PutNow, partition: u32, index: u32) -> bool
     }
 }
 
-// How many of the put's tickets for the first n slots of the partition are of their slots' generations.
 #[tactic(auto, using(store_tables::proofs::Counting::count_next, store_tables::proofs::Counting::count_most))]
 fn current_tickets(slots: &Slots, put: &PutNow, partition: u32, n: u32) -> u32
     ensures { result ≡ length (passing_below n (is_current_in slots.now put.now partition)) }
@@ -58,7 +54,6 @@ fn current_tickets(slots: &Slots, put: &PutNow, partition: u32, n: u32) -> u32
     current
 }
 
-// Why a put with so many current tickets is not acknowledged, where so many are needed.
 fn refusal_by(acked: bool, needed: u32, current: u32) -> Option<Refusal>
     ensures { result ≡ first_failing ((not acked, AlreadyDone) ∷ (nat_le needed current, StaleTickets current) ∷ []) }
 {
@@ -71,8 +66,9 @@ fn refusal_by(acked: bool, needed: u32, current: u32) -> Option<Refusal>
     None
 }
 
-/// Why a put is not acknowledged now, if it is not: there is no put of that number, it is acknowledged already, or fewer slots than a
-/// write needs have tickets of their present generations. Takes no memory, and costs a few look-ups for each slot of a partition.
+/// Returns why a put is not acknowledged now, at the cost of a few look-ups for each slot of a partition.
+///
+/// It does not exist, is acknowledged, or has fewer current tickets than a write needs.
 pub fn ack_refusal(parts: &Parts, put: u32) -> Option<Refusal>
     requires { IsSound parts.now }
     ensures { Tests parts.now (Ack put) result }
@@ -86,7 +82,7 @@ pub fn ack_refusal(parts: &Parts, put: u32) -> Option<Refusal>
     refusal_by(now.acked, ring.w(), current)
 }
 
-/// The put is acknowledged. One look-up, no memory.
+/// Acknowledges the put. One look-up.
 pub fn ack(parts: &mut Parts, put: u32) -> Reply
     requires sound { IsSound parts.old }
     requires passes { Passes parts.old (Ack put) }

@@ -1,4 +1,4 @@
-//! The clock of a put: the join of the clocks of what it follows, with one more for its writer.
+//! The clock of a put: the inputs' clocks joined, with one more for the writer.
 
 ghost use Rattle.std.specs.Prelude.{◌≡◌, ◌<◌, ℕ, List, max, IfOk, IfErr, OnOk};
 ghost use Rattle.ring_names.specs.declared.refusal.Refusal.TheVariants.{OutOfMemory};
@@ -15,7 +15,6 @@ use ring_names::{Refusal, WriterId};
 use std::alloc::Global;
 use store_tables::{Gets, Puts};
 
-// Raises a clock to those of all versions that a get found, if there is the get.
 fn raise_to_get(clock: &mut Clock, gets: &Gets, get: u32) -> Result<(), Refusal>
     ensures ok { OnOk result (RaisesTo clock.old (IsClockIn (found_at gets.now get)) clock.new) }
     ensures memory { IfErr result (λ e. e ≡ OutOfMemory) }
@@ -26,7 +25,6 @@ fn raise_to_get(clock: &mut Clock, gets: &Gets, get: u32) -> Result<(), Refusal>
     }
 }
 
-// Raises a clock to those of all versions that these gets found.
 fn raise_to_gets(clock: &mut Clock, gets: &Gets, seen: &[u32]) -> Result<(), Refusal>
     ensures ok { OnOk result (RaisesTo clock.old (IsFoundClock (found_at gets.now) seen.now) clock.new) }
     ensures memory { IfErr result (λ e. e ≡ OutOfMemory) }
@@ -39,7 +37,6 @@ fn raise_to_gets(clock: &mut Clock, gets: &Gets, seen: &[u32]) -> Result<(), Ref
     Ok(())
 }
 
-// Raises a clock to that of a put, if there is the put.
 fn raise_to_put(clock: &mut Clock, puts: &Puts, put: u32) -> Result<(), Refusal>
     ensures ok { OnOk result
         ((w : ℕ) → counter clock.new w ≡ max (counter clock.old w) (counter (clock_at puts.now put) w)) }
@@ -54,14 +51,13 @@ fn raise_to_put(clock: &mut Clock, puts: &Puts, put: u32) -> Result<(), Refusal>
     }
 }
 
-/// What the writer of a put knows: its last put on the key, if there is one, and the gets that the put names.
+/// What the writer of a put knows: its last put of the key, and the gets that the put names.
 #[derive(Clone, Copy)]
 pub struct Knowing<'s> {
     pub last: Option<u32>,
     pub seen: &'s [u32],
 }
 
-// The join of the clocks of all versions that these gets found, and of that of the writer's last put.
 fn input_clock(alloc: Global, puts: &Puts, gets: &Gets, knowing: &Knowing) -> Result<Clock, Refusal>
     ensures ok { IfOk result
         (IsJoinOfFound (clock_at puts.now) (found_at gets.now) knowing.now.seen.now knowing.now.last) }
@@ -76,7 +72,7 @@ fn input_clock(alloc: Global, puts: &Puts, gets: &Gets, knowing: &Knowing) -> Re
     Ok(clock)
 }
 
-/// The clock of a put of the writer that knows these.
+/// Returns the clock of a put of the writer with this knowledge.
 pub fn next_clock(
     alloc: Global,
     puts: &Puts,

@@ -14,7 +14,7 @@ use ring_versions::Found;
 use store_tables::{GetNow, Gets, Marks};
 use store_tells::Parts;
 
-/// A get of the key starts, which has read nothing. Refused, it has changed nothing that a run can tell.
+/// Starts a get of the key.
 pub fn start_get(parts: &mut Parts, key: &Key) -> Result<Reply, Refusal>
     requires sound { IsSound parts.old }
     requires few { length parts.old.gets < 4294967295 }
@@ -35,7 +35,6 @@ pub fn start_get(parts: &mut Parts, key: &Key) -> Result<Reply, Refusal>
     Ok(Reply::Get(number))
 }
 
-// Why a get does not end now, where so many slots must be read.
 fn refusal_of(gets: &Gets, needed: u32, get: u32) -> Option<Refusal>
     ensures { result ≡ first_failing (end_guards_kept gets.now needed get) }
 {
@@ -52,8 +51,7 @@ fn refusal_of(gets: &Gets, needed: u32, get: u32) -> Option<Refusal>
     None
 }
 
-/// Why a get does not end now, if it does not: there is no get of that number, it has ended already, or it has read fewer slots than a
-/// read needs. Takes no memory.
+/// Returns why a get does not end now: it does not exist, has ended already, or has read fewer slots than a read needs.
 pub fn end_refusal(parts: &Parts, get: u32) -> Option<Refusal>
     requires { IsSound parts.now }
     ensures { Tests parts.now (EndGet get) result }
@@ -61,8 +59,7 @@ pub fn end_refusal(parts: &Parts, get: u32) -> Option<Refusal>
     refusal_of(&parts.gets, parts.approved.ring().r(), get)
 }
 
-/// The get ends, and its reply is the numbers of the puts that it found and that no other of them succeeds. Refused, it has changed
-/// nothing. Costs a sort of these numbers.
+/// Ends the get. The reply has the newest puts that it found, by number. Costs a sort.
 pub fn end_get(parts: &mut Parts, get: u32) -> Result<Reply, Refusal>
     requires sound { IsSound parts.old }
     requires passes { Passes parts.old (EndGet get) }
@@ -80,7 +77,7 @@ pub fn end_get(parts: &mut Parts, get: u32) -> Result<Reply, Refusal>
     Ok(Reply::Answer(reply))
 }
 
-/// As `end_get`, with a copy of the reply beside it.
+/// Ends the get as `end_get` does, and copies the reply.
 pub fn end_get_with_copy(parts: &mut Parts, get: u32) -> Result<(Reply, Reply), Refusal>
     requires sound { IsSound parts.old }
     requires passes { Passes parts.old (EndGet get) }

@@ -1,4 +1,4 @@
-//! What the nodes that keep hints for a slot keep of one key.
+//! What keepers of a slot's hints have of one key.
 
 ghost use Rattle.std.specs.Prelude.{◌≡◌, ℕ, [], false, IsTrue, IfErr, OnOk};
 ghost use Rattle.ring_names.specs.declared.refusal.Refusal.TheVariants.{OutOfMemory};
@@ -23,7 +23,6 @@ pub struct SlotKey<'k> {
     pub key: &'k [u8],
 }
 
-// The refusal of the first of these nodes that keeps versions of the key for the slot and is down.
 fn first_down(
     nodes: &Nodes,
     hints: &Hints,
@@ -51,7 +50,7 @@ fn first_down(
     None
 }
 
-/// The refusal of the first of the nodes that keep versions of the key for the slot that is down. Walks the key's keepers alone.
+/// Returns the refusal of the first keeper of the key for the slot that is down. Walks only the key's keepers.
 pub fn keeper_refusal(nodes: &Nodes, hints: &Hints, place: &SlotKey) -> Option<Refusal>
     requires { chunk_of (partitions hints.now) place.now.key.now ≡ place.now.chunk }
     ensures { IsFirstDown (is_up_at nodes.now) (λ x. hinted_at hints.now x place.now.slot place.now.key.now) result }
@@ -62,7 +61,8 @@ pub fn keeper_refusal(nodes: &Nodes, hints: &Hints, place: &SlotKey) -> Option<R
     }
 }
 
-// Whether the join of the clocks of those held is at most that of all, where both joins are kept. Of puts of one key all then cover those held.
+// Whether the join of the held clocks is at most that of all, if both are kept. For puts of one key, all then cover the
+// held ones.
 fn is_told(all: &Versions, held: &Versions) -> bool
     ensures { IsTrue result → JoinIsAtMost held.now all.now }
 {
@@ -72,8 +72,8 @@ fn is_told(all: &Versions, held: &Versions) -> bool
     }
 }
 
-/// Merges what these nodes keep of the key for the slot. A node whose versions' join is at most that of all costs one comparison of clocks,
-/// where both joins are kept.
+/// Merges what these nodes keep of the key for the slot. A node that brings nothing new costs one comparison of clocks,
+/// if both joins are kept.
 pub fn merge_hints(
     all: &mut Versions,
     hints: &Hints,

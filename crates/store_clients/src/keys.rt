@@ -8,7 +8,7 @@ ghost use Rattle.ring_space.specs.Place.{place_of};
 use ring_names::Refusal;
 use store_tables::Keys;
 
-/// The number of the key, the next one where it has none. Refused, the keys are as before.
+/// Returns the key's number, old or new. If refused, nothing changes.
 pub fn number_of(keys: &mut Keys, key: &[u8]) -> Result<usize, Refusal>
     ensures number { IfOk result (λ n. slice_get keys.new.keys n ≡ Some key.now) }
     ensures keys { OnOk result (keys.new ≡ record keys.old { keys = with_name keys.old.keys key.now }) }
@@ -17,7 +17,7 @@ pub fn number_of(keys: &mut Keys, key: &[u8]) -> Result<usize, Refusal>
     ensures memory { IfErr result (λ e. e ≡ OutOfMemory) }
 {
     let number = keys.add(key)?;
-    // Says that the key lies in the space.
+    // Proves that the key is in the hash space.
     let _place = keys.place(number);
     Ok(number)
 }

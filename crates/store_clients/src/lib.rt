@@ -1,5 +1,7 @@
-//! What the puts and gets of clients ask of a store's parts, and what they change: for each event a test, the refusal of its first guard that
-//! fails, and an act, which leads to the next world.
+//! Puts and gets of clients. Each event has a test, which returns the first failing guard's refusal, and an act, which
+//! leads to the next world.
+//!
+//! A function without a `Result` takes no memory. A refused act changes nothing that a run can see.
 #![tactic(auto)]
 
 mod acks;

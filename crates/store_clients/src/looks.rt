@@ -17,7 +17,6 @@ use ring_names::{Listed, Refusal, Slot};
 use ring_versions::{Found, Versions};
 use store_tells::Parts;
 
-// What the slot's owner has of the key, once more.
 fn owner_versions(parts: &Parts, slot: Slot, chunk: u32, key: &[u8]) -> Result<Versions, Refusal>
     requires { chunk_of (shared_space parts.now.stores) key.now ≡ chunk }
     ensures ok { IfOk result (IsMerge [] (owned_at parts.now.slots (held_at parts.now.stores) slot key.now)) }
@@ -32,7 +31,7 @@ fn owner_versions(parts: &Parts, slot: Slot, chunk: u32, key: &[u8]) -> Result<V
     Ok(all)
 }
 
-// The versions of the key that the slot has: those of its owner, and those that nodes keep for it, merged aside.
+// The slot's versions of the key: the owner's, and those in hints, merged aside.
 fn slot_versions(parts: &Parts, slot: Slot, chunk: u32, key: &[u8]) -> Result<Versions, Refusal>
     requires stores { chunk_of (shared_space parts.now.stores) key.now ≡ chunk }
     requires hints { chunk_of (partitions parts.now.hints) key.now ≡ chunk }
@@ -51,7 +50,7 @@ fn slot_versions(parts: &Parts, slot: Slot, chunk: u32, key: &[u8]) -> Result<Ve
     Ok(all)
 }
 
-/// What the get has found once it has read the slot, and the numbers of the puts that it finds there.
+/// Returns what the get has found after reading the slot, and the puts found there.
 pub fn look(parts: &Parts, get: u32, index: u32) -> Result<(Found, Listed<u32>), Refusal>
     requires sound { IsSound parts.now }
     requires passes { Passes parts.now (Read get index) }

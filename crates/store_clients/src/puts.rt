@@ -24,7 +24,6 @@ use ring_versions::{Version, Versions};
 use store_tables::{Gets, Lasts, PutNow, Puts};
 use store_tells::Parts;
 
-// Whether there is a get of that number, and it is of the key of that number.
 fn is_of_key(gets: &Gets, key: usize, get: u32) -> bool
     ensures { result ≡ is_of_number gets.now key get }
 {
@@ -34,7 +33,6 @@ fn is_of_key(gets: &Gets, key: usize, get: u32) -> bool
     }
 }
 
-// Whether the get of that number has ended.
 fn has_ended(gets: &Gets, get: u32) -> bool
     ensures { result ≡ has_ended_at gets.now get }
 {
@@ -44,21 +42,18 @@ fn has_ended(gets: &Gets, get: u32) -> bool
     }
 }
 
-// Whether there are all these gets, and they are of the key of that number.
 fn are_of_key(gets: &Gets, key: usize, seen: &[u32]) -> bool
     ensures { result ≡ list_all (is_of_number gets.now key) seen.now }
 {
     seen.iter().all(|get| is_of_key(gets, key, *get))
 }
 
-// Whether all these gets have ended.
 fn have_ended(gets: &Gets, seen: &[u32]) -> bool
     ensures { result ≡ list_all (has_ended_at gets.now) seen.now }
 {
     seen.iter().all(|get| has_ended(gets, *get))
 }
 
-// Why a put of the key of that number may not name these gets, if it may not.
 fn seen_refusal(gets: &Gets, key: usize, seen: &[u32]) -> Option<Refusal>
     ensures { result ≡ first_failing (seen_guards_kept gets.now key seen.now) }
 {
@@ -71,8 +66,10 @@ fn seen_refusal(gets: &Gets, key: usize, seen: &[u32]) -> Option<Refusal>
     None
 }
 
-/// Why a put does not start now, if it does not: a get that it names is not there or is of another key, or has not ended. Takes no
-/// memory, and costs a look-up for each get that it names.
+/// Returns why a put does not start now: a get that it names does not exist, is of another key, or has not
+/// ended.
+///
+/// Costs a look-up for each such get.
 pub fn put_refusal(
     parts: &Parts,
     writer: WriterId,
@@ -91,7 +88,6 @@ pub fn put_refusal(
     }
 }
 
-// The put that comes, made aside.
 fn new_put(
     parts: &Parts,
     key: usize,
@@ -122,7 +118,7 @@ fn new_put(
     })
 }
 
-// Adds a put behind the others, as the writer's last one of its key, and returns its number. Refused, all reads as before.
+// Adds a put as the writer's last one of the key, and returns its number. If refused, nothing changes.
 fn push_put(
     puts: &mut Puts,
     lasts: &mut Lasts,
@@ -149,8 +145,7 @@ fn push_put(
     Ok(number)
 }
 
-/// A writer starts a put, knowing the replies of these gets. Refused, it has changed nothing that a run can tell. Costs a join
-/// for each version that the gets found.
+/// Starts a put of a writer that knows the replies of these gets. Costs a join for each version that the gets found.
 pub fn start_put(
     parts: &mut Parts,
     writer: WriterId,

@@ -15,7 +15,7 @@ use plan_runs::Reply;
 use ring_names::{Listed, Refusal, Slot};
 use store_tells::Parts;
 
-// Why the slot is not read for the key now, if it is not: its owner is down, or a node that keeps versions of the key for it.
+// The refusal if the slot's owner is down, or a keeper of the key for the slot.
 fn down_refusal(parts: &Parts, slot: Slot, chunk: u32, key: &[u8]) -> Option<Refusal>
     requires { chunk_of (partitions parts.now.hints) key.now ≡ chunk }
     ensures { StopsRead parts.now.slots (is_up_at parts.now.nodes)
@@ -29,9 +29,10 @@ fn down_refusal(parts: &Parts, slot: Slot, chunk: u32, key: &[u8]) -> Option<Ref
     keeper_refusal(&parts.nodes, &parts.hints, &SlotKey { slot, chunk, key })
 }
 
-/// Why a slot is not read for a get now, if it is not: there is no get of that number or no slot of that index, the get has ended or has
-/// read the slot already, or the slot's owner is down or a node that keeps versions of the get's key for the slot. Takes no memory, and
-/// costs a look-up for each node that keeps anything for the slot.
+/// Returns why a slot is not read for a get now. Costs a look-up for each of the slot's keepers.
+///
+/// There is no such get or slot, or the get has ended or read the slot. Or the owner or a keeper of the key for
+/// the slot is down.
 pub fn read_refusal(parts: &Parts, get: u32, index: u32) -> Option<Refusal>
     requires { IsSound parts.now }
     ensures { Tests parts.now (Read get index) result }
@@ -54,9 +55,12 @@ pub fn read_refusal(parts: &Parts, get: u32, index: u32) -> Option<Refusal>
     down_refusal(parts, Slot { partition, index }, place.chunk, key)
 }
 
-/// The get reads the slot, and the reply is the numbers of the puts that it finds there. Refused, it has changed nothing. Costs a merge of
-/// what the slot has of the get's key with what the get had found, a sort of the numbers, and for each node that keeps the key for the slot
-/// a look-up and a merge, which is one comparison of clocks where it keeps nothing new, and one version or eight and more.
+/// Reads the slot for the get. The reply has the numbers of the puts found there.
+///
+/// Costs a merge of the slot's versions with those found before, and a sort. Each keeper of the key costs a
+/// look-up and a merge.
+///
+/// Such a merge is one comparison of clocks if the keeper has nothing new, and one version or at least eight.
 pub fn read(parts: &mut Parts, get: u32, index: u32) -> Result<Reply, Refusal>
     requires sound { IsSound parts.old }
     requires passes { Passes parts.old (Read get index) }
@@ -70,7 +74,7 @@ pub fn read(parts: &mut Parts, get: u32, index: u32) -> Result<Reply, Refusal>
     Ok(Reply::Found(puts))
 }
 
-/// As `read`, with a copy of the reply beside it.
+/// Reads the slot as `read` does, and copies the reply.
 pub fn read_with_copy(parts: &mut Parts, get: u32, index: u32) -> Result<(Reply, Reply), Refusal>
     requires sound { IsSound parts.old }
     requires passes { Passes parts.old (Read get index) }

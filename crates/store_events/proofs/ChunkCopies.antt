@@ -152,7 +152,7 @@ module _ (ring : RingValue) (plan : List Planned) (k : Kept) (w : World) (m : Te
     suiting : (is_ring_slot ring slot ≡ true) × (source_suits ring source ≡ true)
     suiting = and_parts (is_ring_slot ring slot) (source_suits ring source) (step_suiting ring plan (suits_of ring plan k w m) n (Copy slot source) at)
 
-    -- its slot is kept, and so are those that it reads
+    -- its slot is kept, and so are the slots that it reads
     pub slot_is_kept : is_kept k.rows slot ≡ true
     slot_is_kept = kept_in_ring ring plan k w m slot ∙ suiting.0
 
@@ -203,7 +203,7 @@ module _ (ring : RingValue) (plan : List Planned) (k : Kept) (w : World) (m : Te
                 (lasts ring plan w e passes (clock_at k.puts) k.hinted w.hinted (λ y t v b. (reached.hinted y t v b).0) m.hinted),
           )
 
-      -- where there is a mirror, it is given what was read
+      -- if there is a mirror, it is given what was read
       copied_to : (x : NodeId) (versions : List ℕ → List Version) (new : ℕ → Slot → List ℕ → List Version) → served.mirror ≡ Some x
           → ShowsChunk ring.q w (clock_at k.puts) c versions (source_has ring plan w slot source)
           → ((key : List ℕ) → (chunk_of ring.q key ≡ c → ⊥) → versions key ≡ []) → MergesAtAll k.stored (at_node x.0 (at_slot slot versions)) new
@@ -214,7 +214,7 @@ module _ (ring : RingValue) (plan : List Planned) (k : Kept) (w : World) (m : Te
           (node_shows w (clock_at k.puts) x slot versions (is_copied ring plan w slot source c) (λ key. whole slot source c key (clock_at k.puts) versions shows (others key))))
           merges
 
-      -- where there is none, nothing is given
+      -- if there is none, nothing is given
       pub copied_nowhere : served.mirror ≡ None → (u : World) × (answer ring plan w (ChunkCopy n c) ≡ Ok (u, reply.Plain)) × Tells ring plan (record k { steps = steps }) u
       copied_nowhere mirrored =
           chunked (λ y t key. []) k.stored

@@ -160,7 +160,7 @@ module _ (ring : RingValue) (plan : List Planned) (k : Kept) (w : World) (m : Te
       there x h true e = e
       there x h false e = absurd (shown ring plan k w m x slot v h ((keepers x).0 e (key_of_put w v)))
 
-  -- where no node keeps anything for it there are none
+  -- if no node keeps anything for it there are none
   pub none_have : ((x : ℕ) (key : List ℕ) → k.hinted x slot key ≡ []) → (v : ℕ) → some_hinted ring w slot v ≡ false
   none_have empty v = some_none (length ring.nodes) (λ x. w.hinted x slot v) (λ x. by x (w.hinted x slot v) refl)
     where

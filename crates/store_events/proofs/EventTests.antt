@@ -42,7 +42,7 @@ lose_tested a x o e w m = e ∙ ap first_failing (lose_kept (ring_of a) (plan_of
 pub close_tested : (a : Parts) (n : ℕ) (o : Option Refusal) → o ≡ first_failing (close_copy_guards_kept (plan_of a) a.steps n) → Tests a (CloseCopy n) o
 close_tested a n o e w m = e ∙ ap first_failing (close_kept (ring_of a) (plan_of a) a.steps w n m.steps)
 
--- where one of two guards fails, a third one changes nothing
+-- if one of two guards fails, a third one changes nothing
 pub third_later : (x y : Bool) (p q r : Refusal) (c : Guard) → first_failing ((x, p) ∷ (y, q) ∷ []) ≡ Some r → first_failing ((x, p) ∷ (y, q) ∷ c ∷ []) ≡ Some r
 third_later false y p q r c e = e
 third_later true false p q r c e = e

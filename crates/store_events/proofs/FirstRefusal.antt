@@ -24,7 +24,7 @@ pub fails : (b : Bool) (e : Refusal) (gs : List Guard) → b ≡ false → Some 
 fails true e gs h = absurd cc
 fails false e gs h = refl
 
--- one that is passed leaves it to those behind it
+-- a guard that is passed leaves the decision to the guards behind it
 pub passes_on : (b : Bool) (e : Refusal) (gs : List Guard) → b ≡ true → first_failing gs ≡ first_failing ((b, e) ∷ gs)
 passes_on true e gs h = refl
 passes_on false e gs h = absurd cc
@@ -68,7 +68,7 @@ module _ (ring : RingValue) (plan : List Planned) (k : Kept) (w : World) (m : Te
     unfolding serves third second
     hint_serves a b d = fails (not serves) KeeperInPartition last (ap not d) ∙ passes_on (is_up_at k.nodes x.0) (NodeDown x.0) third b ∙ passes_on (is_member_at k.nodes x.0) (NotMember x.0) second a ∙ hint_is
 
-    -- the last test alone is left
+    -- only the last test is left
     pub hint_last : is_member_at k.nodes x.0 ≡ true → is_up_at k.nodes x.0 ≡ true → serves_in_kept ring k.rows slot.partition x.0 ≡ false → first_failing ((not other, KeeperTaken) ∷ []) ≡ first_failing (guards ring plan w (Hint v i x))
     unfolding serves last third second
     hint_last a b d = passes_on (not serves) KeeperInPartition last (ap not d) ∙ passes_on (is_up_at k.nodes x.0) (NodeDown x.0) third b ∙ passes_on (is_member_at k.nodes x.0) (NotMember x.0) second a ∙ hint_is
@@ -95,7 +95,7 @@ module _ (ring : RingValue) (plan : List Planned) (k : Kept) (w : World) (m : Te
     handoff_down a b d = fails (is_up_at k.nodes x.0) (NodeDown x.0) (served_up_kept k.nodes k.rows s) d
         ∙ passes_on (keeps w x.0 s) AlreadyDone ((is_up_at k.nodes x.0, NodeDown x.0) ∷ served_up_kept k.nodes k.rows s) b ∙ passes_on (is_ring_slot ring s) UnknownNumber behind a ∙ handoff_is
 
-    -- the tests of the slot's nodes alone are left
+    -- only the tests of the slot's nodes are left
     pub handoff_last : is_ring_slot ring s ≡ true → keeps w x.0 s ≡ true → is_up_at k.nodes x.0 ≡ true → first_failing (served_up_kept k.nodes k.rows s) ≡ first_failing (guards ring plan w (Handoff x s))
     unfolding behind
     handoff_last a b d = passes_on (is_up_at k.nodes x.0) (NodeDown x.0) (served_up_kept k.nodes k.rows s) d

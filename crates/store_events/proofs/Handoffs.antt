@@ -51,7 +51,7 @@ module _ (ring : RingValue) (plan : List Planned) (k : Kept) (w : World) (m : Te
   unfolding guards
   handoff_keeps none = (let kept = (all_met (guards ring plan w (Handoff x s)) passes).1.0 in let not_kept = (keeps_tells ring plan k w m x.0 s).1 none in cc)
 
-  -- the slot's owner and its mirror have what the node kept for the slot, and it keeps nothing for it
+  -- the slot's owner and mirror have what the node kept for the slot, and the node keeps nothing for it
   pub handed : (served : SlotNow) (versions : List ℕ → List Version) (new hints : ℕ → Slot → List ℕ → List Version) → slot_now k.rows s ≡ Some served → ((bs : List ℕ) → versions bs ≡ k.hinted x.0 s bs)
       → MergesAtAll k.stored (at_nodes served.owner served.mirror (at_slot s versions)) new → ((y : ℕ) (t : Slot) (bs : List ℕ) → hints y t bs ≡ cond (is_of (pair_of x.0 s) y t) [] (k.hinted y t bs))
       → (u : World) × (answer ring plan w (Handoff x s) ≡ Ok (u, reply.Plain)) × Tells ring plan (record k { stored = new; hinted = hints }) u

@@ -121,7 +121,7 @@ module _ (a : Parts) where
 -- ---- what keepers keep
 
 module _ (ring : RingValue) (plan : List Planned) (k : Kept) (w : World) (m : Tells ring plan k w) (slot : Slot) (c : ℕ) where
-  -- what is said of the keys of the chunk alone
+  -- what is said of the chunk's keys, and of no others
   chunk_said : (q : ℕ) → q ≡ ring.q → (kept : List ℕ → List Version) → (b : Bool) → (b ≡ false) ↔ ((key : List ℕ) → cond (chunk_of q key == c) (kept key) [] ≡ []) → (b ≡ false) ↔ ((key : List ℕ) → chunk_of ring.q key ≡ c → kept key ≡ [])
   chunk_said q space kept b h = (
     λ e key lies. sym (ap (λ (t : Bool). cond t (kept key) []) (eq-eqb (chunk_of q key) c (ap (λ (n : ℕ). chunk_of n key) space ∙ lies))) ∙ h.0 e key,

@@ -1,4 +1,5 @@
--- The nodes of a copy that is ready and not finished are the slot's mirror now and the owners now of the slots that it reads.
+-- The nodes of a copy that is ready and not finished. They are the slot's mirror now and the owners now of the
+-- slots that the copy reads.
 use Rattle.std.proofs.Common.{◌≡◌, inl, inr, ◌∙◌, ℕ, ◌+◌, ◌-◌, ◌<◌, ◌≤◌, Bool, true, false, cond, List, [], ◌∷◌, length, get_or, drop, map, refl, sym, ap, subst, arith, eqb-true, eq-eqb, ltb-true, lt-ltb, ltb-false}
 use Rattle.std.specs.Prelude.{◌==◌, nat_lt, Option, Some, None, slice_get, option_map, option_and_then}
 use Rattle.std.proofs.lemmas.Bool.{and_parts, or_right, and_from, cases_lt}
@@ -65,7 +66,7 @@ abbrev pub Rise : List NodeId → Type 0
 Rise [] = Unit {0}
 Rise (x ∷ xs) = RiseAbove x.0 xs
 
--- a number that is not below another one and is not that one is above it
+-- a number that is neither below another number nor equal to that is above it
 past : (m n : ℕ) → nat_lt m n ≡ false → (m == n) ≡ false → n < m
 past m n f g = elim (cases_lt n m) [
   | inl h ↦ h
@@ -123,7 +124,7 @@ above_rise : (a : ℕ) (xs : List NodeId) → RiseAbove a xs → Rise xs
 above_rise a [] r = tt
 above_rise a (x ∷ xs) r = r.1
 
--- with one more node, it is the lesser of the node, if it is down, and the one that was
+-- with another node, the first node down is the lesser of that node, if it is down, and the first before
 pub first_with : (up : ℕ → Bool) (x : NodeId) (xs : List NodeId) → Rise xs → first_down up (with_node x xs) ≡ with_down up (Some x) (first_down up xs)
 first_with up x [] r = by (up x.0)
   where

@@ -29,7 +29,7 @@ within xs n x e = elim (slice_get_cases xs n).1 [
   | inr s ↦ absurd (let none = s.1 in cc)
 ]
 
--- that the mirror fits can hold in one way alone
+-- that the mirror fits can hold in only one way
 pub mirror_prop : (o : Option NodeId) (count owner : ℕ) → IsProp (IfSome o (λ y. (y.0 < count) × (y.0 ≢ owner)))
 mirror_prop None count owner = hlevel props
 mirror_prop (Some y) count owner = hlevel props
@@ -119,7 +119,7 @@ module _ (ring : RingValue) (plan : List Planned) (k : Kept) (w : World) (m : Te
   pub slot_kept : (s : Slot) → is_ring_slot ring s ≡ true → slot_now k.rows s ≢ None
   slot_kept s e none = (let t = slot_there ring plan k w m s e in let some = t.1 in cc)
 
-  -- a slot is kept where it is the ring's
+  -- a slot is kept if it is the ring's
   pub kept_in_ring : (s : Slot) → is_some (slot_now k.rows s) ≡ is_ring_slot ring s
   kept_in_ring s = by (is_ring_slot ring s) refl
     where

@@ -28,7 +28,7 @@ use Rattle.store_events.specs.Parties.{mirror_kept}
 use Rattle.store_events.proofs.StepsOn.{no_copy, is_other}
 use Rattle.store_events.proofs.PutAndSlot.{mirror_prop, mirror_fits}
 
--- there is one way alone in which a number of what is there is less
+-- there is only one way in which a number of what is there is less
 less_prop : (o : Option SlotNow) → IsProp (IfSome o (λ x. x.generation < 4294967295))
 less_prop (Some x) = hlevel props
 less_prop None = hlevel props
@@ -55,7 +55,7 @@ is_no_other plan n t h at never = by t (sym (ap (λ (o : Option Step). is_some (
     by (step.Retire x) e f = absurd cc
 
 module _ (a : Parts) (s : IsSound a) where
-  -- where a copy is known in each world that the store may be in, it is one of the plan
+  -- if a copy is known in each world that the store may be in, it is one of the plan
   pub known_copy : (n : ℕ) → ((w : World) → Meets a w → has_copy (plan_of a) n ≡ true) → has_copy (plan_of a) n ≡ true
   known_copy n f = holds a s (hlevel props) f
 

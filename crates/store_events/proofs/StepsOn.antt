@@ -32,7 +32,7 @@ use Rattle.store_tells.proofs.StoreInWorld.{reached_of, suits_of}
 use Rattle.store_events.specs.Acts.{Forgets, Acts}
 use Rattle.store_events.proofs.TellsOnSteps.{LeadsOn, leads_on, stored_on, hinted_on, stored_left}
 
--- what a step that is done passes: it is no copy
+-- what a step that is done passes: it is not a copy
 pub no_copy : (ring : RingValue) (plan : List Planned) (w : World) (n : ℕ) → first_failing (guards ring plan w (Do n)) ≡ None → has_other plan n ≡ true
 unfolding guards
 no_copy ring plan w n passes = (all_met (guards ring plan w (Do n)) passes).0

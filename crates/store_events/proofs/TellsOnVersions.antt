@@ -1,4 +1,5 @@
--- What a store keeps goes on to tell of the world through an event that changes at most marks, puts, and what nodes store and keep.
+-- What a store keeps goes on to tell of the world through an event. This event changes at most marks, puts, and
+-- what nodes store and keep.
 use Rattle.std.proofs.Common.{◌≡◌, inl, inr, ◌∙◌, ℕ, Bool, true, false, List, sym, subst}
 use Rattle.std.specs.Prelude.{◌||◌, None, Ok}
 use Rattle.std.proofs.Math.Path.{fun_ext}

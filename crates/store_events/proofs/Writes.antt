@@ -43,7 +43,7 @@ use Rattle.store_events.proofs.TellsOnVersions.{comes, lasts, goes_on}
 use Rattle.store_events.proofs.ShownBrought.{put_shows, served_shows, served_come}
 use Rattle.store_events.proofs.PutAndSlot.{key_of}
 
--- the puts where one has a ticket of that generation
+-- the puts after one got a ticket of that generation
 abbrev pub ticketed : List PutNow → ℕ → ℕ → ℕ → List PutNow
 ticketed puts v i g = changed puts v (λ put. record put { tickets = with_ticket put.tickets i g })
 

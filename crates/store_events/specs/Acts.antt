@@ -13,7 +13,8 @@ use Rattle.store_tells.specs.Kept.{Kept}
 abbrev pub Forgets : (ℕ → Slot → Bool) → (ℕ → Slot → List ℕ → List Version) → (ℕ → Slot → List ℕ → List Version) → Type 0
 Forgets gone old new = (y : ℕ) (t : Slot) (key : List ℕ) → new y t key ≡ (if gone y t then [] else old y t key)
 
--- a join and a retirement change the node, a mirror and a switch the slot, and a drop takes what the node stores for the slot
+-- a join and a retirement change the node, and a mirror and a switch the slot. A drop takes what the node
+-- stores for the slot
 abbrev pub Acts : Kept → Kept → Step → Type 0
 Acts old new (step.Join x) = new ≡ record old { nodes = changed old.nodes x.0 (λ a. record a { up = true; joined = true }) }
 Acts old new (step.Mirror s x) = (new ≡ record old { rows = new.rows }) × StepsSlots old.rows new.rows (step.Mirror s x)

@@ -10,7 +10,7 @@ use Rattle.store_tells.specs.GuardsKept.{is_served_kept}
 abbrev pub raised : SlotNow → SlotNow
 raised x = record x { generation = x.generation + 1 }
 
--- the slot is raised where the node serves it or keeps hints for it, and is as before where it does neither
+-- the slot is raised if the node serves it or keeps hints for it, and is as before otherwise
 abbrev pub RaisesGroup : (ℕ → Slot → List ℕ → List Version) → ℕ → Slot → List (List SlotNow) → List (List SlotNow) → Type 0
 RaisesGroup hinted x t old new = (keeps : Bool) × ((keeps ≡ false) ↔ ((key : List ℕ) → hinted x t key ≡ []))
     × (slot_now new t ≡ (if is_served_kept old t x || keeps then option_map raised (slot_now old t) else slot_now old t))

@@ -14,7 +14,7 @@ use ring_names::{NodeId, Slot};
 use std::collections::BTreeSet;
 use store_tells::Parts;
 
-// The lesser of the keeper, if it is down and keeps something of the chunk for the slot, and one that was found so.
+// The lesser of `least` and the keeper, if that is down and keeps something of the chunk for the slot.
 fn with_keeper(
     parts: &Parts,
     least: Option<NodeId>,
@@ -42,7 +42,6 @@ fn with_keeper(
     Some(keeper)
 }
 
-// The least of those that were found and of these keepers that are down and keep something of the chunk for the slot.
 fn with_keepers(
     parts: &Parts,
     found: Option<NodeId>,
@@ -62,7 +61,6 @@ fn with_keepers(
     least
 }
 
-// The least of those that were found and of the nodes that are down and keep something of the chunk for the slot.
 fn with_slot(parts: &Parts, found: Option<NodeId>, slot: Slot, chunk: u32) -> Option<NodeId>
     requires chunk { chunk < 16 }
     requires sized { IsSized parts.now }
@@ -74,7 +72,6 @@ fn with_slot(parts: &Parts, found: Option<NodeId>, slot: Slot, chunk: u32) -> Op
     }
 }
 
-// The least of the nodes that are down and keep something of the chunk for one of these slots of a partition.
 fn with_slots(parts: &Parts, partition: u32, from: &[u32], chunk: u32) -> Option<NodeId>
     requires chunk { chunk < 16 }
     requires sized { IsSized parts.now }
@@ -94,7 +91,7 @@ fn with_slots(parts: &Parts, partition: u32, from: &[u32], chunk: u32) -> Option
     least
 }
 
-/// The least node that is down and keeps something of the chunk that a copy of the slot reads. Takes no memory.
+/// Returns the least node that is down and keeps something of a chunk that a copy reads.
 pub(crate) fn least_keeper(parts: &Parts, slot: Slot, source: &Source, chunk: u32) -> Option<NodeId>
     requires chunk { chunk < 16 }
     requires sized { IsSized parts.now }

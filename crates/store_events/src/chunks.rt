@@ -18,14 +18,13 @@ use plan_text::Step;
 use ring_names::Refusal;
 use store_tells::Parts;
 
-// Whether there is such a copy, and such a chunk.
 fn has_chunk(parts: &Parts, step: u32, chunk: u32) -> bool
     ensures { result ≡ (has_copy (plan_of parts.now) step && nat_lt chunk 16) }
 {
     has_copy(parts, step) && chunk < 16
 }
 
-// That a node is down which keeps something of the chunk for a slot that the copy lists, with the least of them.
+// The refusal of the least node that is down and keeps something of the chunk for a listed slot.
 fn keeper_refusal(parts: &Parts, step: u32, chunk: u32) -> Option<Refusal>
     requires chunk { chunk < 16 }
     requires sized { IsSized parts.now }
@@ -42,10 +41,12 @@ fn keeper_refusal(parts: &Parts, step: u32, chunk: u32) -> Option<Refusal>
     }
 }
 
-/// Why a chunk cannot be copied now, if it cannot: `UnknownNumber` where there is no such copy or no such chunk, `NotOpen` where the copy is
-/// not open, `AlreadyDone` where the chunk is marked, `NodeDown` with the least of the copy's nodes that is down, or else with the least
-/// node that is down and keeps something of the chunk for a slot that the copy lists. Looks at the keepers of these slots alone, and takes
-/// no memory.
+/// Returns why a chunk cannot be copied now. Looks only at the keepers of listed slots.
+///
+/// It is `UnknownNumber` without such a copy or chunk, `NotOpen`, or `AlreadyDone` if the chunk is marked.
+///
+/// Then comes `NodeDown` with the copy's least node that is down, then with the least keeper of a listed slot
+/// that is down.
 pub fn chunk_refusal(parts: &Parts, step: u32, chunk: u32) -> Option<Refusal>
     requires { IsSound parts.now }
     ensures { Tests parts.now (ChunkCopy step chunk) result }
@@ -65,9 +66,10 @@ pub fn chunk_refusal(parts: &Parts, step: u32, chunk: u32) -> Option<Refusal>
     keeper_refusal(parts, step, chunk)
 }
 
-/// Copies a chunk: all that the copy reads of it goes to the slot's mirror, and the chunk is marked. Only a growth can be refused, and then
-/// nothing has changed. Where the copy reads the owner alone, it costs what `KeyMap::take_in` does for the owner's map at the mirror; else
-/// that for each map of the chunk that is read, merged aside, and once more at the mirror.
+/// Copies a chunk to the slot's mirror, and marks it.
+///
+/// From the owner, costs `KeyMap::take_in` of its map at the mirror. Otherwise costs that for each map read, merged
+/// aside, and again at the mirror.
 pub fn chunk_copy(parts: &mut Parts, step: u32, chunk: u32) -> Result<Reply, Refusal>
     requires sound { IsSound parts.old }
     requires passes { Passes parts.old (ChunkCopy step chunk) }

@@ -1,4 +1,4 @@
-//! Copies that are opened, closed and broken off.
+//! Opens, closes and aborts copies.
 
 ghost use Rattle.std.specs.Prelude.{◌≡◌};
 ghost use Rattle.plan_stage.specs.Clauses.{first_failing};
@@ -12,8 +12,11 @@ use plan_runs::Reply;
 use ring_names::Refusal;
 use store_tells::Parts;
 
-/// Why the copy cannot be opened now, if it cannot: `UnknownNumber` where there is no such copy, `AlreadyDone` where it is finished or open,
-/// `NotReady` where a step for which it waits is not finished, `NodeDown` with the least of its nodes that is down. Takes no memory.
+/// Returns why the copy cannot be opened now: `UnknownNumber` without such a copy, or `AlreadyDone` if finished
+/// or open.
+///
+/// Then comes `NotReady` if a dependency is not finished, and `NodeDown` with the copy's least node that is
+/// down.
 pub fn open_refusal(parts: &Parts, step: u32) -> Option<Refusal>
     requires { IsSound parts.now }
     ensures { Tests parts.now (OpenCopy step) result }
@@ -30,7 +33,7 @@ pub fn open_refusal(parts: &Parts, step: u32) -> Option<Refusal>
     party_refusal(parts, step)
 }
 
-/// The copy is open; chunks that were marked before it was broken off stay so.
+/// Opens the copy. Chunks marked before an abort stay so.
 pub fn open_copy(parts: &mut Parts, step: u32) -> Reply
     requires sound { IsSound parts.old }
     requires passes { Passes parts.old (OpenCopy step) }
@@ -41,7 +44,6 @@ pub fn open_copy(parts: &mut Parts, step: u32) -> Reply
     Reply::Plain
 }
 
-// That there is no such copy, or else that it is not open.
 fn not_open(parts: &Parts, step: u32) -> Option<Refusal>
     ensures { result ≡ first_failing (abort_copy_guards_kept (plan_of parts.now) parts.now.steps step) }
 {
@@ -54,8 +56,8 @@ fn not_open(parts: &Parts, step: u32) -> Option<Refusal>
     None
 }
 
-/// Why the copy cannot be closed now, if it cannot: `UnknownNumber` where there is no such copy, `NotOpen` where it is not open,
-/// `ChunksLeft` with the number of its chunks that are not marked. Takes no memory.
+/// Returns why the copy cannot be closed now: `UnknownNumber` without such a copy, `NotOpen`, or `ChunksLeft` with the
+/// number of unmarked chunks.
 pub fn close_refusal(parts: &Parts, step: u32) -> Option<Refusal>
     requires { IsSound parts.now }
     ensures { Tests parts.now (CloseCopy step) result }
@@ -70,7 +72,7 @@ pub fn close_refusal(parts: &Parts, step: u32) -> Option<Refusal>
     None
 }
 
-/// The copy is finished.
+/// Finishes the copy.
 pub fn close_copy(parts: &mut Parts, step: u32) -> Reply
     requires sound { IsSound parts.old }
     requires passes { Passes parts.old (CloseCopy step) }
@@ -81,8 +83,7 @@ pub fn close_copy(parts: &mut Parts, step: u32) -> Reply
     Reply::Plain
 }
 
-/// Why the copy cannot be broken off now, if it cannot: `UnknownNumber` where there is no such copy, `NotOpen` where it is not open. Takes
-/// no memory.
+/// Returns why the copy cannot be aborted now: `UnknownNumber` without such a copy, or `NotOpen`.
 pub fn abort_refusal(parts: &Parts, step: u32) -> Option<Refusal>
     requires { IsSound parts.now }
     ensures { Tests parts.now (AbortCopy step) result }
@@ -90,7 +91,7 @@ pub fn abort_refusal(parts: &Parts, step: u32) -> Option<Refusal>
     not_open(parts, step)
 }
 
-/// The copy is no longer open; its marked chunks stay marked.
+/// Aborts the copy. Its chunks stay marked.
 pub fn abort_copy(parts: &mut Parts, step: u32) -> Reply
     requires sound { IsSound parts.old }
     requires passes { Passes parts.old (AbortCopy step) }

@@ -1,4 +1,4 @@
-//! The slots in whose group a node is: it owns or mirrors them, or keeps hints for them.
+//! The group of a slot: owner, mirror, and keepers of hints.
 
 ghost use Rattle.std.specs.Prelude.{◌≡◌, ◌==◌, ◌&&◌, ◌<◌, nat_lt, IfSome};
 ghost use Rattle.ring_names.specs.declared.ids.Slot.{Slot as TheSlot};
@@ -14,7 +14,6 @@ use ring_names::{NodeId, Slot};
 use ring_table::Ring;
 use store_tables::Slots;
 
-// Raises the generation of the slot, if the node is in its group.
 fn raise_group(slots: &mut Slots, hints: &Hints, slot: Slot, node: NodeId)
     requires { IfSome (slot_now slots.old slot) (λ x. x.generation < 4294967295) }
     ensures { RaisesGroups (hinted_at hints.now) node.0 (λ t. is_slot slot t) slots.old slots.new }
@@ -24,7 +23,6 @@ fn raise_group(slots: &mut Slots, hints: &Hints, slot: Slot, node: NodeId)
     }
 }
 
-// Raises the generation of those of the first n slots of a partition in whose group the node is.
 fn raise_partition(slots: &mut Slots, hints: &Hints, n: u32, partition: u32, node: NodeId)
     requires { (t : TheSlot) → t.partition ≡ partition
         → IfSome (slot_now slots.old t) (λ x. x.generation < 4294967295) }
@@ -36,7 +34,7 @@ fn raise_partition(slots: &mut Slots, hints: &Hints, n: u32, partition: u32, nod
     }
 }
 
-// Raises the generation of each slot of the ring in whose group the node is.
+// Raises the generation of each slot whose group has the node.
 pub(crate) fn raise_groups(slots: &mut Slots, hints: &Hints, ring: &Ring, node: NodeId)
     requires { (t : TheSlot) → IfSome (slot_now slots.old t) (λ x. x.generation < 4294967295) }
     ensures { RaisesGroups (hinted_at hints.now) node.0 (λ t. is_ring_slot ring.now t) slots.old slots.new }

@@ -13,7 +13,6 @@ use ring_hints::KeptFor;
 use ring_names::{NodeId, Refusal, Slot};
 use store_tells::Parts;
 
-// Whether the node owns or mirrors a slot of the partition.
 fn serves_in(parts: &Parts, partition: u32, node: NodeId) -> bool
     ensures { result ≡ serves_in_kept (ring_of parts.now) parts.now.slots partition node.0 }
 {
@@ -25,8 +24,9 @@ fn serves_in(parts: &Parts, partition: u32, node: NodeId) -> bool
     false
 }
 
-/// Why a hint is refused now, if it is: there is no such put or no slot of that index, or else the node is no member, or is down, or owns
-/// or mirrors a slot of the put's partition, or keeps hints for another slot of it. Takes no memory.
+/// Returns why a hint is refused now: there is no such put or slot, or the node is not a member or is down.
+///
+/// Or the node serves a slot of the put's partition, or keeps hints for another one.
 pub fn hint_refusal(parts: &Parts, put: u32, index: u32, node: NodeId) -> Option<Refusal>
     requires { IsSound parts.now }
     ensures { Tests parts.now (Hint put index node) result }
@@ -49,8 +49,8 @@ pub fn hint_refusal(parts: &Parts, put: u32, index: u32, node: NodeId) -> Option
     None
 }
 
-/// Leaves a put with the node as a hint for the slot of that index: the node keeps it, and the put has a ticket of the slot's generation,
-/// which is the reply. Only a growth can be refused, and then nothing has changed. Costs one look-up of the key.
+/// Keeps a put at the node as a hint for the slot. The reply is a ticket of the slot's generation. Costs one look-up of
+/// the key.
 pub fn hint(parts: &mut Parts, put: u32, index: u32, node: NodeId) -> Result<Reply, Refusal>
     requires sound { IsSound parts.old }
     requires passes { Passes parts.old (Hint put index node) }

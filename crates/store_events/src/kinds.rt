@@ -1,4 +1,4 @@
-//! What kind of step a number is, and whether it is ready.
+//! The kind of a step, and whether it is ready.
 
 ghost use Rattle.std.specs.Prelude.{◌≡◌, ◌<◌, length, is_some};
 ghost use Rattle.std.specs.List.{list_all};
@@ -12,7 +12,6 @@ use plan_text::Step;
 use store_tables::Steps;
 use store_tells::Parts;
 
-// Whether the step is a copy.
 fn is_copy(step: &Step) -> bool
     ensures { result ≡ is_some (copy_of step.now) }
 {
@@ -23,7 +22,6 @@ fn is_copy(step: &Step) -> bool
     }
 }
 
-// Whether there is a step of that number, and it is a copy.
 pub(crate) fn has_copy(parts: &Parts, step: u32) -> bool
     ensures { result ≡ has_copy (plan_of parts.now) step }
 {
@@ -31,7 +29,6 @@ pub(crate) fn has_copy(parts: &Parts, step: u32) -> bool
     step < plan.len() && is_copy(plan.step(step))
 }
 
-// Whether there is a step of that number, and it is no copy.
 pub(crate) fn has_other(parts: &Parts, step: u32) -> bool
     ensures { result ≡ has_other (plan_of parts.now) step }
 {
@@ -39,14 +36,13 @@ pub(crate) fn has_other(parts: &Parts, step: u32) -> bool
     step < plan.len() && !is_copy(plan.step(step))
 }
 
-// Whether these steps are all finished.
 fn are_done(steps: &Steps, numbers: &[u32]) -> bool
     ensures { result ≡ list_all (is_done_at steps.now) numbers.now }
 {
     numbers.iter().all(|number| steps.is_done(*number))
 }
 
-/// Whether all steps for which the step waits are finished.
+/// Whether all dependencies of the step are finished.
 pub fn is_ready(parts: &Parts, step: u32) -> bool
     requires { step < length (plan_of parts.now) }
     ensures { result ≡ is_ready_kept (plan_of parts.now) parts.now.steps step }

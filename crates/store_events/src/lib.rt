@@ -1,5 +1,7 @@
-//! What the events of steps, copies, nodes and versions that come to them ask of a store's parts, and what they change: for each event a test, the
-//! refusal of its first guard that fails, and an act, which leads to the next world.
+//! Events of steps, copies and nodes, and of versions that come to nodes. Each has a test, which returns the first
+//! failing guard's refusal, and an act, which leads to the next world.
+//!
+//! A function without a `Result` takes no memory. An act fails only if memory runs out, and then nothing changes.
 #![tactic(auto)]
 
 // Steps and nodes.

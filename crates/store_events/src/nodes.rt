@@ -1,4 +1,4 @@
-//! Nodes that go down, come up again, and lose what they have.
+//! Nodes that go down, come up, or lose their data.
 
 ghost use Rattle.plan_runs.specs.declared.event.Event.TheVariants.{Down, Up, Lose};
 ghost use Rattle.store_tells.specs.Parts.{IsSound, Tests, Passes, Answers, Follows};
@@ -8,7 +8,7 @@ use plan_runs::Reply;
 use ring_names::{NodeId, Refusal};
 use store_tells::Parts;
 
-/// Why the node cannot go down now, if it cannot: `NotMember` where it is no member, `AlreadyDone` where it is down. Takes no memory.
+/// Returns why the node cannot go down now: `NotMember`, or `AlreadyDone` if it is down.
 pub fn down_refusal(parts: &Parts, node: NodeId) -> Option<Refusal>
     requires { IsSound parts.now }
     ensures { Tests parts.now (Down node) result }
@@ -22,7 +22,7 @@ pub fn down_refusal(parts: &Parts, node: NodeId) -> Option<Refusal>
     None
 }
 
-/// The node is down; what it has stays.
+/// Takes the node down. It keeps its data.
 pub fn down(parts: &mut Parts, node: NodeId) -> Reply
     requires sound { IsSound parts.old }
     requires passes { Passes parts.old (Down node) }
@@ -33,7 +33,7 @@ pub fn down(parts: &mut Parts, node: NodeId) -> Reply
     Reply::Plain
 }
 
-/// Why the node cannot come up now, if it cannot: `NotMember` where it is no member, `AlreadyDone` where it is up. Takes no memory.
+/// Returns why the node cannot come up now: `NotMember`, or `AlreadyDone` if it is up.
 pub fn up_refusal(parts: &Parts, node: NodeId) -> Option<Refusal>
     requires { IsSound parts.now }
     ensures { Tests parts.now (Up node) result }
@@ -47,7 +47,7 @@ pub fn up_refusal(parts: &Parts, node: NodeId) -> Option<Refusal>
     None
 }
 
-/// The node is up, with what it had.
+/// Takes the node up, with its data.
 pub fn up(parts: &mut Parts, node: NodeId) -> Reply
     requires sound { IsSound parts.old }
     requires passes { Passes parts.old (Up node) }
@@ -58,8 +58,8 @@ pub fn up(parts: &mut Parts, node: NodeId) -> Reply
     Reply::Plain
 }
 
-/// Why the node cannot lose its store now, if it cannot: `NotMember` where it is no member, `LossesSpent` where as many stores were lost
-/// as the ring allows. Takes no memory.
+/// Returns why the node cannot lose its data now: `NotMember`, or `LossesSpent` if as many nodes lost theirs as the
+/// ring allows.
 pub fn lose_refusal(parts: &Parts, node: NodeId) -> Option<Refusal>
     requires { IsSound parts.now }
     ensures { Tests parts.now (Lose node) result }
@@ -73,8 +73,9 @@ pub fn lose_refusal(parts: &Parts, node: NodeId) -> Option<Refusal>
     None
 }
 
-/// The node loses all that it stores and all hints that it keeps, and stays up or down; each slot that it serves, or for which it kept
-/// a hint, is of the next generation. Walks all slots of the ring and all that the node had, and takes no memory.
+/// Removes the node's data and hints; it stays up or down. Walks all slots of the ring and the node's data.
+///
+/// Each slot that it serves, or keeps hints for, gets the next generation.
 pub fn lose(parts: &mut Parts, node: NodeId) -> Reply
     requires sound { IsSound parts.old }
     requires passes { Passes parts.old (Lose node) }

@@ -13,8 +13,8 @@ use plan_text::{Source, Step};
 use ring_names::{NodeId, Refusal, Slot};
 use store_tells::Parts;
 
-/// Why the nodes of a copy that is ready and not finished cannot take part in it now, if they cannot: `NodeDown` with the least of them that
-/// is down. They are the slot's mirror and the owners of the slots that the copy reads; takes no memory.
+/// Returns `NodeDown` with the least node that is down among the slot's mirror and the owners of the slots read, if
+/// any. The copy must be ready and unfinished.
 pub(crate) fn party_refusal(parts: &Parts, step: u32) -> Option<Refusal>
     requires sound { IsSound parts.now }
     requires ready { (w : World) → Meets parts.now w
@@ -31,7 +31,6 @@ pub(crate) fn party_refusal(parts: &Parts, step: u32) -> Option<Refusal>
     }
 }
 
-// The least node that is down among the slot's mirror and the owners of the slots that a copy of it reads.
 fn least_party(parts: &Parts, slot: Slot, source: &Source) -> Option<NodeId>
     ensures { result ≡ least_down (is_up_at parts.now.nodes) (party_kept parts.now.slots slot source.now) }
 {
@@ -45,7 +44,6 @@ fn least_party(parts: &Parts, slot: Slot, source: &Source) -> Option<NodeId>
     }
 }
 
-// The least node that is down among the owners of these slots of a partition.
 fn least_owner(parts: &Parts, partition: u32, from: &[u32]) -> Option<NodeId>
     ensures { result ≡ least_down (is_up_at parts.now.nodes)
         (map (owner_kept parts.now.slots) (map (slot_at partition) from.now)) }
@@ -61,7 +59,6 @@ fn least_owner(parts: &Parts, partition: u32, from: &[u32]) -> Option<NodeId>
     least
 }
 
-// The lesser of a node, if it is there and down, and one that was found so.
 fn with_down(parts: &Parts, node: Option<NodeId>, least: Option<NodeId>) -> Option<NodeId>
     ensures { result ≡ with_down (is_up_at parts.now.nodes) node least }
 {

@@ -8,7 +8,6 @@ use ring_names::{NodeId, Refusal, Slot};
 use store_tables::Slots;
 use store_tells::Parts;
 
-/// Whether the node owns or mirrors the slot.
 pub(crate) fn is_served(slots: &Slots, slot: Slot, node: NodeId) -> bool
     ensures { result ≡ is_served_kept slots.now slot node.0 }
 {
@@ -21,7 +20,7 @@ pub(crate) fn is_served(slots: &Slots, slot: Slot, node: NodeId) -> bool
     }
 }
 
-/// That the slot's owner is down, or else that its mirror is.
+/// The refusal if the slot's owner is down, then if its mirror is.
 pub(crate) fn served_refusal(parts: &Parts, slot: Slot) -> Option<Refusal>
     ensures { result ≡ first_failing (served_up_kept parts.now.nodes parts.now.slots slot) }
 {

@@ -1,4 +1,4 @@
-//! What a copy reads of a chunk, and what comes of it to the mirror.
+//! What a copy reads of a chunk, and gives to the mirror.
 
 ghost use Rattle.std.specs.Prelude.{◌≡◌, ◌<◌, true, Some, IfOk, IfErr, OnOk, OnErr};
 ghost use Rattle.std.specs.List.{list_any};
@@ -20,7 +20,6 @@ use std::collections::BTreeSet;
 use store_maps::SlotMap;
 use store_tells::Parts;
 
-// What the slot's owner has of the chunk is read.
 fn add_owner(parts: &Parts, read: &mut SlotMap, slot: Slot, chunk: u32) -> Result<(), Refusal>
     requires chunk { chunk < 16 }
     requires sized { IsSized parts.now }
@@ -40,7 +39,6 @@ fn add_owner(parts: &Parts, read: &mut SlotMap, slot: Slot, chunk: u32) -> Resul
     Ok(())
 }
 
-// What these nodes keep of the chunk for the slot is read.
 fn add_keepers(
     parts: &Parts,
     read: &mut SlotMap,
@@ -68,7 +66,6 @@ fn add_keepers(
     Ok(())
 }
 
-// What nodes keep of the chunk for the slot is read.
 fn add_hints(parts: &Parts, read: &mut SlotMap, slot: Slot, chunk: u32) -> Result<(), Refusal>
     requires chunk { chunk < 16 }
     requires sized { IsSized parts.now }
@@ -84,7 +81,6 @@ fn add_hints(parts: &Parts, read: &mut SlotMap, slot: Slot, chunk: u32) -> Resul
     Ok(())
 }
 
-// What the owners of these slots of a partition have of the chunk is read, and what nodes keep for the slots.
 fn add_slots(
     parts: &Parts,
     read: &mut SlotMap,
@@ -114,7 +110,7 @@ fn add_slots(
     Ok(())
 }
 
-// What a copy of the slot that lists these slots reads of the chunk, merged aside.
+// Reads the chunk for a copy of these slots, merged aside.
 fn read_slots(parts: &Parts, slot: Slot, from: &[u32], chunk: u32) -> Result<SlotMap, Refusal>
     requires chunk { chunk < 16 }
     requires sized { IsSized parts.now }
@@ -130,7 +126,6 @@ fn read_slots(parts: &Parts, slot: Slot, from: &[u32], chunk: u32) -> Result<Slo
     Ok(read)
 }
 
-// It comes to the slot's mirror.
 fn give_slots(
     parts: &mut Parts,
     mirror: NodeId,
@@ -153,7 +148,6 @@ fn give_slots(
         .give_chunk(mirror, slot, chunk, read.chunk(chunk))
 }
 
-// What the slot's owner has of the chunk comes to its mirror.
 fn give_owner(parts: &mut Parts, mirror: NodeId, slot: Slot, chunk: u32) -> Result<(), Refusal>
     requires chunk { chunk < 16 }
     requires sound { IsSound parts.old }
@@ -169,8 +163,7 @@ fn give_owner(parts: &mut Parts, mirror: NodeId, slot: Slot, chunk: u32) -> Resu
     parts.stores.copy_chunk(owner, mirror, slot, chunk)
 }
 
-/// What a copy of the slot reads of the chunk comes to the slot's mirror: the owner's map as it stands, where the copy reads the owner alone,
-/// and else what is read of the listed slots, merged aside first. Only a growth can be refused, and then nothing has changed.
+/// Gives the mirror what a copy reads of the chunk: the owner's map directly, or that of listed slots, merged aside.
 pub(crate) fn give_source(
     parts: &mut Parts,
     mirror: NodeId,

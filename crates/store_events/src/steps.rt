@@ -1,4 +1,4 @@
-//! Steps that are no copies, and what doing them changes.
+//! Steps that are not copies.
 
 ghost use Rattle.std.specs.Prelude.{◌≡◌, false, is_some};
 ghost use Rattle.plan_text.specs.Steps.{copy_of};
@@ -15,10 +15,14 @@ use plan_text::Step;
 use ring_names::Refusal;
 use store_tells::Parts;
 
-/// Why the step cannot be done now, if it cannot: `UnknownNumber` where there is no such step or it is a copy, `AlreadyDone` where it is
-/// finished, `NotReady` where a step for which it waits is not finished. Then, by its kind, `NodeDown` where the node that is mirrored, or that
-/// drops what it has, is down, and `HintsLeft` where the node that is mirrored keeps a hint for another slot of the partition, or the node that
-/// retires keeps any. Takes no memory.
+/// Returns why the step cannot be done now: `UnknownNumber` without such a step or for a copy, or `AlreadyDone`
+/// if finished.
+///
+/// Then comes `NotReady` if a dependency is not finished, and `NodeDown` if a node that is to mirror or drop is
+/// down.
+///
+/// Then comes `HintsLeft` if a new mirror keeps a hint for another slot of the partition, or a retiring node
+/// keeps any.
 pub fn do_refusal(parts: &Parts, step: u32) -> Option<Refusal>
     requires { IsSound parts.now }
     ensures { Tests parts.now (Do step) result }
@@ -35,7 +39,6 @@ pub fn do_refusal(parts: &Parts, step: u32) -> Option<Refusal>
     kind_refusal(parts, parts.approved.plan().step(step))
 }
 
-// What a step needs by its kind, once it is ready: why it cannot be done now, if it cannot.
 fn kind_refusal(parts: &Parts, step: &Step) -> Option<Refusal>
     ensures { (w : World) → Meets parts.now w → result ≡ first_failing (step_guards (ring_of parts.now) w step.now) }
 {
@@ -65,8 +68,10 @@ fn kind_refusal(parts: &Parts, step: &Step) -> Option<Refusal>
     }
 }
 
-/// The step is finished: a node joins and is up, a slot is mirrored and of the next generation, or switched to its mirror, a node drops what it
-/// has of a slot, or retires. A drop walks what the node has of the slot; nothing takes memory.
+/// Finishes the step. A node joins and is up, a slot is mirrored in the next generation or switched, or a node
+/// drops or retires.
+///
+/// A drop walks the slot's data at the node.
 pub fn do_step(parts: &mut Parts, step: u32) -> Reply
     requires sound { IsSound parts.old }
     requires passes { Passes parts.old (Do step) }
@@ -79,7 +84,7 @@ pub fn do_step(parts: &mut Parts, step: u32) -> Reply
     Reply::Plain
 }
 
-// Changes what the step changes, but that it is finished.
+// Makes the step's changes, except that it is finished.
 fn act(parts: &mut Parts, step: &Step)
     requires sound { IsSound parts.old }
     requires other { is_some (copy_of step.now) ≡ false }

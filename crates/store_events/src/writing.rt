@@ -12,8 +12,7 @@ use ring_names::{Refusal, Slot};
 use ring_store::SlotKey;
 use store_tells::Parts;
 
-/// Why a write is refused now, if it is: there is no such put or no slot of that index, or else the slot's owner is down, or its mirror.
-/// Takes no memory.
+/// Returns why a write is refused now: there is no such put or slot, or the slot's owner or mirror is down.
 pub fn write_refusal(parts: &Parts, put: u32, index: u32) -> Option<Refusal>
     requires { IsSound parts.now }
     ensures { Tests parts.now (Write put index) result }
@@ -24,8 +23,8 @@ pub fn write_refusal(parts: &Parts, put: u32, index: u32) -> Option<Refusal>
     }
 }
 
-/// Writes a put to the slot of that index: the slot's owner and its mirror have it, and the put has a ticket of the slot's generation,
-/// which is the reply. Only a growth can be refused, and then nothing has changed. Costs one look-up of the key at each of the two.
+/// Writes a put to the slot's owner and mirror. The reply is a ticket of the slot's generation. Costs one look-up of
+/// the key at each.
 pub fn write(parts: &mut Parts, put: u32, index: u32) -> Result<Reply, Refusal>
     requires sound { IsSound parts.old }
     requires passes { Passes parts.old (Write put index) }

@@ -119,7 +119,7 @@ module _ (a : SlotMap) (c i : ℕ) (e : ℕ × KeyMap) (n : KeyMap) (at : IsMapA
   here : map_in news c ≡ Some n
   here = set_here c a.chunks.items i e n at lends
 
-  -- what holds of the keys of the chunk and of all others
+  -- what holds for the keys in the chunk and for all others
   pub by_chunk : (P : List ℕ → Type 0) → ((k : List ℕ) → chunk_of a.q k ≡ c → P k) → ((k : List ℕ) → chunk_of a.q k ≢ c → P k) → (k : List ℕ) → P k
   by_chunk P here other k = elim (cases_eq (chunk_of a.q k) c) [ inl e ↦ here k e | inr ne ↦ other k ne ]
 

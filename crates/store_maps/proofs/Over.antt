@@ -1,4 +1,4 @@
--- What a map has for a key, by what its own tree and what it shares have for it.
+-- What a map has for a key, by what the own tree and the shared map have for it.
 use Rattle.std.proofs.Common.{◌≡◌, ◌⊎◌, inl, inr, ◌∙◌, ℕ, true, false, cond, List, [], refl, sym, ap, subst, Option, Some, None}
 use Rattle.std.specs.Arc.{arc_value}
 use Rattle.std.specs.Option.{option_or}
@@ -46,7 +46,7 @@ module _ (p b : Option (List Version)) where
       by (Some v) h = refl
       by None h = absurd cc
 
-  -- what holds of a value that is written in the own tree, or else stays below
+  -- what holds of a value that is written in the own tree, or otherwise stays below
   pub by_place : (R : List Version → List Version → Type 0) (q : Option (List Version)) → is_some q ≡ is_some p → (is_some p ≡ true → R (unwrap_or p []) (unwrap_or q [])) → (is_some p ≡ false → R (unwrap_or (option_or p b) []) (unwrap_or (option_or p b) []))
       → R (unwrap_or (option_or p b) []) (unwrap_or (option_or q b) [])
   by_place R = by p

@@ -39,6 +39,6 @@ abbrev pub room_in : Option KeyMap → List ℕ → Bool
 room_in None k = false
 room_in (Some m) k = has_room m k
 
--- each key has a place in the map of its chunk alone
+-- each key has a place only in the map of its chunk
 abbrev pub ArePlaced : ℕ → List (ℕ × KeyMap) → Type 0
 ArePlaced q chunks = (c : ℕ) (k : List ℕ) → place_in (map_in chunks c) k ≡ true → chunk_of q k ≡ c

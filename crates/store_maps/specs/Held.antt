@@ -20,7 +20,8 @@ abbrev pub below : Option (Arc KeyTree Global) → List ℕ → Option (List Ver
 below None k = None
 below (Some shared) k = tree_entry (arc_value shared) k
 
--- what the map's own tree has for the key, and else what is shared; opened by the map's own calls alone, so that no proof above goes through the cases
+-- what the map's own tree has for the key, and otherwise what is shared. Opened only by the map's own calls, so
+-- that no proof above goes through the cases
 unfoldable pub map_entry : KeyMap → List ℕ → Option (List Version)
 map_entry a k = option_or (tree_entry a.own k) (below a.shared k)
 

@@ -12,7 +12,7 @@ use Rattle.store_maps.specs.declared.holders.Holders.{Holders}
 abbrev pub is_among : ℕ → List NodeId → Bool
 is_among x nodes = list_any (is_at ((node_order.ghosts).cmp (record { 0 = x }))) nodes
 
--- the nodes of the set, none where there is no set
+-- the nodes of the set, or none without a set
 abbrev pub nodes_in : Option (BTreeSet NodeId) → List NodeId
 nodes_in None = []
 nodes_in (Some nodes) = nodes.keys

@@ -50,7 +50,8 @@ fresh_of (Some f) k = fresh_at f k
 abbrev pub fresh_in : FreshMaps → ℕ → List ℕ → Option Fresh
 fresh_in f c k = fresh_of (slice_get f.list.items c) k
 
--- what f has for a key in any chunk comes to those held, and to a key for which it has nothing in any chunk nothing new comes
+-- what f has for a key in any chunk comes to those held. To a key for which f has nothing in any chunk, nothing
+-- new comes
 pub record AreFreshMaps (held more : List ℕ → List Version) (f : FreshMaps) : Type 0 where
   pub each : (c : ℕ) (k : List ℕ) → IfSome (fresh_in f c k) (IsFreshFor (held k) (more k))
   pub others : (k : List ℕ) → ((c : ℕ) → fresh_in f c k ≡ None) → IsMerge (held k) (more k) (held k)

@@ -13,7 +13,8 @@ use Rattle.store_maps.specs.Merges.{fresh_at, fresh_in}
 abbrev pub space_of : SlotMap → ℕ
 space_of a = a.q
 
--- the versions of the key, none where it has no place in its chunk's map; this and the next two are opened by the slot's own calls alone
+-- the versions of the key, none if it has no place in its chunk's map. This and the next two are opened only by
+-- the slot's own calls
 unfoldable pub held_for : SlotMap → List ℕ → List Version
 held_for a k = held_of (map_in a.chunks.items (chunk_of a.q k)) k
 
@@ -29,15 +30,17 @@ has_room_for a k = room_in (map_in a.chunks.items (chunk_of a.q k)) k
 abbrev pub IsReadyFor : SlotMap → List ℕ → Fresh → Type 0
 IsReadyFor a k f = (has_room_for a k ≡ true) × FitsIn (held_for a k) f
 
--- each key of f lies in the chunk and has a place in its map's own tree, and what f has for it was made for its versions
+-- each key of f lies in the chunk and has a place in its map's own tree. What f has for the key was made for
+-- its versions
 abbrev pub AreReadyFor : SlotMap → ℕ → FreshKeys → Type 0
 AreReadyFor a c f = (k : List ℕ) → IfSome (fresh_at f k) (λ x. (chunk_of a.q k ≡ c) × IsReadyFor a k x)
 
--- each key that f has in a chunk lies in that chunk and has a place in its map's own tree, and what f has for it was made for its versions
+-- each key that f has in a chunk lies there and has a place in its map's own tree. What f has for the key was
+-- made for its versions
 abbrev pub AllReadyFor : SlotMap → FreshMaps → Type 0
 AllReadyFor a f = (c : ℕ) (k : List ℕ) → IfSome (fresh_in f c k) (λ x. (chunk_of a.q k ≡ c) × IsReadyFor a k x)
 
--- the versions of the key, none where there are no maps
+-- the versions of the key, none if there are no maps
 abbrev pub held_by : Option SlotMap → List ℕ → List Version
 held_by None k = []
 held_by (Some m) k = held_for m k

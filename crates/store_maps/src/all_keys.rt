@@ -11,7 +11,7 @@ impl KeyTree {
     ghost use Rattle.store_maps.specs.Trees.{kept, has_entry};
     ghost use Rattle.store_maps.specs.Merges.{MergesAll, AreFreshFor, AreReadyIn};
 
-    /// Merges a whole tree: where it is refused, some of the keys may be merged already.
+    /// Merges a whole tree. If refused, some keys may be merged already.
     pub fn merge_all(&mut self, other: &KeyTree) -> Result<(), Refusal>
         ensures ok { OnOk result (MergesAll (kept self.old) (kept other.now) (kept self.new)) }
         ensures memory { IfErr result (λ e. e ≡ OutOfMemory) }
@@ -22,7 +22,7 @@ impl KeyTree {
         Ok(())
     }
 
-    /// The second half of a merge with a whole tree, which cannot fail.
+    /// Completes a merge with a whole tree. Cannot fail.
     pub fn settle_all(&mut self, fresh: FreshKeys)
         requires { AreReadyIn self.old fresh }
         ensures merged { (more : List ℕ → List Version) → AreFreshFor (kept self.old) more fresh

@@ -1,4 +1,4 @@
-//! Entries of keys and their versions, in order: few in a vector, many in a tree.
+//! Keys and their versions, in order: few in a vector, many in a tree.
 
 ghost use Rattle.std.specs.Prelude.{◌≡◌, ◌↔◌, ℕ, List, [], true, is_some, Some, None, length, IsTrue, IfSome, IfNone, IfOk, IfErr, OnOk, OnErr};
 ghost use Rattle.std.specs.List.Sorted.{IsStrictlySortedBy};
@@ -18,18 +18,18 @@ use std::alloc::Global;
 use std::cmp::Ordering;
 use std::collections::BTreeMap;
 
-// How many entries a vector has at most.
+// The most entries of a vector.
 const FEW: usize = 8;
 
-// Versions by key, in ascending byte order of the keys. The smallest block of a tree is as large as twenty entries of a vector, and most
-// keepers of hints have one key of a chunk: so a vector has the first eight, and is as long as they need.
+// Versions by key, in ascending byte order. The smallest tree node is as large as twenty entries, and most keepers of
+// hints have one key of a chunk. So up to eight entries are in a vector of exact length.
 #[derive(Drop)]
 pub(crate) enum Entries {
     Few(Vec<(Vec<u8>, Versions)>),
     Many(BTreeMap<Vec<u8>, Versions>),
 }
 
-// Where the key is, or where it would stand.
+// The place of the key, or where it would be.
 pub(crate) fn place_of(list: &[(Vec<u8>, Versions)], key: &[u8]) -> Result<usize, usize>
     ensures found { IfOk result (IsThere key.now list.now) }
     ensures missing { IfErr result (GoesAt key.now list.now) }
@@ -48,7 +48,6 @@ pub(crate) fn place_of(list: &[(Vec<u8>, Versions)], key: &[u8]) -> Result<usize
     Err(place)
 }
 
-// The versions at the key, in place of what it had.
 fn put_few(
     list: &mut Vec<(Vec<u8>, Versions)>,
     key: Vec<u8>,
@@ -70,7 +69,6 @@ fn put_few(
     Ok(())
 }
 
-// A tree with what the vector has.
 fn tree_with(
     alloc: Global,
     list: &[(Vec<u8>, Versions)],
@@ -91,7 +89,6 @@ fn tree_with(
 }
 
 impl Entries {
-    // None. Takes no memory.
     pub(crate) fn new(alloc: Global) -> Entries
         ensures { entries_of result ≡ [] }
     {
@@ -107,7 +104,7 @@ impl Entries {
         }
     }
 
-    // How many there are: a guide, of which nothing is promised.
+    // How many there are: a hint without a contract.
     pub(crate) fn len(&self) -> usize {
         match self {
             Entries::Few(list) => list.len(),
@@ -115,7 +112,6 @@ impl Entries {
         }
     }
 
-    // The versions at the key, if it is there.
     pub(crate) fn get(&self, key: &[u8]) -> Option<&Versions>
         requires { IsInOrder self.now }
         ensures some { IfSome result (λ v. value_in (entries_of self.now) key.now ≡ Some v.now) }
@@ -130,7 +126,7 @@ impl Entries {
         }
     }
 
-    // The entries, in ascending byte order of the keys.
+    // Iterates over the entries in ascending byte order.
     pub(crate) fn walk(&self) -> Walk<'_>
         ensures { left_of result ≡ entries_of self.now }
     {
@@ -140,7 +136,7 @@ impl Entries {
         }
     }
 
-    // A vector that is full becomes a tree, made aside.
+    // Turns a full vector into a tree, made aside.
     fn widen(&mut self, alloc: Global) -> Result<(), Refusal>
         requires { IsInOrder self.old }
         ensures order { IsInOrder self.new }
@@ -155,7 +151,7 @@ impl Entries {
         Ok(())
     }
 
-    // The versions at the key, in place of what it had. Refused, it has changed nothing.
+    // Sets the key's versions. If refused, nothing changes.
     pub(crate) fn put(
         &mut self,
         alloc: Global,
@@ -180,7 +176,7 @@ impl Entries {
         }
     }
 
-    // Merges others into the versions at the key, or returns `None` where it is not there. Refused, it has changed nothing.
+    // Merges into the key's versions, or returns `None` if the key is missing. If refused, nothing changes.
     pub(crate) fn merge(&mut self, key: &[u8], more: &Versions) -> Option<Result<(), Refusal>>
         requires { IsInOrder self.old }
         ensures order { IsInOrder self.new }
@@ -198,7 +194,6 @@ impl Entries {
         }
     }
 
-    // The versions at the key take in what was made for them.
     pub(crate) fn absorb(&mut self, key: &[u8], fresh: Fresh)
         requires order { IsInOrder self.old }
         requires there { is_some (value_in (entries_of self.old) key.now) ≡ true }

@@ -1,4 +1,4 @@
-//! What a merge with a whole map brings, made before it.
+//! The result of a merge with a whole map, before it is taken in.
 
 ghost use Rattle.std.specs.Prelude.{◌≡◌, ℕ, List, None, OnOk, IfErr};
 ghost use Rattle.ring_names.specs.declared.refusal.Refusal.TheVariants.{OutOfMemory};
@@ -8,7 +8,7 @@ use ring_versions::Fresh;
 use std::alloc::Global;
 use std::collections::BTreeMap;
 
-/// What a map brings to another, key by key: the keys to which something comes that is not covered yet.
+/// What a map brings to another: the keys that get something not covered yet.
 #[derive(Drop)]
 pub struct FreshKeys {
     pub(crate) alloc: Global,
@@ -18,7 +18,6 @@ pub struct FreshKeys {
 impl FreshKeys {
     ghost use Rattle.ring_names.specs.AtBytes.{value_at, Puts};
 
-    // Nothing for any key.
     pub(crate) fn new(alloc: Global) -> FreshKeys
         ensures { (k : List ℕ) → value_at result.map k ≡ None }
     {
@@ -28,7 +27,6 @@ impl FreshKeys {
         }
     }
 
-    // This for the key.
     pub(crate) fn put(&mut self, key: &[u8], fresh: Fresh) -> Result<(), Refusal>
         ensures ok { OnOk result (Puts self.old.map self.new.map key.now fresh) }
         ensures memory { IfErr result (λ e. e ≡ OutOfMemory) }

@@ -1,10 +1,10 @@
-//! What a merge with all maps of a slot brings, made before it.
+//! The result of a merge with all maps of a slot, before it is taken in.
 
 ghost use Rattle.std.specs.Prelude.{◌≡◌, length};
 
 use crate::fresh_keys::FreshKeys;
 
-/// What the maps of a slot bring to those of another, chunk by chunk, for each of the sixteen chunks in order.
+/// What a slot's maps bring to another's, for each of the sixteen chunks in order.
 #[derive(Drop)]
 pub struct FreshMaps {
     pub(crate) list: Vec<FreshKeys>,

@@ -7,8 +7,8 @@ use ring_names::{NodeId, Refusal};
 use std::alloc::Global;
 use std::collections::{BTreeMap, BTreeSet};
 
-/// Nodes by key, for whoever looks for all that have something of one key. Clients choose the keys, so these are ordered and not hashed: a
-/// look-up costs the key's length times the logarithm of the number of keys.
+/// Nodes by key. Clients choose the keys, so these are ordered and not hashed: a look-up costs the key's length times
+/// the logarithm of the number of keys.
 #[derive(Drop)]
 pub struct Holders {
     alloc: Global,
@@ -26,7 +26,7 @@ impl Holders {
     ghost use Rattle.store_maps.specs.Slots.{has_place_for};
     ghost use Rattle.store_maps.specs.Trees.{has_entry};
 
-    /// No node of any key.
+    /// No nodes.
     pub fn new(alloc: Global) -> Holders
         ensures { (k : List ℕ) → holders_at result k ≡ [] }
     {
@@ -36,7 +36,7 @@ impl Holders {
         }
     }
 
-    /// A copy of the nodes.
+    /// Copies the nodes.
     pub fn try_copy(&self) -> Result<Holders, Refusal>
         ensures same { IfOk result (λ a. (k : List ℕ) → holders_at a k ≡ holders_at self.now k) }
         ensures memory { IfErr result (λ e. e ≡ OutOfMemory) }
@@ -48,7 +48,7 @@ impl Holders {
         Ok(copy)
     }
 
-    /// The nodes of the key, ascending by number. Takes no memory.
+    /// Returns the nodes of the key, ascending.
     pub fn of(&self, key: &[u8]) -> Option<&BTreeSet<NodeId>>
         ensures some { IfSome result (λ nodes. nodes.now.keys ≡ holders_at self.now key.now) }
         ensures none { IfNone result (holders_at self.now key.now ≡ []) }
@@ -56,7 +56,6 @@ impl Holders {
         self.sets.get(key)
     }
 
-    // These nodes for the key, in place of those that it had.
     fn put(&mut self, key: &[u8], nodes: BTreeSet<NodeId>) -> Result<(), Refusal>
         ensures ok { OnOk result (Puts self.old.sets self.new.sets key.now nodes) }
         ensures err { OnErr result ((k : List ℕ) → value_at self.new.sets k ≡ value_at self.old.sets k) }
@@ -67,7 +66,7 @@ impl Holders {
         Ok(())
     }
 
-    /// The node is one of the key's from here on.
+    /// Adds the node to the key's.
     pub fn add(&mut self, key: &[u8], node: NodeId) -> Result<(), Refusal>
         ensures ok { OnOk result ((k : List ℕ) (x : ℕ)
             → holds self.new k x ≡ ((bytes_eq key.now k && (node.0 == x)) || holds self.old k x)) }
@@ -83,7 +82,7 @@ impl Holders {
         self.put(key, nodes)
     }
 
-    /// The node is none of the key's from here on. Takes no memory.
+    /// Removes the node from the key's.
     pub fn remove(&mut self, key: &[u8], node: NodeId)
         ensures { (k : List ℕ) (x : ℕ)
             → holds self.new k x ≡ (not (bytes_eq key.now k && (node.0 == x)) && holds self.old k x) }
@@ -96,7 +95,6 @@ impl Holders {
         }
     }
 
-    // The node is none of those of the tree's keys from here on.
     fn forget_keys(&mut self, node: NodeId, map: &KeyTree)
         ensures others { (k : List ℕ) (x : ℕ) → x ≢ node.0 → holds self.new k x ≡ holds self.old k x }
         ensures gone { (k : List ℕ) → has_entry map.now k ≡ true → holds self.new k node.0 ≡ false }
@@ -107,7 +105,6 @@ impl Holders {
         }
     }
 
-    // The node is none of those of the map's keys from here on.
     #[tactic(auto, unfolding(crate::specs::Held::map_entry))]
     fn forget_map(&mut self, node: NodeId, map: &KeyMap)
         ensures others { (k : List ℕ) (x : ℕ) → x ≢ node.0 → holds self.new k x ≡ holds self.old k x }
@@ -120,7 +117,7 @@ impl Holders {
         }
     }
 
-    /// The node is none of those of the slot's keys from here on. Takes no memory, and costs a look-up for each of these keys.
+    /// Removes the node from those of all the slot's keys. Costs a look-up for each of these keys.
     pub fn forget(&mut self, node: NodeId, map: &SlotMap)
         ensures others { (k : List ℕ) (x : ℕ) → x ≢ node.0 → holds self.new k x ≡ holds self.old k x }
         ensures gone { (k : List ℕ) → has_place_for map.now k ≡ true → holds self.new k node.0 ≡ false }

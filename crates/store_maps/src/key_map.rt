@@ -8,20 +8,25 @@ use std::alloc::Global;
 use std::mem;
 use std::sync::Arc;
 
-/// Versions by key, in ascending byte order of the keys. A key may have an empty place, which no reading tells from none: a place is
-/// made before a merge that must not fail. Clients choose the keys, so these are ordered and not hashed: a look-up costs the key's
-/// length times the logarithm of the number of places.
+/// Versions by key, in ascending byte order. A key may have an empty place, made before a merge that must not
+/// fail; readers cannot see it.
 ///
-/// What a map shares is never changed while another map has it: the first change of a key copies that key alone, and not its versions,
-/// into the map's own tree, which lies over what is shared. So a look-up goes through two trees at most, and a copy of the map takes no
-/// more than its own tree.
+/// Clients choose the keys, so these are ordered and not hashed. A look-up costs the key's length times the
+/// logarithm of the number of places.
+///
+/// Preparations, and refused calls other than `merge_all`, change no reading.
+///
+/// Maps are copy-on-write: the first change of a shared key copies that key, not its versions, into the map's
+/// own tree, an overlay.
+///
+/// So a look-up searches at most two trees, and a copy of the map takes only its own tree.
 pub struct KeyMap {
     pub(crate) own: KeyTree,
-    // Read where the own tree has no place for a key.
+    // Read if the own tree has no place for a key.
     pub(crate) shared: Option<Arc<KeyTree>>,
 }
 
-// Dropped by a call, so that no crate above goes through the two trees wherever a map ends.
+// Dropping is a call, so crates above need not check both trees.
 impl Drop for KeyMap {
     fn drop(self) {
         let KeyMap { own, shared } = self;
@@ -41,7 +46,7 @@ impl KeyMap {
     ghost use Rattle.store_maps.specs.Merges.{MergesAll, at_key, AreFreshFor, AreReady, has_fresh};
     ghost use Rattle.store_maps.specs.Trees.{kept, tree_entry, has_entry};
 
-    /// No versions. Takes no memory.
+    /// No versions.
     pub fn new(alloc: Global) -> KeyMap
         ensures versions { (k : List ℕ) → held result k ≡ [] }
         ensures places { (k : List ℕ) → has_place result k ≡ false }
@@ -52,7 +57,6 @@ impl KeyMap {
         }
     }
 
-    // What the map has for the key.
     fn entry(&self, key: &[u8]) -> Option<&Versions>
         ensures some { IfSome result (λ v. map_entry self.now key.now ≡ Some v.now) }
         ensures none { IfNone result (map_entry self.now key.now ≡ None) }
@@ -63,7 +67,7 @@ impl KeyMap {
         }
     }
 
-    /// The versions of the key, if it has any. Takes no memory.
+    /// Returns the key's versions, if it has any.
     pub fn key_versions(&self, key: &[u8]) -> Option<&Versions>
         ensures some { IfSome result (λ v. (v.now ≡ held self.now key.now) × (v.now ≢ [])) }
         ensures none { IfNone result (held self.now key.now ≡ []) }
@@ -74,7 +78,7 @@ impl KeyMap {
         }
     }
 
-    /// Whether no key has a place: for whoever never makes empty ones.
+    /// Whether no key has a place, for callers that never make empty ones.
     pub fn is_empty(&self) -> bool
         ensures { IsTrue result ↔ ((k : List ℕ) → has_place self.now k ≡ false) }
     {
@@ -84,7 +88,6 @@ impl KeyMap {
         }
     }
 
-    // The one tree that has all, if no other lies over or under it.
     fn alone(&self) -> Option<&KeyTree>
         ensures { IfSome result (λ t. (k : List ℕ) → tree_entry t.now k ≡ map_entry self.now k) }
     {
@@ -95,7 +98,7 @@ impl KeyMap {
         }
     }
 
-    // One tree with all that the map has. Costs a copy of each of its keys.
+    // One tree with everything. Costs a copy of each key.
     fn flat(&self) -> Result<KeyTree, Refusal>
         ensures same { IfOk result (λ t. (k : List ℕ) → tree_entry t k ≡ map_entry self.now k) }
         ensures memory { IfErr result (λ e. e ≡ OutOfMemory) }
@@ -108,8 +111,8 @@ impl KeyMap {
         Ok(flat)
     }
 
-    /// The keys that have versions, in ascending byte order. Costs a walk over the map, and a copy of its keys where some of them were
-    /// changed over what it shares.
+    /// Returns the keys with versions, in ascending byte order. Costs a walk over the map, and a copy of its keys if
+    /// some changed in the overlay.
     pub fn keys(&self) -> Result<Vec<Listed<u8>>, Refusal>
         ensures ok { IfOk result (λ keys. AreKeys (held self.now) keys.items) }
         ensures memory { IfErr result (λ e. e ≡ OutOfMemory) }
@@ -120,7 +123,7 @@ impl KeyMap {
         }
     }
 
-    // Lets the map share nothing. Costs a copy of each key of a map that shares.
+    // Removes sharing. Costs a copy of each key of a map that shares.
     fn unshare(&mut self) -> Result<(), Refusal>
         ensures same { (k : List ℕ) → map_entry self.new k ≡ map_entry self.old k }
         ensures ok { OnOk result (self.new.shared ≡ None) }
@@ -133,7 +136,7 @@ impl KeyMap {
         Ok(())
     }
 
-    // Puts what lies over into what is shared, if no other map has that any longer, and tells whether it did.
+    // Moves the overlay into the shared tree if no other map has it. Returns whether it did.
     fn put_down(&mut self) -> Result<bool, Refusal>
         ensures same { (k : List ℕ) → map_entry self.new k ≡ map_entry self.old k }
         ensures memory { IfErr result (λ e. e ≡ OutOfMemory) }
@@ -149,7 +152,7 @@ impl KeyMap {
         Ok(true)
     }
 
-    // Whether what lies over is so little that copies had better copy it than share one tree of all keys.
+    // Whether the overlay is so small that copying it beats sharing a new tree of all keys.
     fn lies_thinly(&self) -> bool {
         let over = self.own.len();
         match &self.shared {
@@ -158,8 +161,11 @@ impl KeyMap {
         }
     }
 
-    /// Lets copies share the map from here on. Costs one block where the map shares nothing yet, and none where it is empty; else a
-    /// look-up for each key that was changed since it was shared, if no other has what it shares, and at most a copy of each key.
+    /// Lets copies share the map from now on. An empty map costs nothing, one that shares nothing yet an
+    /// allocation.
+    ///
+    /// Others cost a look-up for each key of the overlay if no other map shares, and at most a copy of each
+    /// key.
     pub fn share(&mut self) -> Result<(), Refusal>
         ensures same { (k : List ℕ) → held self.new k ≡ held self.old k }
         ensures places { (k : List ℕ) → has_place self.new k ≡ has_place self.old k }
@@ -183,7 +189,7 @@ impl KeyMap {
         }
     }
 
-    // Gives the key a place in the own tree, if it has one in what is shared, so that it can be changed.
+    // Copies a shared key into the overlay, so that it can change.
     fn bring_up(&mut self, key: &[u8]) -> Result<(), Refusal>
         ensures same { (k : List ℕ) → map_entry self.new k ≡ map_entry self.old k }
         ensures rooms { (k : List ℕ) → has_room self.old k ≡ true → has_room self.new k ≡ true }
@@ -203,8 +209,9 @@ impl KeyMap {
         self.own.put(key, brought)
     }
 
-    /// A copy of the map: every key reads the same, and has a place where it has one here. Costs a copy of each key that was changed
-    /// since the map was shared, of each key if it never was.
+    /// Copies the map: every key reads the same, and has a place if it has one here.
+    ///
+    /// Costs a copy of each key changed since the map was shared, or of each key if it never was.
     pub fn try_copy(&self) -> Result<KeyMap, Refusal>
         ensures same { IfOk result (λ m. (k : List ℕ) → held m k ≡ held self.now k) }
         ensures places { IfOk result (λ m. (k : List ℕ) → has_place m k ≡ has_place self.now k) }
@@ -220,8 +227,8 @@ impl KeyMap {
         })
     }
 
-    /// The first half of a merge at one key: makes its place, where it has none, and what the other versions bring. No reading changes,
-    /// whatever the answer. Costs what `Versions::fresh_of` does, and a copy of the key where the map shares it.
+    /// Prepares a merge at one key: makes its place if missing, and what the other versions bring. Costs
+    /// `Versions::fresh_of`, and a copy of the key if shared.
     pub fn prepare(&mut self, key: &[u8], more: &Versions) -> Result<Fresh, Refusal>
         ensures same { (k : List ℕ) → held self.new k ≡ held self.old k }
         ensures stays { (k : List ℕ) → has_place self.old k ≡ true → has_place self.new k ≡ true }
@@ -235,7 +242,7 @@ impl KeyMap {
         self.own.prepare(key, more)
     }
 
-    /// The second half of a merge at one key, which cannot fail.
+    /// Completes a merge at one key. Cannot fail.
     pub fn settle(&mut self, key: &[u8], fresh: Fresh)
         requires { IsReady self.old key.now fresh }
         ensures merged { (more : List Version) → IsFreshFor (held self.old key.now) more fresh
@@ -247,7 +254,7 @@ impl KeyMap {
         self.own.settle(key, fresh);
     }
 
-    /// A merge at one key in one call. Refused, it has changed nothing and made no place; it never makes an empty one.
+    /// Merges at one key. If refused, nothing changes. Never makes an empty place.
     pub fn merge(&mut self, key: &[u8], more: &Versions) -> Result<(), Refusal>
         ensures ok { OnOk result (MergesAll (held self.old) (at_key key.now more.now) (held self.new)) }
         ensures err { OnErr result ((k : List ℕ) → held self.new k ≡ held self.old k) }
@@ -262,8 +269,10 @@ impl KeyMap {
         self.own.merge(key, more)
     }
 
-    /// Merges a whole map into one that was made aside: where it is refused, some of the keys may be merged already. Costs a look-up
-    /// and a merge for each key of the other map, and a copy of each key of this one if it shares.
+    /// Merges a whole map into one made aside. If refused, some keys may be merged already.
+    ///
+    /// Costs a look-up and a merge for each key of the other map, and a copy of each own key if this one
+    /// shares.
     pub fn merge_all(&mut self, other: &KeyMap) -> Result<(), Refusal>
         ensures ok { OnOk result (MergesAll (held self.old) (held other.now) (held self.new)) }
         ensures memory { IfErr result (λ e. e ≡ OutOfMemory) }
@@ -275,7 +284,7 @@ impl KeyMap {
         }
     }
 
-    // The first half of a merge at one key, which can be changed only where something new comes.
+    // Prepares a merge at one key, which can be changed only if something new comes.
     fn prepare_new(&mut self, key: &[u8], more: &Versions) -> Result<Fresh, Refusal>
         ensures same { (k : List ℕ) → held self.new k ≡ held self.old k }
         ensures stays { (k : List ℕ) → has_place self.old k ≡ true → has_place self.new k ≡ true }
@@ -296,7 +305,6 @@ impl KeyMap {
         Ok(fresh)
     }
 
-    // The first half of a merge with a whole tree.
     fn prepare_tree(&mut self, other: &KeyTree) -> Result<FreshKeys, Refusal>
         ensures same { (k : List ℕ) → held self.new k ≡ held self.old k }
         ensures stays { (k : List ℕ) → has_place self.old k ≡ true → has_place self.new k ≡ true }
@@ -319,9 +327,10 @@ impl KeyMap {
         Ok(keys)
     }
 
-    /// The first half of a merge with a whole map: makes the places that are missing, and what the other map brings. No reading changes,
-    /// whatever the answer. Costs two look-ups and a merge for each key of the other map, and a copy of its keys where some of them were
-    /// changed over what it shares.
+    /// Prepares a merge with a whole map: makes missing places, and what the other map brings.
+    ///
+    /// Costs two look-ups and a merge for each key of the other map. If some keys changed in its overlay, also
+    /// costs a copy of its keys.
     pub fn prepare_all(&mut self, other: &KeyMap) -> Result<FreshKeys, Refusal>
         ensures same { (k : List ℕ) → held self.new k ≡ held self.old k }
         ensures stays { (k : List ℕ) → has_place self.old k ≡ true → has_place self.new k ≡ true }
@@ -340,7 +349,7 @@ impl KeyMap {
         }
     }
 
-    /// The second half of a merge with a whole map, which cannot fail. Costs a look-up for each key to which something comes.
+    /// Completes a merge with a whole map. Cannot fail. Costs a look-up for each key that gets something.
     pub fn settle_all(&mut self, fresh: FreshKeys)
         requires { AreReady self.old fresh }
         ensures merged { (more : List ℕ → List Version) → AreFreshFor (held self.old) more fresh
@@ -351,7 +360,6 @@ impl KeyMap {
         self.own.settle_all(fresh);
     }
 
-    // Whether this map's keys are few beside those that the other shares.
     fn goes_over(&self, other: &KeyMap) -> bool {
         match &other.shared {
             Some(shared) => self.shared.is_none() && self.own.len() < shared.len(),
@@ -359,7 +367,6 @@ impl KeyMap {
         }
     }
 
-    // This map's keys merged into a copy of the other map, in its place.
     fn put_over(&mut self, other: &KeyMap) -> Result<(), Refusal>
         ensures ok { OnOk result (MergesAll (held self.old) (held other.now) (held self.new)) }
         ensures err { OnErr result ((k : List ℕ) → held self.new k ≡ held self.old k) }
@@ -375,9 +382,11 @@ impl KeyMap {
         Ok(())
     }
 
-    /// Merges a whole map. Refused, it has changed no reading. Where this map has no place, it costs what a copy of the other does; where it
-    /// shares nothing and has fewer keys than the other shares, such a copy and two look-ups and a merge for each key of this map; and
-    /// else what `prepare_all` does.
+    /// Merges a whole map. An empty map costs a copy of the other. Otherwise costs `prepare_all`, or less in
+    /// one case.
+    ///
+    /// If this map shares nothing, and the other shares more keys, costs such a copy. Each own key then costs
+    /// two look-ups and a merge.
     pub fn take_in(&mut self, other: &KeyMap) -> Result<(), Refusal>
         ensures ok { OnOk result (MergesAll (held self.old) (held other.now) (held self.new)) }
         ensures err { OnErr result ((k : List ℕ) → held self.new k ≡ held self.old k) }

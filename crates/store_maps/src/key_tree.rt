@@ -8,7 +8,7 @@ use ring_names::{Listed, Refusal};
 use ring_versions::Versions;
 use std::alloc::Global;
 
-/// Versions by key, in ascending byte order of the keys: what a map has for itself, or shares with others.
+/// Versions by key, in ascending byte order: a map's own part or its shared one.
 #[derive(Drop)]
 pub struct KeyTree {
     pub(crate) alloc: Global,
@@ -37,7 +37,7 @@ impl KeyTree {
         }
     }
 
-    /// The keys that have versions, in ascending byte order.
+    /// Returns the keys with versions, in ascending byte order.
     pub fn keys(&self) -> Result<Vec<Listed<u8>>, Refusal>
         ensures ok { IfOk result (λ keys. AreKeys (kept self.now) keys.items) }
         ensures memory { IfErr result (λ e. e ≡ OutOfMemory) }
@@ -52,7 +52,7 @@ impl KeyTree {
         Ok(keys)
     }
 
-    /// A copy of the tree.
+    /// Copies the tree.
     pub fn try_copy(&self) -> Result<KeyTree, Refusal>
         ensures same { IfOk result (λ t. (k : List ℕ) → tree_entry t k ≡ tree_entry self.now k) }
         ensures memory { IfErr result (λ e. e ≡ OutOfMemory) }
@@ -62,7 +62,7 @@ impl KeyTree {
         Ok(copy)
     }
 
-    /// All that the other has, in place of what its keys had. Refused, some of its keys may have it already.
+    /// Sets all keys of the other to its versions. If refused, some keys may be set already.
     pub fn put_all(&mut self, other: &KeyTree) -> Result<(), Refusal>
         ensures ok { OnOk result ((k : List ℕ)
             → tree_entry self.new k ≡ option_or (tree_entry other.now k) (tree_entry self.old k)) }
@@ -75,12 +75,11 @@ impl KeyTree {
         Ok(())
     }
 
-    /// How many keys have places: a guide, of which nothing is promised.
+    /// How many keys have places: a hint without a contract.
     pub fn len(&self) -> usize {
         self.entries.len()
     }
 
-    // The versions at the key, in place of what it had.
     pub(crate) fn put(&mut self, key: &[u8], versions: Versions) -> Result<(), Refusal>
         requires { IsApart versions }
         ensures ok { OnOk result (PutsAt (entries_of self.old.entries) (entries_of self.new.entries) key.now versions) }

@@ -1,4 +1,6 @@
-//! Maps from key to versions, and the sixteen of them that keep a slot's keys by chunk.
+//! Maps from key to versions, and the sixteen maps of a slot, one for each chunk.
+//!
+//! A function without a `Result` takes no memory.
 #![tactic(auto)]
 
 mod all_keys;

@@ -12,7 +12,7 @@ impl KeyTree {
     ghost use Rattle.store_maps.specs.Trees.{kept, has_entry, IsReadyIn};
     ghost use Rattle.store_maps.specs.Merges.{MergesAll, at_key};
 
-    /// The first half of a merge at one key: makes its place, where it has none, and what the other versions bring.
+    /// Prepares a merge at one key: makes its place if missing, and what the other versions bring.
     pub fn prepare(&mut self, key: &[u8], more: &Versions) -> Result<Fresh, Refusal>
         ensures same { (k : List ℕ) → kept self.new k ≡ kept self.old k }
         ensures stays { (k : List ℕ) → has_entry self.old k ≡ true → has_entry self.new k ≡ true }
@@ -28,7 +28,7 @@ impl KeyTree {
         Versions::new(self.alloc).fresh_of(more)
     }
 
-    /// The second half of a merge at one key, which cannot fail.
+    /// Completes a merge at one key. Cannot fail.
     pub fn settle(&mut self, key: &[u8], fresh: Fresh)
         requires { IsReadyIn self.old key.now fresh }
         ensures merged { (more : List Version) → IsFreshFor (kept self.old key.now) more fresh
@@ -39,7 +39,7 @@ impl KeyTree {
         self.entries.absorb(key, fresh);
     }
 
-    /// A merge at one key in one call. Refused, it has changed nothing and made no place; it never makes an empty one.
+    /// Merges at one key. If refused, nothing changes. Never makes an empty place.
     pub fn merge(&mut self, key: &[u8], more: &Versions) -> Result<(), Refusal>
         ensures ok { OnOk result (MergesAll (kept self.old) (at_key key.now more.now) (kept self.new)) }
         ensures err { OnErr result ((k : List ℕ) → kept self.new k ≡ kept self.old k) }

@@ -10,21 +10,22 @@ use ring_names::Refusal;
 use ring_versions::{Fresh, Versions};
 use std::alloc::Global;
 
-/// The versions of one slot's keys, in a map for each chunk of its partition to which something came, of sixteen at most. Calls take a key's
-/// chunk beside the key, so that its digest is made once for all of them.
+/// The versions of one slot's keys, in a map for each of up to sixteen chunks that got something. Preparations
+/// and refused calls change no reading.
+///
+/// Calls take a key's chunk too, so that its digest is computed once.
 #[derive(Drop)]
 pub struct SlotMap {
     alloc: Global,
     q: u32,
-    // What is read of a chunk without a map.
+    // Read for a chunk without a map.
     empty: KeyMap,
-    // The maps with the numbers of their chunks, in the order in which they were made.
+    // The maps and their chunks, in the order of their making.
     chunks: Vec<(u32, KeyMap)>,
     ghost placed: { ArePlaced q chunks.items },
     ghost bare: { IsBare empty },
 }
 
-// Where the map of a chunk is, if there is one.
 fn map_place(maps: &[(u32, KeyMap)], chunk: u32) -> Option<usize>
     ensures some { IfSome result (IsMapAt chunk maps.now) }
     ensures none { IfNone result (map_in maps.now chunk ≡ None) }
@@ -69,7 +70,7 @@ impl SlotMap {
         })
     }
 
-    // The place of a chunk's map, made where it is missing. No reading changes, whatever the answer.
+    // Returns the place of a chunk's map, made if missing. No reading changes.
     fn open(&mut self, chunk: u32) -> Result<usize, Refusal>
         ensures space { space_of self.new ≡ space_of self.old }
         ensures same { (k : List ℕ) → held_for self.new k ≡ held_for self.old k }
@@ -87,7 +88,7 @@ impl SlotMap {
         Ok(place)
     }
 
-    /// The map of a chunk. Takes no memory.
+    /// Returns the map of a chunk.
     pub fn chunk(&self, chunk: u32) -> &KeyMap
         requires { chunk < 16 }
         ensures lies { (k : List ℕ) → has_place result.now k ≡ true → chunk_of (space_of self.now) k ≡ chunk }
@@ -101,7 +102,7 @@ impl SlotMap {
         }
     }
 
-    /// Lets copies share the map of a chunk from here on, as `KeyMap::share` does. No reading changes, whatever the answer.
+    /// Lets copies share the map of a chunk, as `KeyMap::share` does. No reading changes.
     pub fn share_chunk(&mut self, chunk: u32) -> Result<(), Refusal>
         requires { chunk < 16 }
         ensures space { space_of self.new ≡ space_of self.old }
@@ -115,7 +116,7 @@ impl SlotMap {
         }
     }
 
-    /// The versions of a key of the chunk, if it has any. Takes no memory.
+    /// Returns the key's versions, if it has any.
     pub fn key_versions(&self, chunk: u32, key: &[u8]) -> Option<&Versions>
         requires { chunk_of (space_of self.now) key.now ≡ chunk }
         ensures some { IfSome result (λ v. (v.now ≡ held_for self.now key.now) × (v.now ≢ [])) }
@@ -124,8 +125,7 @@ impl SlotMap {
         self.chunk(chunk).key_versions(key)
     }
 
-    /// The first half of a merge at one key of the chunk: makes its place, where it has none, and what the other versions bring. No reading
-    /// changes, whatever the answer.
+    /// Prepares a merge at one key of the chunk: makes its place if missing, and what the other versions bring.
     pub fn prepare(&mut self, chunk: u32, key: &[u8], more: &Versions) -> Result<Fresh, Refusal>
         requires { chunk_of (space_of self.old) key.now ≡ chunk }
         ensures space { space_of self.new ≡ space_of self.old }
@@ -140,7 +140,7 @@ impl SlotMap {
         self.chunks[place].1.prepare(key, more)
     }
 
-    /// The second half of a merge at one key of the chunk, which cannot fail.
+    /// Completes a merge at one key of the chunk. Cannot fail.
     pub fn settle(&mut self, chunk: u32, key: &[u8], fresh: Fresh)
         requires chunk { chunk_of (space_of self.old) key.now ≡ chunk }
         requires ready { IsReadyFor self.old key.now fresh }
@@ -156,7 +156,7 @@ impl SlotMap {
         }
     }
 
-    /// A merge at one key of the chunk in one call. Refused, it has changed nothing and made no place; it never makes an empty one.
+    /// Merges at one key of the chunk. If refused, nothing changes. Never makes an empty place.
     pub fn merge(&mut self, chunk: u32, key: &[u8], more: &Versions) -> Result<(), Refusal>
         requires { chunk_of (space_of self.old) key.now ≡ chunk }
         ensures space { space_of self.new ≡ space_of self.old }
@@ -175,7 +175,7 @@ impl SlotMap {
         self.chunks[place].1.merge(key, more)
     }
 
-    /// Merges a map of the chunk's keys. Refused, it has changed no reading. Costs what `KeyMap::take_in` does.
+    /// Merges a map of the chunk's keys. Costs `KeyMap::take_in`.
     pub fn merge_chunk(&mut self, chunk: u32, other: &KeyMap) -> Result<(), Refusal>
         requires chunk { chunk < 16 }
         requires lies { (k : List ℕ) → has_place other.now k ≡ true → chunk_of (space_of self.old) k ≡ chunk }
@@ -192,8 +192,7 @@ impl SlotMap {
         self.chunks[place].1.take_in(other)
     }
 
-    // The first half of a merge of a chunk with a whole map: makes the places that are missing, and what the other map brings. No reading
-    // changes, whatever the answer.
+    // Prepares a merge of a chunk with a whole map.
     pub(crate) fn prepare_chunk(&mut self, chunk: u32, other: &KeyMap) -> Result<FreshKeys, Refusal>
         requires chunk { chunk < 16 }
         requires lies { (k : List ℕ) → has_place other.now k ≡ true → chunk_of (space_of self.old) k ≡ chunk }
@@ -212,7 +211,6 @@ impl SlotMap {
         self.chunks[place].1.prepare_all(other)
     }
 
-    // The second half of a merge of a chunk with a whole map, which cannot fail.
     pub(crate) fn settle_chunk(&mut self, chunk: u32, fresh: FreshKeys)
         requires chunk { chunk < 16 }
         requires ready { AreReadyFor self.old chunk fresh }
@@ -230,7 +228,7 @@ impl SlotMap {
         }
     }
 
-    /// Whether no key has a place: for whoever never makes empty ones.
+    /// Whether no key has a place, for callers that never make empty ones.
     pub fn is_empty(&self) -> bool
         ensures { IsTrue result ↔ ((k : List ℕ) → has_place_for self.now k ≡ false) }
     {
@@ -242,7 +240,7 @@ impl SlotMap {
         true
     }
 
-    /// A copy of the maps: every key reads the same.
+    /// Copies the maps: every key reads the same.
     pub fn try_copy(&self, alloc: Global) -> Result<SlotMap, Refusal>
         ensures space { IfOk result (λ a. space_of a ≡ space_of self.now) }
         ensures same { IfOk result (λ a. (k : List ℕ) → held_for a k ≡ held_for self.now k) }

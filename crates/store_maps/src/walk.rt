@@ -1,4 +1,4 @@
-//! Walks over entries.
+//! Iterates over entries.
 
 ghost use Rattle.std.specs.Iterator.{item_count};
 ghost use Rattle.store_maps.specs.Entries.{left_of, TakesNext};
@@ -6,7 +6,6 @@ ghost use Rattle.store_maps.specs.Entries.{left_of, TakesNext};
 use ring_versions::Versions;
 use std::collections::btree_map;
 
-// What is left of entries, in order.
 #[derive(Drop)]
 pub(crate) enum Walk<'a> {
     Few(&'a [(Vec<u8>, Versions)]),

@@ -12,8 +12,8 @@ impl SlotMap {
     ghost use Rattle.store_maps.specs.Merges.{MergesAll, AreFreshMaps};
     ghost use Rattle.store_maps.specs.Slots.{space_of, held_for, has_place_for, has_room_for, AllReadyFor};
 
-    /// The first half of a merge with all maps of a slot, in a hash space of as many partitions: makes the places that are missing, and what
-    /// the other maps bring. No reading changes, whatever the answer. Costs a look-up and a merge for each key of the other maps.
+    /// Prepares a merge with all maps of a slot, in a hash space of as many partitions. Costs a look-up and a merge for
+    /// each key of the other maps.
     pub fn prepare_map(&mut self, alloc: Global, other: &SlotMap) -> Result<FreshMaps, Refusal>
         requires { space_of other.now ≡ space_of self.old }
         ensures space { space_of self.new ≡ space_of self.old }
@@ -32,7 +32,7 @@ impl SlotMap {
         Ok(FreshMaps { list })
     }
 
-    /// The second half of a merge with all maps of a slot, which cannot fail. Costs a look-up for each key to which something comes.
+    /// Completes a merge with all maps of a slot. Cannot fail. Costs a look-up for each key that gets something.
     pub fn settle_map(&mut self, fresh: FreshMaps)
         requires { AllReadyFor self.old fresh }
         ensures space { space_of self.new ≡ space_of self.old }

@@ -2,7 +2,7 @@
 use Rattle.std.proofs.Common.{◌≡◌, ℕ, zero, suc, ◌+◌, ◌≤◌, Bool, true, false, cond, List, [], ◌∷◌, length, refl, ap, arith}
 use Rattle.plan_runs.specs.World.{passing_from, passing_below}
 
--- one where the test holds, else none
+-- one if the test holds, otherwise none
 abbrev pub one : Bool → ℕ
 one true = 1
 one false = 0

@@ -27,7 +27,7 @@ nothing m = rw (bit_at-zero m) (and_false (nat_lt m 16))
     and_false true = refl
     and_false false = refl
 
--- as many of the marks of a step as the list shows of it
+-- a step has as many marks as the list shows
 pub marked_by : (n m : ℕ) (xs : List StepNow) (marks : Marks) → marks ≡ marks_at xs m → length (passing_below n (has_mark marks)) ≡ length (passing_below n (is_marked_at xs m))
 marked_by n m xs marks e = ap (λ (y : Marks). length (passing_below n (has_mark y))) e ∙ at (slice_get xs m)
   where

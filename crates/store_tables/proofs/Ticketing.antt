@@ -6,7 +6,7 @@ use Rattle.std.proofs.lemmas.Bool.{ne_eqb}
 use Rattle.plan_runs.specs.Effects.{with_value}
 use Rattle.store_tables.specs.Puts.{ticket_in, with_ticket}
 
--- a write in place, where there is a place
+-- a write in place, if there is a place
 pub written_ticket : (ts : List (Option ℕ)) (i g : ℕ) → i < length ts → slice_set ts i (Some g) ≡ with_ticket ts i g
 written_ticket [] i g l = absurd (omega arith)
 written_ticket (x ∷ xs) zero g l = refl

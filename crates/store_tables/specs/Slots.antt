@@ -13,7 +13,7 @@ slot_now rows t = option_and_then (λ row. slice_get row t.index) (slice_get row
 abbrev pub slot_at_start : NodeId → SlotNow
 slot_at_start owner = record { owner = owner; mirror = None; generation = 0 }
 
--- its mirror owns it, where there is one
+-- the mirror owns the slot, if there is a mirror
 abbrev pub switched : SlotNow → SlotNow
 switched x = elim x.mirror [ Some node ↦ record x { owner = node; mirror = None } | None ↦ x ]
 

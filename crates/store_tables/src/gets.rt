@@ -14,20 +14,20 @@ use ring_versions::Found;
 use std::alloc::Global;
 use std::marker::Model;
 
-/// What holds of a get now.
+/// The state of a get.
 #[derive(Drop)]
 pub struct GetNow {
     /// The number of its key.
     pub key: usize,
     /// The slots of the key's partition that it has read, by index.
     pub read: Marks,
-    /// What it found at these, merged.
+    /// What it found there, merged.
     pub found: Found,
-    /// The puts that it answered, ascending, once it has ended.
+    /// The puts that it returned, ascending, once it has ended.
     pub reply: Option<Listed<u32>>,
 }
 
-/// The gets in order of their start, numbered from 0.
+/// The gets, numbered from 0 in order of their start.
 #[derive(Drop)]
 pub struct Gets {
     gets: Vec<GetNow>,
@@ -43,7 +43,7 @@ impl Model for Gets {
 }
 
 impl Gets {
-    /// No get.
+    /// No gets.
     pub fn new(alloc: Global) -> Gets
         ensures { result ≡ [] }
     {
@@ -52,21 +52,21 @@ impl Gets {
         }
     }
 
-    /// How many gets there are.
+    /// Counts the gets.
     pub fn len(&self) -> usize
         ensures { result ≡ length self.now }
     {
         self.gets.len()
     }
 
-    /// The get of that number, if there is one. Takes no memory.
+    /// Returns the get of this number.
     pub fn get(&self, number: u32) -> Option<&GetNow>
         ensures { option_map (λ get. get.now) result ≡ slice_get self.now number }
     {
         self.gets.get(number as usize)
     }
 
-    /// Whether the get has read the slot of that index. Takes no memory.
+    /// Whether the get has read the slot.
     pub fn is_read(&self, number: u32, index: u32) -> bool
         ensures { result ≡ is_read_at self.now number index }
     {
@@ -76,7 +76,7 @@ impl Gets {
         }
     }
 
-    /// How many of the 7 slots that a partition may have the get has read. Takes no memory.
+    /// Counts the slots that the get has read, up to 7.
     pub fn read_count(&self, number: u32) -> u32
         ensures { result ≡ length (passing_below 7 (is_read_at self.now number)) }
     {
@@ -86,7 +86,7 @@ impl Gets {
         }
     }
 
-    /// Adds a get behind the others. Refused, the gets are as before.
+    /// Adds a get.
     pub fn push(&mut self, get: GetNow) -> Result<(), Refusal>
         ensures ok { OnOk result (self.new ≡ self.old ++ get ∷ []) }
         ensures err { OnErr result (self.new ≡ self.old) }
@@ -96,7 +96,7 @@ impl Gets {
         Ok(())
     }
 
-    /// The get has read the slot of that index, and these are the versions that it found so far. Takes no memory.
+    /// Sets the slot as read, and the versions found so far.
     #[tactic(auto, using(crate::proofs::Writing::writing))]
     pub fn set_found(&mut self, number: u32, index: u32, found: Found)
         requires { index < 7 }
@@ -113,7 +113,7 @@ impl Gets {
         }
     }
 
-    /// The get has ended with that reply. Takes no memory.
+    /// Ends the get with the reply.
     #[tactic(auto, using(crate::proofs::Writing::writing))]
     pub fn end(&mut self, number: u32, reply: Listed<u32>)
         ensures { self.new ≡ changed self.old number (λ x. record x { reply = Some reply }) }

@@ -12,8 +12,9 @@ use ring_space::{Place, place};
 use std::alloc::Global;
 use std::marker::Model;
 
-/// The keys of puts and gets among q partitions, each numbered by its place in order of first sight, from 0, with the place where it
-/// lies: a key's digest is made once. A look-up costs what one of `Numbered` does.
+/// The keys of puts and gets, numbered by first sight from 0. A look-up costs that of `Numbered`.
+///
+/// Their places among q partitions are kept, so that a key's digest is computed once.
 #[derive(Drop)]
 pub struct Keys {
     q: u32,
@@ -46,21 +47,21 @@ impl Keys {
         }
     }
 
-    /// How many keys there are.
+    /// Counts the keys.
     pub fn len(&self) -> usize
         ensures { result ≡ length self.now.keys }
     {
         self.keys.len()
     }
 
-    /// The number of the key, if it was seen. Takes no memory.
+    /// Returns the number of the key, if it was seen.
     pub fn number_of(&self, key: &[u8]) -> Option<usize>
         ensures { result ≡ number_in self.now.keys key.now }
     {
         self.keys.number_of(key)
     }
 
-    /// The number of the key: the one that it has, or the next. Out of memory is answered for a new key alone.
+    /// Returns the number of the key, old or new. Only a new key can fail.
     pub fn add(&mut self, key: &[u8]) -> Result<usize, Refusal>
         ensures number { IfOk result (λ n. number_in self.new.keys key.now ≡ Some n) }
         ensures keys { OnOk result (self.new ≡ record self.old { keys = with_name self.old.keys key.now }) }
@@ -76,7 +77,7 @@ impl Keys {
         Ok(number)
     }
 
-    /// The key of that number. Takes no memory.
+    /// Returns the key of this number.
     pub fn key(&self, number: usize) -> &[u8]
         requires { number < length self.now.keys }
         ensures { slice_get self.now.keys number ≡ Some result.now }
@@ -87,7 +88,7 @@ impl Keys {
         }
     }
 
-    /// Where the key of that number lies. Takes no memory.
+    /// Returns the place of the key.
     pub fn place(&self, number: usize) -> Place
         requires { number < length self.now.keys }
         ensures place { option_map (place_of self.now.q) (slice_get self.now.keys number) ≡ Some result }

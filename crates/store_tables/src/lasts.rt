@@ -8,21 +8,20 @@ use ring_names::{Refusal, WriterId};
 use std::alloc::Global;
 use std::collections::BTreeMap;
 
-// A writer of a key.
 #[derive(Clone, Copy, Debug, PartialEq, Eq, PartialOrd, Ord)]
 struct KeyWriter {
     key: usize,
     writer: u32,
 }
 
-/// The last put of each writer on each key, by their numbers. A look-up is by an ordered map, since clients choose the keys.
+/// The last put of each writer on each key, by their numbers. The map is ordered, since clients choose the keys.
 #[derive(Drop)]
 pub struct Lasts {
     puts: BTreeMap<KeyWriter, u32>,
 }
 
 impl Lasts {
-    /// No writer has put anything.
+    /// No puts.
     pub fn new(alloc: Global) -> Lasts
         ensures { (k w : ℕ) → last_of result k w ≡ None }
     {
@@ -31,7 +30,7 @@ impl Lasts {
         }
     }
 
-    /// The last put of the writer on the key, if there is one. Takes no memory.
+    /// Returns the last put of the writer on the key.
     pub fn get(&self, key: usize, writer: WriterId) -> Option<u32>
         ensures { result ≡ last_of self.now key writer.0 }
     {
@@ -39,7 +38,7 @@ impl Lasts {
         self.puts.get(&KeyWriter { key, writer }).copied()
     }
 
-    /// The writer's last put on the key is this one. Refused, each last put is as before.
+    /// Sets the writer's last put on the key.
     pub fn set(&mut self, key: usize, writer: WriterId, put: u32) -> Result<(), Refusal>
         ensures ok { OnOk result ((k w : ℕ)
             → last_of self.new k w ≡ (if (k == key) && (w == writer.0) then Some put else last_of self.old k w)) }

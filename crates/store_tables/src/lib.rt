@@ -1,5 +1,6 @@
-//! What a running store keeps beside the versions themselves: its nodes, the steps of its plan, its slots, the keys, and the
-//! puts and gets in order of their start.
+//! What a running store keeps besides versions: nodes, steps, slots, keys, and puts and gets in order of their start.
+//!
+//! A function without a `Result` takes no memory. A refused call changes nothing.
 #![tactic(auto)]
 
 mod gets;

@@ -10,10 +10,10 @@ use ring_table::Ring;
 use std::alloc::Global;
 use std::marker::Model;
 
-/// What holds of a node now.
+/// The state of a node.
 #[derive(Clone, Copy, Debug, PartialEq, Eq)]
 pub struct NodeNow {
-    /// Whether it can be reached; what it has stays while it is down.
+    /// Whether it can be reached. A node that is down keeps its data.
     pub up: bool,
     /// Whether the ring declares it `in`, or it has joined since.
     pub joined: bool,
@@ -21,7 +21,7 @@ pub struct NodeNow {
     pub retired: bool,
 }
 
-/// The declared nodes of a ring, by number, 1 to 1,024 of them. Each call but `start` costs one look-up and takes no memory.
+/// The declared nodes of a ring, by number, 1 to 1,024 of them. Each call except `start` costs one look-up.
 #[derive(Drop)]
 pub struct Nodes {
     nodes: Vec<NodeNow>,
@@ -37,7 +37,7 @@ impl Model for Nodes {
 }
 
 impl Nodes {
-    /// The nodes before the first step of a plan: those that the ring declares `in` are up and joined.
+    /// The nodes before the first step of a plan: those declared `in` are up and joined.
     pub fn start(alloc: Global, ring: &Ring) -> Result<Nodes, Refusal>
         ensures start { IfOk result (λ nodes. nodes ≡ map node_at_start ring.now.nodes) }
         ensures memory { IfErr result (λ e. e ≡ OutOfMemory) }
@@ -53,7 +53,7 @@ impl Nodes {
         Ok(Nodes { nodes })
     }
 
-    /// Whether the node is up; one that is not declared is not.
+    /// Whether the node is declared and up.
     pub fn is_up(&self, node: NodeId) -> bool
         ensures { result ≡ is_up_at self.now node.0 }
     {
@@ -63,7 +63,7 @@ impl Nodes {
         }
     }
 
-    /// Whether the node has joined and has not retired; one that is not declared has not joined.
+    /// Whether the node has joined and has not retired.
     pub fn is_member(&self, node: NodeId) -> bool
         ensures { result ≡ is_member_at self.now node.0 }
     {
@@ -73,7 +73,7 @@ impl Nodes {
         }
     }
 
-    /// The node is up.
+    /// Takes the node up.
     #[tactic(auto, using(crate::proofs::Writing::writing))]
     pub fn raise(&mut self, node: NodeId)
         ensures { self.new ≡ changed self.old node.0 (λ x. record x { up = true }) }
@@ -85,7 +85,7 @@ impl Nodes {
         }
     }
 
-    /// The node is down.
+    /// Takes the node down.
     #[tactic(auto, using(crate::proofs::Writing::writing))]
     pub fn lower(&mut self, node: NodeId)
         ensures { self.new ≡ changed self.old node.0 (λ x. record x { up = false }) }
@@ -96,7 +96,7 @@ impl Nodes {
         }
     }
 
-    /// The node has joined, and is up.
+    /// Lets the node join, and be up.
     #[tactic(auto, using(crate::proofs::Writing::writing))]
     pub fn join(&mut self, node: NodeId)
         ensures { self.new ≡ changed self.old node.0 (λ x. record x { up = true; joined = true }) }
@@ -109,7 +109,7 @@ impl Nodes {
         }
     }
 
-    /// The node has retired.
+    /// Retires the node.
     #[tactic(auto, using(crate::proofs::Writing::writing))]
     pub fn retire(&mut self, node: NodeId)
         ensures { self.new ≡ changed self.old node.0 (λ x. record x { retired = true }) }

@@ -12,20 +12,20 @@ use ring_versions::Versions;
 use std::alloc::Global;
 use std::marker::Model;
 
-/// What holds of a put now.
+/// The state of a put.
 #[derive(Drop)]
 pub struct PutNow {
     /// The number of its key.
     pub key: usize,
-    /// The one version that it makes.
+    /// Its one version.
     pub version: Versions,
-    /// Of each slot of the key's partition the generation at which it was last written or hinted there, if it was.
+    /// For each slot, the generation of the last write or hint, if any.
     pub tickets: [Option<u32>; 7],
     /// Whether it is acknowledged.
     pub acked: bool,
 }
 
-/// The puts in order of their start, numbered from 0.
+/// The puts, numbered from 0 in order of their start.
 #[derive(Drop)]
 pub struct Puts {
     puts: Vec<PutNow>,
@@ -40,7 +40,6 @@ impl Model for Puts {
     ghost view = { λ a. a.puts.items };
 }
 
-// The tickets with one of that generation for the slot of that index.
 #[tactic(auto, using(crate::proofs::Ticketing::ticketing))]
 fn with_ticket(mut tickets: [Option<u32>; 7], index: u32, generation: u32) -> [Option<u32>; 7]
     requires { index < 7 }
@@ -52,7 +51,7 @@ fn with_ticket(mut tickets: [Option<u32>; 7], index: u32, generation: u32) -> [O
 }
 
 impl Puts {
-    /// No put.
+    /// No puts.
     pub fn new(alloc: Global) -> Puts
         ensures { result ≡ [] }
     {
@@ -61,21 +60,21 @@ impl Puts {
         }
     }
 
-    /// How many puts there are.
+    /// Counts the puts.
     pub fn len(&self) -> usize
         ensures { result ≡ length self.now }
     {
         self.puts.len()
     }
 
-    /// The put of that number, if there is one. Takes no memory.
+    /// Returns the put of this number.
     pub fn get(&self, number: u32) -> Option<&PutNow>
         ensures { option_map (λ put. put.now) result ≡ slice_get self.now number }
     {
         self.puts.get(number as usize)
     }
 
-    /// Adds a put behind the others. Refused, the puts are as before.
+    /// Adds a put.
     pub fn push(&mut self, put: PutNow) -> Result<(), Refusal>
         ensures ok { OnOk result (self.new ≡ self.old ++ put ∷ []) }
         ensures err { OnErr result (self.new ≡ self.old) }
@@ -85,14 +84,14 @@ impl Puts {
         Ok(())
     }
 
-    /// Takes the last put away again. Takes no memory.
+    /// Removes the last put.
     pub fn pop(&mut self)
         ensures { (puts : List ThePut) (put : ThePut) → self.old ≡ puts ++ put ∷ [] → self.new ≡ puts }
     {
         self.puts.pop();
     }
 
-    /// The put has a ticket of that generation for the slot of that index. Takes no memory.
+    /// Sets the put's ticket for the slot.
     #[tactic(auto, using(crate::proofs::Writing::writing))]
     pub fn set_ticket(&mut self, number: u32, index: u32, generation: u32)
         requires { index < 7 }
@@ -108,7 +107,7 @@ impl Puts {
         }
     }
 
-    /// The put is acknowledged. Takes no memory.
+    /// Acknowledges the put.
     #[tactic(auto, using(crate::proofs::Writing::writing))]
     pub fn acknowledge(&mut self, number: u32)
         ensures { self.new ≡ changed self.old number (λ x. record x { acked = true }) }

@@ -12,19 +12,18 @@ use ring_table::Ring;
 use std::alloc::Global;
 use std::marker::Model;
 
-/// What holds of a slot now.
+/// The state of a slot.
 #[derive(Clone, Copy, Debug, PartialEq, Eq)]
 pub struct SlotNow {
     /// The node that serves it.
     pub owner: NodeId,
-    /// The node that takes its writes too, and owns it once the plan switches it.
+    /// The node that takes its writes too, and owns it after the plan's switch.
     pub mirror: Option<NodeId>,
-    /// How many mirrors it has had.
+    /// How many mirrors it has had, plus how often a node of the group lost its data.
     pub generation: u32,
 }
 
 impl SlotNow {
-    // The mirror owns the slot, where there is one.
     fn switched(self) -> SlotNow
         ensures { result ≡ switched self }
     {
@@ -39,7 +38,6 @@ impl SlotNow {
     }
 }
 
-// The slots of one partition, by index.
 #[derive(Drop)]
 struct SlotRow {
     slots: Vec<SlotNow>,
@@ -86,7 +84,7 @@ impl SlotRow {
     }
 }
 
-/// The slots of a ring, by partition and index. Each call but `start` costs at most two look-ups and takes no memory.
+/// The slots of a ring, by partition and index. Each call except `start` costs at most two look-ups.
 #[derive(Drop)]
 pub struct Slots {
     rows: Vec<SlotRow>,
@@ -102,7 +100,7 @@ impl Model for Slots {
 }
 
 impl Slots {
-    /// The slots before the first step of a plan: each has its owner by the ring, no mirror, and generation 0.
+    /// The slots before the first step of a plan: the ring's owners, no mirrors, generation 0.
     pub fn start(alloc: Global, ring: &Ring) -> Result<Slots, Refusal>
         ensures start { IfOk result
             (λ slots. (t : TheSlot) → slot_now slots t ≡ option_map slot_at_start (owner_of ring.now t)) }
@@ -115,7 +113,7 @@ impl Slots {
         Ok(Slots { rows })
     }
 
-    /// What holds of the slot, if the ring has it.
+    /// Returns the state of the slot, if the ring has it.
     pub fn at(&self, slot: Slot) -> Option<SlotNow>
         ensures { result ≡ slot_now self.now slot }
     {
@@ -125,7 +123,7 @@ impl Slots {
         }
     }
 
-    /// The node that owns the slot, if the ring has it.
+    /// Returns the owner of the slot, if the ring has it.
     pub fn owner(&self, slot: Slot) -> Option<NodeId>
         ensures { result ≡ option_map (λ x. x.owner) (slot_now self.now slot) }
     {
@@ -135,7 +133,6 @@ impl Slots {
         }
     }
 
-    // Writes what holds of the slot.
     fn put(&mut self, slot: Slot, now: SlotNow)
         ensures { ChangesSlot self.old self.new slot (λ x. now) }
     {
@@ -145,7 +142,7 @@ impl Slots {
         }
     }
 
-    /// The node mirrors the slot.
+    /// Sets the slot's mirror.
     pub fn set_mirror(&mut self, slot: Slot, node: NodeId)
         ensures { ChangesSlot self.old self.new slot (λ x. record x { mirror = Some node }) }
     {
@@ -155,7 +152,7 @@ impl Slots {
         }
     }
 
-    /// The slot's mirror owns it, and nothing mirrors it; one with no mirror is as before.
+    /// Makes the slot's mirror its owner, if there is one.
     pub fn switch(&mut self, slot: Slot)
         ensures { ChangesSlot self.old self.new slot switched }
     {
@@ -164,7 +161,7 @@ impl Slots {
         }
     }
 
-    /// The slot's generation is one more.
+    /// Raises the slot's generation.
     pub fn raise(&mut self, slot: Slot)
         requires { IfSome (slot_now self.old slot) (λ x. x.generation < 4294967295) }
         ensures { ChangesSlot self.old self.new slot (λ x. record x { generation = x.generation + 1 }) }

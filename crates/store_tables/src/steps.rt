@@ -12,18 +12,18 @@ use ring_names::Refusal;
 use std::alloc::Global;
 use std::marker::Model;
 
-/// What holds of a step now.
+/// The state of a step.
 #[derive(Clone, Copy, Debug, PartialEq, Eq)]
 pub struct StepNow {
     /// Whether it is finished.
     pub done: bool,
-    /// Whether it is a copy that is open.
+    /// Whether it is an open copy.
     pub is_open: bool,
-    /// The chunks that the copy has given to the mirror; they stay when it is broken off.
+    /// The chunks that the copy has given to the mirror. They stay marked after an abort.
     pub marks: Marks,
 }
 
-/// The steps of a plan, by number. Each call but `start` costs one look-up and takes no memory.
+/// The steps of a plan, by number. Each call except `start` costs one look-up.
 #[derive(Drop)]
 pub struct Steps {
     steps: Vec<StepNow>,
@@ -43,7 +43,7 @@ impl Model for Steps {
 }
 
 impl Steps {
-    /// So many steps, of which none is done or open, and no chunk is marked.
+    /// Steps of which none is done or open, without marked chunks.
     pub fn start(alloc: Global, count: u32) -> Result<Steps, Refusal>
         ensures start { IfOk result (λ steps. steps ≡ replicate count step_at_start) }
         ensures memory { IfErr result (λ e. e ≡ OutOfMemory) }
@@ -59,7 +59,7 @@ impl Steps {
         Ok(Steps { steps, left: count })
     }
 
-    /// Whether the step is done; one that there is not is not.
+    /// Whether the step exists and is done.
     pub fn is_done(&self, step: u32) -> bool
         ensures { result ≡ is_done_at self.now step }
     {
@@ -69,7 +69,7 @@ impl Steps {
         }
     }
 
-    /// Whether the step is a copy that is open.
+    /// Whether the step is an open copy.
     pub fn is_open(&self, step: u32) -> bool
         ensures { result ≡ is_open_at self.now step }
     {
@@ -79,7 +79,7 @@ impl Steps {
         }
     }
 
-    /// Whether that chunk of the copy is marked.
+    /// Whether the chunk of the copy is marked.
     pub fn is_marked(&self, step: u32, chunk: u32) -> bool
         ensures { result ≡ is_marked_at self.now step chunk }
     {
@@ -89,7 +89,6 @@ impl Steps {
         }
     }
 
-    // The chunks of the copy that are marked.
     fn marks(&self, step: u32) -> Marks
         ensures { result ≡ marks_at self.now step }
     {
@@ -99,21 +98,21 @@ impl Steps {
         }
     }
 
-    /// How many of the copy's 16 chunks are marked.
+    /// Counts the copy's marked chunks, of 16.
     pub fn marked(&self, step: u32) -> u32
         ensures { result ≡ length (passing_below 16 (is_marked_at self.now step)) }
     {
         self.marks(step).count_below(16)
     }
 
-    /// How many steps are not done. Costs no look-up.
+    /// Counts the steps that are not done. Costs no look-up.
     pub fn left(&self) -> u32
         ensures { result ≡ steps_left self.now }
     {
         self.left
     }
 
-    /// The step is done, and no longer open.
+    /// Finishes the step, which is no longer open.
     #[tactic(auto, using(crate::proofs::Writing::writing))]
     pub fn finish(&mut self, step: u32)
         ensures { self.new ≡ changed self.old step (λ x. record x { done = true; is_open = false }) }
@@ -129,7 +128,7 @@ impl Steps {
         }
     }
 
-    /// The step is open.
+    /// Opens the step.
     #[tactic(auto, using(crate::proofs::Writing::writing))]
     pub fn open(&mut self, step: u32)
         ensures { self.new ≡ changed self.old step (λ x. record x { is_open = true }) }
@@ -140,7 +139,7 @@ impl Steps {
         }
     }
 
-    /// The step is no longer open.
+    /// Closes the step without finishing it.
     #[tactic(auto, using(crate::proofs::Writing::writing))]
     pub fn close_open(&mut self, step: u32)
         ensures { self.new ≡ changed self.old step (λ x. record x { is_open = false }) }
@@ -151,7 +150,7 @@ impl Steps {
         }
     }
 
-    /// That chunk of the step is marked.
+    /// Marks the chunk of the step.
     #[tactic(auto, using(crate::proofs::Writing::writing))]
     pub fn mark(&mut self, step: u32, chunk: u32)
         requires { chunk < 16 }

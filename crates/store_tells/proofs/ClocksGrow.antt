@@ -1,4 +1,4 @@
--- One put more, with its clock, behind those of a world.
+-- Another put, with its clock, behind the puts of a world.
 use Rattle.std.proofs.Common.{◌≡◌, inl, inr, ◌∙◌, ℕ, ◌<◌, true, List, [], ◌∷◌, ◌++◌, length, length-append, refl, sym, ap, subst, arith, eqb-true, eq-eqb}
 use Rattle.std.specs.Prelude.{◌==◌, Option, Some, None}
 use Rattle.std.proofs.lemmas.Bool.Decides.{eqb_tells}

@@ -14,7 +14,7 @@ use Rattle.store_tells.specs.Clocks.{IsInputOf}
 use Rattle.store_tells.specs.Found.{IsJoinOfFound}
 use Rattle.store_tells.proofs.ClocksStay.{some_reply}
 
--- a put that the reply of one of the gets had is among those of all
+-- a put that the reply of one get had is among those that all replies had
 in_replies : (gets : List GetRecord) (gs : List ℕ) (g v : ℕ) → has g gs ≡ true → replied gets g v ≡ true → some_replied gets gs v ≡ true
 in_replies gets [] g v h e = absurd cc
 in_replies gets (x ∷ gs) g v h e = elim (or_cases (g == x) (has g gs) h) [

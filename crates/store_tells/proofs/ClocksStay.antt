@@ -53,7 +53,7 @@ get_key : (key : List ℕ) (o : Option GetRecord) → (elim o [ Some x ↦ bytes
 get_key key None h = absurd cc
 get_key key (Some x) h = (bytes_eq-Decides x.key key).0 h
 
--- what replies of gets of the key had are puts of the key
+-- what gets of the key had in their replies are puts of the key
 fits : (ring : RingValue) (plan : List Planned) (w : World) (key seen : List ℕ) → Reached ring plan w → ((g : ℕ) → has g seen ≡ true → is_get_of w key g ≡ true) → (v : ℕ) → some_replied w.gets seen v ≡ true → (v < length w.puts) × (key_of_put w v ≡ key)
 fits ring plan w key seen reached of v h =
     let g = some_reply w.gets seen v h in

@@ -1,4 +1,4 @@
--- Gets that are kept stay those of the world where one starts, reads or ends.
+-- Gets that are kept stay those of the world when one starts, reads or ends.
 use Rattle.std.proofs.Common.{◌≡◌, inl, inr, ◌∙◌, ℕ, zero, suc, ◌<◌, Bool, true, false, cond, List, [], ◌∷◌, ◌++◌, length, length-append, refl, sym, ap, subst, arith}
 use Rattle.std.specs.Prelude.{◌||◌, ◌==◌, Option, Some, None, Ok, slice_get, is_some}
 use Rattle.std.proofs.lemmas.Option.{slice_get_past, slice_get_within}
@@ -104,7 +104,7 @@ gets_started ring plan w u key r clock keys gets get h of unread empty blank m =
 
 -- ---- one get changes
 
--- the gets that are kept are those of the world where one is changed here and there alike
+-- the gets that are kept are those of the world if one is changed here and there alike
 changes : (ring : RingValue) (clock : ℕ → List Entry) (keys : List (List ℕ)) (gets : List GetNow) (w u : World) (n : ℕ) (f : GetNow → GetNow) (h : GetRecord → GetRecord) → u.gets ≡ changed w.gets n h → ((v : ℕ) → value_of u v ≡ value_of w v)
     → ((g : ℕ) → (g == n) ≡ false → (v : ℕ) → (found_by ring u g v ≡ found_by ring w g v) × (replied u.gets g v ≡ replied w.gets g v))
     → ((get : GetNow) (x : GetRecord) → slice_get gets n ≡ Some get → slice_get w.gets n ≡ Some x → GetMeets ring clock w keys n get x → GetMeets ring clock u keys n (f get) (h x))
@@ -135,7 +135,7 @@ read_more : (b c : Bool) (o : Option (List ℕ)) (vs : List ℕ) → c ≡ is_so
 read_more true c o vs e = refl
 read_more false c o vs e = e
 
--- the get has read the slot, and found a merge of what it had found and of what shows the slot's puts of its key
+-- the get has read the slot, and found a merge of what it had found and what shows the slot's puts with the key
 pub gets_read : (ring : RingValue) (plan : List Planned) (w u : World) (g i : ℕ) (r : Reply) (clock : ℕ → List Entry) (keys : List (List ℕ)) (gets : List GetNow) (get : GetNow) (at_slot new : List Version)
     → Reached ring plan w → AreClocksOf w clock → answer ring plan w (Read g i) ≡ Ok (u, r) → i < 7 → slice_get gets g ≡ Some get
     → Shows clock (value_of w) at_slot (can_find ring plan w g i) → IsMerge get.found at_slot new

@@ -158,7 +158,7 @@ module _ (ring : RingValue) (plan : List Planned) (w u : World) (clock : ℕ →
 abbrev GetStays : RingValue → World → World → ℕ → ℕ → Type 0
 GetStays ring w u h v = (found_by ring u h v ≡ found_by ring w h v) × (replied u.gets h v ≡ replied w.gets h v)
 
--- what is read of a get depends on its record alone, and is nothing where there is none
+-- what is read of a get depends only on its record, and is nothing if there is none
 same_get : (ring : RingValue) (w : World) (gs : List GetRecord) (h v : ℕ) → slice_get gs h ≡ slice_get w.gets h → GetStays ring w (record w { gets = gs }) h v
 same_get ring w gs h v e = (
   ap (λ (o : Option GetRecord). some_below ring.n (λ i. elim (elim o as (λ _. Option (List ℕ)) [ Some x ↦ x.found i | None ↦ None ]) [ Some vs ↦ has v vs | None ↦ false ])) e,

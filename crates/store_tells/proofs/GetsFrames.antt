@@ -1,4 +1,5 @@
--- Gets that are kept meet the world at its start, and stay its gets through events that change no get, where keys come and where one more put has a clock.
+-- Gets that are kept meet the world at its start. They stay its gets through events that change no get, when
+-- keys come and when another put has a clock.
 use Rattle.std.proofs.Common.{◌≡◌, ◌∙◌, ℕ, ◌<◌, true, false, List, [], ◌∷◌, ◌++◌, length, refl, sym, ap, subst}
 use Rattle.std.specs.Prelude.{Ok, slice_get}
 use Rattle.ring_table.specs.Value.{RingValue}
@@ -71,7 +72,7 @@ gets_stay ring plan w u e r clock keys gets reached h none m =
 
 -- ---- keys and clocks that come
 
--- they stay so where a key comes behind
+-- they stay so when a key comes behind
 pub gets_stay_with_key : (ring : RingValue) (clock : ℕ → List Entry) (keys : List (List ℕ)) (gets : List GetNow) (w : World) (key : List ℕ) → GetsMeet ring clock keys gets w → GetsMeet ring clock (keys ++ key ∷ []) gets w
 gets_stay_with_key ring clock keys gets w key m = record {
   each = m.each;

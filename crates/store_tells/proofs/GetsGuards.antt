@@ -58,7 +58,7 @@ end_get_tested ring clock keys gets w g valid fit m =
 abbrev read_by : Bool → Bool → Bool → List Guard → List Guard
 read_by a b c more = (a, UnknownNumber) ∷ (not b, AlreadyDone) ∷ (not c, AlreadyDone) ∷ more
 
--- those of a read, in front of those of its slot's owner and keepers
+-- the tests of a read, in front of those for its slot's owner and keepers
 pub read_tested : (ring : RingValue) (plan : List Planned) (clock : ℕ → List Entry) (keys : List (List ℕ)) (gets : List GetNow) (w : World) (g i : ℕ) → GetsMeet ring clock keys gets w
     → read_guards ring plan w g i ≡ (has_get gets ring.n g i, UnknownNumber) ∷ (not (has_ended_at gets g), AlreadyDone) ∷ (not (is_read_at gets g i), AlreadyDone)
     ∷ up_guard w.up (stage_now ring plan w (get_slot ring w g i)).owner ∷ nodes_up w.up (length ring.nodes) (keeps_of_key w (key_of_get w g) (get_slot ring w g i))

@@ -134,7 +134,7 @@ same_read_count ring clock keys gets w g valid fit m =
     past i l true e = absurd (let less = fit g i e in omega arith)
     past i l false e = e
 
--- ---- reads of slots of the ring alone
+-- ---- reads of only the ring's slots
 
 -- at the start nothing was read
 pub reads_open : (ring : RingValue) → ReadsFit ring (opening_world ring)

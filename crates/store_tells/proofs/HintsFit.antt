@@ -1,4 +1,4 @@
--- Hints are kept for slot indexes of the ring alone, in every run.
+-- Hints are kept only for slot indexes of the ring, in every run.
 use Rattle.std.proofs.Common.{◌≡◌, inl, inr, List, ap, subst, arith, ltb-true}
 use Rattle.std.specs.Prelude.{nat_lt, length, Ok}
 use Rattle.std.proofs.lemmas.Bool.{and_parts}

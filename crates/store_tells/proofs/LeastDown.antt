@@ -20,7 +20,7 @@ all_up : (up : ℕ → Bool) (xs : List ℕ) → ((x : ℕ) → has x xs ≡ tru
 all_up up [] are = refl
 all_up up (x ∷ xs) are = (let e = are x (or_left (x == x) (has x xs) (same x)) in rw e (all_up up xs (λ y h. are y (or_right (y == x) (has y xs) h))))
 
--- of ascending nodes the one that is down, where those before it are up, is refused
+-- if a node is down and the ascending nodes before are up, that node is refused
 first_down : (up : ℕ → Bool) (xs : List ℕ) (y : ℕ) → ascending xs ≡ true → has y xs ≡ true → up y ≡ false → ((x : ℕ) → x < y → has x xs ≡ true → up x ≡ true)
     → first_failing (map (λ x. (up x, NodeDown x)) xs) ≡ Some (NodeDown y)
 first_down up [] y rise there down before = absurd cc

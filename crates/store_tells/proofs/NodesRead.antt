@@ -7,7 +7,7 @@ use Rattle.ring_names.proofs.InLists.{get_there}
 use Rattle.plan_runs.specs.Effects.{changed, with_number, without_number}
 use Rattle.plan_runs.proofs.Changed.{read_at, get_changed, get_other}
 
--- where a test is passed there is an item
+-- if a test is passed there is an item
 pub read_within : {A : Type 0} (read : A → Bool) (xs : List A) (n : ℕ) → read_at read false xs n ≡ true → n < length xs
 read_within {A} read xs n e = by (slice_get xs n) refl e
   where

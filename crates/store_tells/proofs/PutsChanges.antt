@@ -1,4 +1,4 @@
--- Puts that are kept stay those of the world where one gets a ticket or is acknowledged.
+-- Puts that are kept stay those of the world when one gets a ticket or is acknowledged.
 use Rattle.std.proofs.Common.{◌≡◌, inl, inr, ◌∙◌, ℕ, true, cond, List, [], length, refl, sym, ap, subst}
 use Rattle.std.specs.Prelude.{◌==◌, Option, Some, Ok, slice_get}
 use Rattle.ring_names.specs.declared.ids.NodeId.{NodeId}
@@ -31,14 +31,15 @@ same_clocks w clock other same made k l =
     next_same clock other (λ v. is_direct w k v ≡ true) (λ v. is_direct w k v ≡ true) (writer_of w k) (writer_of w k) (clock k) (other k)
     (λ v h. h) (λ v h. h) (λ v h. same v) refl (same k) (made k l)
 
--- a change of a kept put that leaves its key and version, and one of its record that leaves writer, key and value
+-- a change of a kept put that leaves key and version, and a change of the record that leaves writer, key and
+-- value
 record Leave (f : PutNow → PutNow) (h : PutRecord → PutRecord) : Type 0 where
   version : (put : PutNow) → (f put).version ≡ put.version
   writer : (x : PutRecord) → (h x).writer ≡ x.writer
   key : (x : PutRecord) → (h x).key ≡ x.key
   both : (keys : List (List ℕ)) (v : ℕ) (put : PutNow) (x : PutRecord) → PutMeets keys v put x → PutMeets keys v (f put) (h x)
 
--- the puts that are kept are those of the world where one is changed here and there alike
+-- the puts that are kept are those of the world if one is changed here and there alike
 changes : (keys : List (List ℕ)) (last : ℕ → ℕ → Option ℕ) (puts : List PutNow) (w u : World) (n : ℕ) (f : PutNow → PutNow) (h : PutRecord → PutRecord)
     → Leave f h → u.puts ≡ changed w.puts n h → AreClocksOf u (clock_at puts) → PutsMeet keys last puts w → PutsMeet keys last (changed puts n f) u
 changes keys last puts w u n f h leave is made m = record {

@@ -22,7 +22,7 @@ use Rattle.store_tells.proofs.PutsLists.{appended_at, stays_there, absent}
 
 -- ---- the start
 
--- no puts are those of the world at the start, with any keys, where no writer has a last put
+-- no puts are those of the world at the start, with any keys, if no writer has a last put
 pub puts_open : (ring : RingValue) (keys : List (List ℕ)) (last : ℕ → ℕ → Option ℕ) → ((k writer : ℕ) → last k writer ≡ None) → PutsMeet keys last [] (opening_world ring)
 puts_open ring keys last none = record {
   each = refl;
@@ -90,7 +90,7 @@ put_key keys last puts w m v l =
     let is : x.0.key ≡ key_of_put w v = ap (λ (o : Option PutRecord). elim o as (λ _. List ℕ) [ Some y ↦ y.key | None ↦ [] ]) (sym x.1) in
     (put.0.key, (m.at v put.0 x.0 put.1 x.1).key ∙ ap (λ (z : List ℕ). Some z) is)
 
--- the puts that are kept stay those of the world where a new key comes behind, of which no writer has a last put
+-- the puts that are kept stay those of the world when a new key comes behind, of which no writer has a last put
 pub puts_stay_with_key : (keys : List (List ℕ)) (last : ℕ → ℕ → Option ℕ) (puts : List PutNow) (w : World) (key : List ℕ)
     → place keys key ≡ None → ((writer : ℕ) → last (length keys) writer ≡ None) → PutsMeet keys last puts w → PutsMeet (keys ++ key ∷ []) last puts w
 puts_stay_with_key keys last puts w key new none m = record {

@@ -14,7 +14,7 @@ use Rattle.store_tells.proofs.PutsFrames.{puts_stay_with_key}
 use Rattle.store_tells.proofs.PutsStarts.{none_behind_more}
 use Rattle.store_tells.proofs.GetsFrames.{gets_stay_with_key}
 
--- what holds of the keys, and with a new key behind them, holds where a key was added
+-- what holds of the keys, and with a new key behind them, holds after a key was added
 named : (P : List (List ℕ) → Type 0) (keys : List (List ℕ)) (key : List ℕ) → P keys → (place keys key ≡ None → P (keys ++ key ∷ [])) → P (with_name keys key)
 named P keys key old new = by (place keys key) refl
   where
@@ -22,7 +22,7 @@ named P keys key old new = by (place keys key) refl
     by None e = new e
     by (Some n) e = old
 
--- the keys are all different where one was added
+-- the keys are all different after one was added
 pub numbered_named : (keys : List (List ℕ)) (key : List ℕ) → AreNumbered keys → AreNumbered (with_name keys key)
 numbered_named keys key n = named (λ (ks : List (List ℕ)). AreNumbered ks) keys key n (λ new. numbered_with_key keys key new n)
 

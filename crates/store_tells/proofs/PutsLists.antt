@@ -1,4 +1,4 @@
--- Items by number, where one is changed or one more comes, and keys by number.
+-- Items by number, if one is changed or another one comes, and keys by number.
 use Rattle.std.proofs.Common.{◌≡◌, ◌≢◌, ◌⊎◌, inl, inr, ◌∙◌, ℕ, zero, suc, ◌<◌, Bool, true, false, cond, List, [], ◌∷◌, ◌++◌, length, refl, sym, ap, subst, arith}
 use Rattle.std.specs.Prelude.{Option, Some, None, slice_get, option_map}
 use Rattle.std.specs.Str.{bytes_eq}
@@ -68,7 +68,7 @@ place_stays (y ∷ ys) more key k e = by (bytes_eq key y) (place ys key) (λ n f
 pub none_numbered : AreNumbered []
 none_numbered k key e = absurd cc
 
--- and keys that are all different stay so where a new one comes
+-- and keys that are all different stay so when a new one comes
 pub numbered_with_key : (keys : List (List ℕ)) (key : List ℕ) → place keys key ≡ None → AreNumbered keys → AreNumbered (keys ++ key ∷ [])
 numbered_with_key keys key none numbered k other e = elim (appended_at keys key k other e) [
   | inl a ↦ subst (λ (z : List ℕ). place (keys ++ key ∷ []) z ≡ Some k) a.1 (place-push keys key none ∙ ap (λ (n : ℕ). Some n) (sym a.0))

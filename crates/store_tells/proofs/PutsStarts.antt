@@ -45,7 +45,7 @@ use Rattle.store_tells.proofs.GetsFrames.{gets_stay, gets_stay_with_clocks}
 
 -- ---- clocks
 
--- where a put comes, those before it keep their clocks
+-- when a put comes, those before it keep their clocks
 pub clock_before : (puts : List PutNow) (put : PutNow) (v : ℕ) → v < length puts → clock_at (puts ++ put ∷ []) v ≡ clock_at puts v
 clock_before puts put v l = part_before (λ (x : PutNow). clock_in x.version) [] puts (put ∷ []) v l
 
@@ -78,7 +78,8 @@ seen_show ring plan w writer key value seen clock keys gets none m g named = by 
         subst (λ (held : List Version). Shows clock (value_of w) held (replied w.gets g)) (ap (λ (o : Option GetNow). elim o as (λ _. List Version) [ Some y ↦ y.found | None ↦ [] ]) (sym get.1))
         ((m.at g get.0 x get.1 e).answered ended))
 
--- the least clock above those of what they found and of the writer's last put is the join of the clocks of the put's inputs
+-- the least clock above what those gets found and the clock of the writer's last put joins the clocks of the
+-- put's inputs
 pub inputs_join : (ring : RingValue) (plan : List Planned) (w : World) (writer : WriterId) (key value seen : List ℕ) (clock : ℕ → List Entry) (keys : List (List ℕ)) (gets : List GetNow) (last : Option ℕ) (d : List Entry)
     → first_failing (guards ring plan w (StartPut writer key value seen)) ≡ None → GetsMeet ring clock keys gets w → IsJoinOfFound clock (found_at gets) seen last d → IsJoinOf clock (IsInputOf w seen last) d
 inputs_join ring plan w writer key value seen clock keys gets last d none m join = join_is w clock (value_of w) (found_at gets) seen last d (seen_show ring plan w writer key value seen clock keys gets none m) join
@@ -150,7 +151,7 @@ lasts_new keys last new w p k numbered is sets lasts j key writer e = by ((j == 
         cc))
         (lasts j key writer e)))
 
--- where no writer has a last put on a key behind the first n, so it is for more than n
+-- if no writer has a last put on a key behind the first n, so it is for more than n
 pub none_behind_more : (last : ℕ → ℕ → Option ℕ) (n m : ℕ) → n ≤ m → NoneBehind last n → NoneBehind last m
 none_behind_more last n m le none k writer l = none k writer (omega arith)
 
@@ -166,7 +167,7 @@ none_behind_set last new n k writer x l sets none j a le = elim (eqb_tells j k) 
 one_version : ℕ → List Entry → List ℕ → List Version
 one_version v c value = record { put = v; clock = c; value = value } ∷ []
 
--- the put that comes is the new one of the world, and its writer's last one of its key
+-- the put that comes is the new put of the world, and the writer's last put of that key
 pub puts_started : (ring : RingValue) (plan : List Planned) (w u : World) (writer : WriterId) (key value seen : List ℕ) (r : Reply) (keys : List (List ℕ)) (last new : ℕ → ℕ → Option ℕ) (puts : List PutNow) (put : PutNow) (c : List Entry)
     → Reached ring plan w → answer ring plan w (StartPut writer key value seen) ≡ Ok (u, r) → AreNumbered keys → slice_get keys put.key ≡ Some key
     → IsNext (clock_at puts) (IsInputOf w seen (last put.key writer.0)) writer.0 c

@@ -1,4 +1,4 @@
--- The numbers of the versions that show puts are those of the latest of these puts.
+-- If versions show puts, their numbers are those of the latest among these puts.
 use Rattle.std.proofs.Common.{◌≡◌, ◌⊎◌, inl, inr, ◌∙◌, ℕ, Bool, true, List, [], ◌∷◌, length, sym, subst, arith, eq-eqb}
 use Rattle.std.specs.Prelude.{◌↔◌, ◌==◌}
 use Rattle.std.proofs.lemmas.Bool.Decides.{eqb_tells}

@@ -32,7 +32,7 @@ module _ (w : World) (clock : ℕ → List Entry) (value : ℕ → List ℕ) (ma
       let of : is_of_key w key u ≡ true = (bytes_eq-Decides (key_of_put w u) key).1 (succeeds_same_key w u v succeeds) in
       covers_down held (clock v) (clock u) (above w clock made u v l succeeds) (s.covers u (and_from (test u) (is_of_key w key u) h of))
 
-  -- and where it covers its clock one of them succeeds the put
+  -- and if the set covers the put's clock, a shown put succeeds the put
   succeeded : (held : List Version) (test : ℕ → Bool) → Shows clock value held (λ u. test u && is_of_key w key u) → ((u : ℕ) → test u ≡ true → u < length w.puts) → Covers held (clock v) → (u : ℕ) × Succeeds w u v × (test u ≡ true)
   succeeded held test s are c =
       let d = s.drawn c.0 c.1 in

@@ -59,7 +59,7 @@ serves_kept ring plan rows w p x t l = some_alike ring.n (λ i. is_served_kept r
 
 -- ---- events
 
--- a test, and what is asked only where it is passed
+-- a test, and what is asked only if it is passed
 asked : (a b : Bool) (e : Refusal) (gs hs : List Guard) → a ≡ b → (b ≡ true → first_failing gs ≡ first_failing hs) → first_failing ((a, e) ∷ gs) ≡ first_failing ((b, e) ∷ hs)
 asked a true e gs hs same h = ap (λ (k : Bool). cond k (first_failing gs) (Some e)) same ∙ h refl
 asked a false e gs hs same h = ap (λ (k : Bool). cond k (first_failing gs) (Some e)) same

@@ -51,7 +51,7 @@ count_failing D T n ss off = count_same (λ s. D s && T s) (λ s. with_number D 
     neither true = refl
     neither false = refl
 
--- one that is among them, was not finished and passes it is one more
+-- if a number is among them, was not finished and passes, the count grows by 1
 pub count_one : (D T : ℕ → Bool) (n : ℕ) (ss : List ℕ) → Rises ss → has n ss ≡ true → D n ≡ false → T n ≡ true → count (λ s. with_number D n s && T s) ss ≡ count (λ s. D s && T s) ss + 1
 count_one D T n [] r h off on = absurd cc
 count_one D T n (s ∷ ss) r h off on = elim (eqb_tells n s) [

@@ -77,7 +77,7 @@ step_within plan n s e = by (slice_get plan n) refl e
     by None f h = absurd cc
     by (Some x) f h = slice_get_within plan n x f
 
--- a step that is no copy
+-- a step that is not a copy
 pub other_within : (plan : List Planned) (n : ℕ) → has_other plan n ≡ true → (s : Step) × (step_at plan n ≡ Some s)
 other_within plan n h = by (step_at plan n) h
   where
@@ -105,7 +105,7 @@ finish plan w n old l off t = record {
   marked = λ m c. part_changed (λ (a : StepNow). is_marked a c) false old n finished (λ a. refl) m ∙ t.marked m c;
 }
 
--- a step that is no copy is done
+-- a step that is not a copy is done
 pub steps_do : (ring : RingValue) (plan : List Planned) (w : World) (n : ℕ) (old new : List StepNow) → Reached ring plan w → first_failing (guards ring plan w (Do n)) ≡ None → StepsMeet plan old w
     → new ≡ changed old n (λ a. record a { done = true; is_open = false }) → StepsMeet plan new (effect ring plan w (Do n))
 unfolding guards effect

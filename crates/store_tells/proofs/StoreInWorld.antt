@@ -30,7 +30,7 @@ use Rattle.store_tells.specs.Kept.{Kept, Tells}
 use Rattle.store_tells.specs.Parts.{Meets, IsSound}
 use Rattle.plan_runs.proofs.Suited.{within as within_ring}
 
--- what follows from any world in which it may be, and can be so in one way alone, is so
+-- what follows from any world in which it may be, and can be so in only one way, is so
 pub holds : (a : Parts) {P : Type 0} → IsSound a → IsProp P → ((w : World) → Meets a w → P) → P
 holds a s p f = ∥∥₁_elim s.met p (λ m. f m.0 m.1)
 

@@ -1,4 +1,5 @@
--- What a store keeps that tells of a world tells of it still where versions read as before, and where a key was numbered.
+-- What a store keeps that tells of a world tells of it still if versions read as before, and after a key was
+-- numbered.
 use Rattle.std.proofs.Common.{◌≡◌, inl, inr, ℕ, ◌<◌, List, [], ◌++◌, ◌∷◌, subst}
 use Rattle.std.specs.Prelude.{Option, Some, None, is_some, if◌then◌else◌}
 use Rattle.ring_names.specs.Names.{place, with_name}

@@ -40,7 +40,7 @@ module _ (ring : RingValue) (plan : List Planned) (k : Kept) (w : World) (m : Te
       let c = (m.hinted x s (key_of_put w v)).covers v (and_from (w.hinted x s v) (is_of_key w (key_of_put w v) v) h of) in
       (subst (λ (held : List Version). Covers held (clock_at k.puts v)) none c).1
 
-  -- where there are versions of a key, a put of the key is kept
+  -- if there are versions of a key, a put of the key is kept
   pub kept_put : (x : ℕ) (s : Slot) (key : List ℕ) → (k.hinted x s key ≡ [] → ⊥) → (v : ℕ) × (v < length w.puts) × (w.hinted x s v ≡ true) × (key_of_put w v ≡ key)
   kept_put x s key some = by (k.hinted x s key) refl
     where

@@ -6,7 +6,7 @@ use Rattle.ring_clock.specs.Clock.{counter, IsAtMost}
 use Rattle.ring_versions.specs.declared.version.Version.{Version}
 use Rattle.ring_versions.specs.Versions.{IsIn}
 
--- c is the clock of a version that one of these gets found, or that of the writer's last put
+-- c is the clock of the writer's last put, or a clock that some version found by these gets has
 abbrev pub IsInputClock : (ℕ → List Entry) → (ℕ → List Version) → List ℕ → Option ℕ → List Entry → Type 0
 IsInputClock clock found seen last c =
     ((g : ℕ) × (x : Version) × (has g seen ≡ true) × IsIn x (found g) × (x.clock ≡ c)) ⊎ ((v : ℕ) × (last ≡ Some v) × (clock v ≡ c))

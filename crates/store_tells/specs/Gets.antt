@@ -10,17 +10,17 @@ use Rattle.store_tells.specs.GetsFind.{found_by}
 use Rattle.store_tables.specs.declared.gets.GetNow.{GetNow}
 use Rattle.store_tables.specs.Gets.{is_read}
 
--- the versions that the get of that number found, none where there is no such get
+-- the versions that the get of that number found, none if there is no such get
 abbrev pub found_at : List GetNow → ℕ → List Version
 found_at gets g = elim (slice_get gets g) [ Some get ↦ get.found | None ↦ [] ]
 
--- it is get g of that record: its key by number, the slots that it has read, what it found there and its reply
+-- the kept get is get g of that record: the key by number, the slots read, what it found there and the reply
 pub record GetMeets (ring : RingValue) (clock : ℕ → List Entry) (w : World) (keys : List (List ℕ)) (g : ℕ) (get : GetNow) (x : GetRecord) : Type 0 where
   pub key : slice_get keys get.key ≡ Some x.key
   pub reads : (i : ℕ) → is_read get i ≡ is_some (x.found i)
   pub found : Shows clock (value_of w) get.found (found_by ring w g)
   pub reply : get.reply ≡ x.reply
-  -- once it has ended, what it found shows its reply
+  -- once the get has ended, what it found shows its reply
   pub answered : is_some x.reply ≡ true → Shows clock (value_of w) get.found (replied w.gets g)
 
 -- they are the gets

@@ -9,7 +9,7 @@ use Rattle.store_tables.specs.Gets.{is_read_at}
 abbrev pub has_get : List GetNow → ℕ → ℕ → ℕ → Bool
 has_get gets n g i = nat_lt g (length gets) && nat_lt i n
 
--- there is a get of that number, and it is of the key of that number
+-- there is a get with that number, and its key has that number
 abbrev pub is_of_number : List GetNow → ℕ → ℕ → Bool
 is_of_number gets k g = elim (slice_get gets g) [ Some get ↦ get.key == k | None ↦ false ]
 

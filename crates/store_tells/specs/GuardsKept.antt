@@ -63,7 +63,8 @@ hint_guards_kept nodes exists serves keeps_other x = (exists, UnknownNumber) ∷
 abbrev pub owner_up_kept : List NodeNow → List (List SlotNow) → Slot → List Guard
 owner_up_kept nodes rows slot = elim (slot_now rows slot) [ Some a ↦ up_guard (is_up_at nodes) a.owner ∷ [] | None ↦ [] ]
 
--- the get and the slot index exist, it has not ended and not read the slot; the slot's owner and the keepers of hints of the key for it are up
+-- the get and the slot index exist, and the get has not ended and not read the slot. The slot's owner and the
+-- keepers of the key's hints for the slot are up
 abbrev pub read_guards_kept : RingValue → List NodeNow → List (List SlotNow) → Bool → Bool → Bool → (ℕ → Bool) → Slot → List Guard
 read_guards_kept ring nodes rows exists ended was_read keeps slot = (exists, UnknownNumber) ∷ (not ended, AlreadyDone) ∷ (not was_read, AlreadyDone)
     ∷ (owner_up_kept nodes rows slot ++ nodes_up (is_up_at nodes) (length ring.nodes) keeps)

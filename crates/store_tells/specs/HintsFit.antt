@@ -5,7 +5,7 @@ use Rattle.ring_table.specs.Value.{RingValue}
 use Rattle.ring_space.specs.Place.{place_of}
 use Rattle.plan_runs.specs.World.{World}
 
--- hints are kept for slot indexes of the ring alone
+-- hints are kept only for slot indexes of the ring
 abbrev pub HintsFit : RingValue → World → Type 0
 HintsFit ring w = (x : ℕ) (slot : Slot) (v : ℕ) → w.hinted x slot v ≡ true → slot.index < ring.n
 

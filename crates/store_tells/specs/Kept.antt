@@ -25,8 +25,8 @@ use Rattle.store_tells.specs.Gets.{GetsMeet}
 use Rattle.store_tells.specs.GetsTests.{ReadsFit}
 use Rattle.store_tells.specs.HintsFit.{HintsFit, KeysFit}
 
--- nodes, steps, slots by partition, keys by number, each writer's last put on each key, puts, gets, the number of losses, and the versions
--- that nodes store and those that they keep as hints, by node, slot and key
+-- nodes, steps, slots by partition, keys by number, each writer's last put on each key, puts, gets, and the
+-- number of losses. Also the versions that nodes store and those that they keep as hints, by node, slot and key
 pub record Kept : Type 0 where
   pub nodes : List NodeNow
   pub steps : List StepNow
@@ -39,8 +39,8 @@ pub record Kept : Type 0 where
   pub stored : ℕ → Slot → List ℕ → List Version
   pub hinted : ℕ → Slot → List ℕ → List Version
 
--- a run of the approved plan leads to the world, and this is what a store keeps that has done that run: all that the world tells, where
--- versions show puts
+-- a run of the approved plan leads to the world, and this is what a store keeps that has done that run. It is
+-- all that the world tells, with versions that show puts
 pub record Tells (ring : RingValue) (plan : List Planned) (k : Kept) (w : World) : Type 0 where
   pub is_ring : IsRing ring
   pub is_plan : IsPlan plan

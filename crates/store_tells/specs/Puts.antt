@@ -8,7 +8,7 @@ use Rattle.store_tells.specs.Clocks.{AreClocksOf, IsLastOf}
 use Rattle.store_tables.specs.declared.puts.PutNow.{PutNow}
 use Rattle.store_tables.specs.Puts.{ticket_at}
 
--- the clock of the first of these versions, the least one where there is none
+-- the clock of the first of these versions, the least one if there is none
 abbrev pub clock_in : List Version → List Entry
 clock_in [] = []
 clock_in (x ∷ xs) = x.clock
@@ -17,14 +17,15 @@ clock_in (x ∷ xs) = x.clock
 abbrev pub clock_at : List PutNow → ℕ → List Entry
 clock_at puts v = elim (slice_get puts v) [ Some put ↦ clock_in put.version | None ↦ [] ]
 
--- it is put v of that record: its key by number, its one version, its tickets
+-- the kept put is put v of that record: the key by number, the only version, the tickets
 pub record PutMeets (keys : List (List ℕ)) (v : ℕ) (put : PutNow) (x : PutRecord) : Type 0 where
   pub key : slice_get keys put.key ≡ Some x.key
   pub version : put.version ≡ record { put = v; clock = clock_in put.version; value = x.value } ∷ []
   pub tickets : (i : ℕ) → ticket_at put i ≡ x.ticket i
   pub acked : put.acked ≡ x.acked
 
--- they are the puts, their clocks are made of those that they directly succeed, and the last put of each writer on each key is known
+-- they are the puts, and their clocks are made of those that they directly succeed. The last put of each writer
+-- on each key is known
 pub record PutsMeet (keys : List (List ℕ)) (last : ℕ → ℕ → Option ℕ) (puts : List PutNow) (w : World) : Type 0 where
   pub each : length puts ≡ length w.puts
   pub at : (v : ℕ) (put : PutNow) (x : PutRecord) → slice_get puts v ≡ Some put → slice_get w.puts v ≡ Some x → PutMeets keys v put x

@@ -1,4 +1,4 @@
--- What a set of versions shows of a set of puts.
+-- What a set of versions shows about a set of puts.
 use Rattle.std.specs.Prelude.{◌≡◌, ℕ, ◌<◌, Bool, true, List, [], length, Some, None, slice_get}
 use Rattle.ring_clock.specs.declared.entry.Entry.{Entry}
 use Rattle.ring_versions.specs.declared.version.Version.{Version}
@@ -9,7 +9,8 @@ use Rattle.plan_runs.specs.World.{World, key_of_put}
 abbrev pub value_of : World → ℕ → List ℕ
 value_of w v = elim (slice_get w.puts v) [ Some x ↦ x.value | None ↦ [] ]
 
--- a set of versions without ancestors shows a set of puts: each version is one of them with its clock and its value, each of them is covered
+-- a set of versions without ancestors shows a set of puts. Each version is one of the puts with its clock and
+-- value, and each put is covered
 pub record Shows (clock : ℕ → List Entry) (value : ℕ → List ℕ) (held : List Version) (test : ℕ → Bool) : Type 0 where
   pub drawn : (x : Version) → IsIn x held → (test x.put ≡ true) × (x.clock ≡ clock x.put) × (x.value ≡ value x.put)
   pub covers : (v : ℕ) → test v ≡ true → Covers held (clock v)

@@ -14,7 +14,7 @@ pub record IsNow (ring : RingValue) (plan : List Planned) (w : World) (slot : Sl
   pub mirror : x.mirror ≡ (stage_now ring plan w slot).mirror
   pub generation : x.generation ≡ generation plan w slot
 
--- they tell the owner, mirror and generation of each slot of the ring, and of no other
+-- they tell each ring slot's owner, mirror and generation, and tell of no other slot
 pub record SlotsMeet (ring : RingValue) (plan : List Planned) (rows : List (List SlotNow)) (w : World) : Type 0 where
   pub each : (slot : Slot) → is_ring_slot ring slot ≡ true → (x : SlotNow) × (slot_now rows slot ≡ Some x) × IsNow ring plan w slot x
   pub others : (slot : Slot) → is_ring_slot ring slot ≡ false → slot_now rows slot ≡ None

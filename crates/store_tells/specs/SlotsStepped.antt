@@ -11,7 +11,8 @@ use Rattle.plan_runs.specs.declared.event.Event.TheVariants.{Do, Lose}
 use Rattle.store_tables.specs.declared.slots.SlotNow.{SlotNow}
 use Rattle.store_tables.specs.Slots.{slot_now, switched}
 
--- a slot after a step of it: a mirror is one more of its mirrors, and by a switch that one owns it
+-- a slot after one of its steps. A mirror step sets the mirror and the next generation, and by a switch the
+-- mirror owns the slot
 abbrev pub stepped : SlotNow → Step → SlotNow
 stepped a (step.Join x) = a
 stepped a (step.Mirror s x) = record a { mirror = Some x; generation = a.generation + 1 }

@@ -1,4 +1,4 @@
-//! The clocks of a world's puts. Each function here is a law: it does nothing, and its contract holds of the definitions.
+//! Laws of the clocks of a world's puts. Each is the contract of an empty function.
 
 ghost use Rattle.std.specs.Prelude.{◌≡◌, ◌↔◌, ℕ, ◌<◌, ◌≤◌, false, List, length, Option, Ok};
 ghost use Rattle.ring_names.specs.declared.ids.WriterId.{WriterId as TheWriter};
@@ -17,22 +17,23 @@ ghost use Rattle.plan_runs.specs.Reached.{Reached};
 ghost use Rattle.plan_runs.specs.Leaves.{starts_put};
 ghost use Rattle.store_tells.specs.Clocks.{AreClocksOf, IsLastOf, IsInputOf};
 
-/// Of two puts of one key the first one's clock is at most the second's exactly where the second succeeds the first.
+/// Of two puts of one key, the first's clock is at most the second's exactly if the second succeeds the first.
 pub fn clocks_tell_succession()
     ensures { (w : World) (clock : ℕ → List TheEntry) → AreClocksOf w clock
         → (u v : ℕ) → u < length w.puts → v < length w.puts → key_of_put w u ≡ key_of_put w v
         → IsAtMost (clock v) (clock u) ↔ Succeeds w u v }
 {}
 
-/// A put whose clock reaches another put's own counter, both of one key, has a clock that is at least the other's.
+/// A put whose clock reaches another's own counter, for the same key, has a clock at least the other's.
 pub fn own_counters_tell()
     ensures { (w : World) (clock : ℕ → List TheEntry) → AreClocksOf w clock
         → (u v : ℕ) → u < length w.puts → v < length w.puts → key_of_put w u ≡ key_of_put w v
         → counter (clock v) (writer_of w v) ≤ counter (clock u) (writer_of w v) → IsAtMost (clock v) (clock u) }
 {}
 
-/// At the start any clocks will do, an event that starts no put leaves all clocks as they are, and one that starts a put leaves
-/// those of the others, where its own is made of its inputs' clocks.
+/// At the start any clocks will do. An event that starts no put keeps all clocks.
+///
+/// One that starts a put keeps the others, if the put's clock comes from its inputs'.
 pub fn clocks_are_kept()
     ensures opening { (ring : RingValue) (clock : ℕ → List TheEntry) → AreClocksOf (opening_world ring) clock }
     ensures stay { (ring : RingValue) (plan : List Planned) (w u : World) (e : TheEvent) (r : TheReply)

@@ -1,4 +1,4 @@
-//! What gets found, as versions. Each function here is a law: it does nothing, and its contract holds of the definitions.
+//! Laws of what gets found, as versions. Each is the contract of an empty function.
 
 ghost use Rattle.std.specs.Prelude.{◌≡◌, ℕ, true, false, List, Option, Ok};
 ghost use Rattle.ring_names.specs.Lists.{has};
@@ -22,8 +22,8 @@ ghost use Rattle.store_tells.specs.Clocks.{AreClocksOf, IsInputOf};
 ghost use Rattle.store_tells.specs.GetsFind.{can_find, found_by, is_of_get};
 ghost use Rattle.store_tells.specs.Found.{IsJoinOfFound};
 
-/// A read finds the puts of the versions that show what the slot has of the key, and their merge with what the get found before
-/// shows what it found then.
+/// A read finds the puts of the slot's versions of the key. Merged with what the get found before, they show what it
+/// found then.
 pub fn reads_are_merged()
     ensures shows { (ring : RingValue) (plan : List Planned) (w u : World) (clock : ℕ → List TheEntry)
         (value : ℕ → List ℕ) (g : ℕ) (r : TheReply)
@@ -38,7 +38,7 @@ pub fn reads_are_merged()
         → ArePuts at_slot ns → r ≡ Found ns }
 {}
 
-/// A get that ends is answered the puts of the versions that show what it found, and these versions then show its reply.
+/// A get that ends returns the puts of the versions that it found, and these versions then show its reply.
 pub fn ended_gets_show_replies()
     ensures shows { (ring : RingValue) (plan : List Planned) (w u : World) (clock : ℕ → List TheEntry)
         (value : ℕ → List ℕ) (g : ℕ) (r : TheReply) (found : List TheVersion)
@@ -52,15 +52,16 @@ pub fn ended_gets_show_replies()
         → (ns : List ℕ) → ArePuts found ns → r ≡ Answer ns }
 {}
 
-/// Every other event leaves what the get found, and its reply.
+/// Every other event keeps what the get found, and its reply.
 pub fn gets_are_kept()
     ensures { (ring : RingValue) (plan : List Planned) (w u : World) (e : TheEvent) (r : TheReply) (g : ℕ)
         → answer ring plan w e ≡ Ok (u, r) → is_of_get g e ≡ false
         → (v : ℕ) → (found_by ring u g v ≡ found_by ring w g v) × (replied u.gets g v ≡ replied w.gets g v) }
 {}
 
-/// Where the versions that gets found show what their replies had, the least clock above those of these versions and of the
-/// writer's last put is the join of the clocks of the inputs of a put that names these gets.
+/// The versions that gets found must show their replies.
+///
+/// Then their clocks and that of the writer's last put join to the inputs' join of a put that names these gets.
 pub fn found_clocks_join()
     ensures { (w : World) (clock : ℕ → List TheEntry) (value : ℕ → List ℕ) (found : ℕ → List TheVersion) (seen : List ℕ)
         (last : Option ℕ) (d : List TheEntry)

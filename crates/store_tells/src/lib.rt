@@ -1,6 +1,5 @@
-//! What pruned sets of versions show of the puts of a world, and the clocks of its puts; all that a running store keeps, as one
-//! value; for each part what it says of a world, and that it goes on to say so when an event changes both. The laws are between the
-//! code's sets of versions and the world of the definitions, which has no clocks.
+//! All parts of a running store, what each says of a world, and that it still does after an event changes both. The
+//! laws relate sets of versions and clocks to the world of the definitions, which has no clocks.
 #![tactic(auto)]
 
 mod clocks;

@@ -1,4 +1,4 @@
-//! All that a running store keeps.
+//! All parts of a running store.
 
 ghost use Rattle.std.specs.Prelude.{◌≡◌, IfOk, IfErr};
 ghost use Rattle.ring_names.specs.declared.refusal.Refusal.TheVariants.{OutOfMemory};
@@ -12,7 +12,7 @@ use ring_store::Stores;
 use std::alloc::Global;
 use store_tables::{Gets, Keys, Lasts, Nodes, Puts, Slots, Steps};
 
-/// What a running store keeps, part by part, with the approved plan that it follows.
+/// The parts of a running store, with the approved plan that it follows.
 #[derive(Drop)]
 pub struct Parts<'a> {
     pub alloc: Global,
@@ -26,14 +26,14 @@ pub struct Parts<'a> {
     pub gets: Gets,
     /// What the nodes store for slots.
     pub stores: Stores,
-    /// What nodes keep for slots whose nodes were out of reach.
+    /// What stand-ins keep for slots with unreachable nodes.
     pub hints: Hints,
-    /// How many stores were lost.
+    /// How many nodes lost their data.
     pub losses: u32,
 }
 
 impl<'a> Parts<'a> {
-    /// What is kept before the first event: members are up, and there is nothing else.
+    /// The state before the first event: members are up, and there is nothing else.
     pub fn start(alloc: Global, approved: &'a Approved) -> Result<Parts<'a>, Refusal>
         ensures approved { IfOk result (λ a. a.approved.now ≡ approved.now) }
         ensures opening { IfOk result (λ a. Meets a (opening_world approved.now.ring)) }

@@ -1,4 +1,4 @@
-//! What sets of versions show of puts. Each function is a law: it does nothing, and its contract holds of the definitions.
+//! Laws of what sets of versions show. Each is the contract of an empty function.
 
 ghost use Rattle.std.specs.Prelude.{◌≡◌, ◌↔◌, ◌⊎◌, ℕ, ◌<◌, Bool, true, false, ◌&&◌, ◌||◌, ◌==◌};
 ghost use Rattle.std.specs.Prelude.{List, [], ◌∷◌, length};
@@ -18,8 +18,10 @@ ghost use Rattle.plan_runs.specs.Reached.{Reached};
 ghost use Rattle.store_tells.specs.Shows.{Shows, OfOneKey, ArePutsOf};
 ghost use Rattle.store_tells.specs.Clocks.{AreClocksOf};
 
-/// No version shows no put, one version its own, and a merge what the merged sets show, where a merge with no version may leave all
-/// as it is; and what is shown depends on what the test says of each number and on the clocks and the values of those that pass.
+/// No version shows no put, one version its own, and a merge what the merged sets show. A merge with no version
+/// may change nothing.
+///
+/// Only the tested numbers, and the clocks and values of those that pass, matter.
 pub fn shown_sets_merge()
     ensures merge { (clock : ℕ → List TheEntry) (value : ℕ → List ℕ) (a b c : List TheVersion) (f g : ℕ → Bool)
         → Shows clock value a f → Shows clock value b g → IsMerge a b c → Shows clock value c (λ v. f v || g v) }
@@ -40,8 +42,7 @@ pub fn shown_sets_merge()
         → ArePutsOf w test → Shows clock value held test → Shows (with_clock clock (length w.puts) c) value held test }
 {}
 
-/// The versions that show puts of one key are those of the latest of these puts: their numbers, ascending, are the latest, and
-/// they show the latest alone as well.
+/// Versions that show a key's puts have the numbers of the latest ones, ascending, and show these alike.
 pub fn shown_numbers_are_the_latest()
     ensures numbers { (w : World) (clock : ℕ → List TheEntry) (value : ℕ → List ℕ) (held : List TheVersion)
         (test : ℕ → Bool)
@@ -53,8 +54,7 @@ pub fn shown_numbers_are_the_latest()
         → Shows clock value held (λ v. has v (latest w (passing_below (length w.puts) test))) }
 {}
 
-/// A slot holds a put where the versions that show its owner's puts of the key, or those that show a keeper's hints of it for the
-/// slot, cover the put's clock.
+/// A slot holds a put exactly if its owner's versions of the key, or a keeper's hints for the slot, cover the put's clock.
 pub fn slot_is_held_where_covered()
     ensures { (ring : RingValue) (plan : List Planned) (w : World) (clock : ℕ → List TheEntry) (value : ℕ → List ℕ)
         (v : ℕ) (slot : TheSlot)

@@ -1,4 +1,4 @@
-//! What nodes store, as versions. Each function here is a law: it does nothing, and its contract holds of the definitions.
+//! Laws of what nodes store, as versions. Each is the contract of an empty function.
 
 ghost use Rattle.std.specs.Prelude.{◌≡◌, ℕ, Bool, ◌||◌, List, length, Option, Ok};
 ghost use Rattle.ring_names.specs.declared.ids.NodeId.{NodeId as TheNode};
@@ -18,8 +18,7 @@ ghost use Rattle.store_tells.specs.Shows.{ArePutsOf};
 ghost use Rattle.store_tells.specs.Stored.{ShowAll, MergeAll, at_node, at_mirror, at_served, written, handed, copied};
 ghost use Rattle.store_tells.specs.Stored.{kept_by};
 
-/// Where the versions at each node, slot and key are merged with those that show what comes there, they show what was there and
-/// what comes.
+/// If the versions of each node, slot and key are merged with those that come, they show both.
 pub fn stored_sets_grow()
     ensures { (w : World) (clock : ℕ → List TheEntry) (old more new : ℕ → TheSlot → List ℕ → List TheVersion)
         (test extra : ℕ → TheSlot → ℕ → Bool)
@@ -27,7 +26,7 @@ pub fn stored_sets_grow()
         → ShowAll w clock new (λ x s v. extra x s v || test x s v) }
 {}
 
-/// What the versions show of the puts that are there they go on showing in the next world, and where one more put has a clock.
+/// What versions show of existing puts stays so in the next world, and when one more put has a clock.
 pub fn stored_sets_last()
     ensures event { (ring : RingValue) (plan : List Planned) (w u : World) (e : TheEvent) (r : TheReply)
         (clock : ℕ → List TheEntry)
@@ -39,8 +38,7 @@ pub fn stored_sets_last()
         → ShowAll w (with_clock clock (length w.puts) c) held test }
 {}
 
-/// What an event brings to nodes stands in front of what was there: at one node, at a mirror, at a slot's owner and mirror, and
-/// so by a write, a handoff, a chunk and a hint.
+/// What a write, a handoff, a chunk or a hint brings comes first: at one node, a mirror, or both nodes of a slot.
 pub fn puts_come_in_front()
     ensures node { (test : ℕ → TheSlot → ℕ → Bool) (x : TheNode) (s : TheSlot) (more : ℕ → Bool) (y : ℕ) (t : TheSlot)
         (v : ℕ)

@@ -1,4 +1,4 @@
-//! The lock round a store and its history.
+//! The lock around a store and its history.
 
 ghost use Rattle.std.specs.Prelude.{◌≡◌, ◌≤◌};
 
@@ -27,7 +27,6 @@ pub const MOVE: &[u8] =
 
 pub const CHAINS: &[u8] = b"cert 1\nchain b 2\nchain d 2\nend\n";
 
-/// The plan of the ring, where its certificate shows that it is sound.
 pub fn approved(alloc: Global, ring: &[u8], plan: &[u8], cert: &[u8]) -> Result<Approved, Refusal> {
     let ring = read_ring(alloc, ring)?;
     let plan = read_plan(alloc, &ring, plan)?;
@@ -38,7 +37,6 @@ pub fn approved(alloc: Global, ring: &[u8], plan: &[u8], cert: &[u8]) -> Result<
     }
 }
 
-// Whether the event is answered.
 fn is_answered<'a, L: RunLedger, R: Wait>(
     rt: &R,
     executor: &Executor<'a, L>,
@@ -48,7 +46,7 @@ fn is_answered<'a, L: RunLedger, R: Wait>(
     executor.submit(rt, &event, share).is_ok()
 }
 
-// Turns the node off and on so many times. How many events were answered, with the share.
+// Takes the node down and up `times` times. Returns the share, and how many events succeeded.
 fn flap<'a, L: RunLedger, R: Wait>(
     rt: &R,
     executor: &Executor<'a, L>,
@@ -68,7 +66,6 @@ fn flap<'a, L: RunLedger, R: Wait>(
     (share, answered)
 }
 
-// The event's place in the history.
 fn place_of<'a, L: RunLedger, R: Wait>(
     rt: &R,
     executor: &Executor<'a, L>,
@@ -81,7 +78,6 @@ fn place_of<'a, L: RunLedger, R: Wait>(
     Ok(receipt.index)
 }
 
-// Why the event is refused, if it is.
 fn refusal_of<'a, L: RunLedger, R: Wait>(
     rt: &R,
     executor: &Executor<'a, L>,
@@ -96,7 +92,6 @@ fn refusal_of<'a, L: RunLedger, R: Wait>(
     }
 }
 
-// The steps that are left, and the first one that can begin.
 fn can_begin<'a, L: RunLedger, RT: Wait + Abort>(
     rt: &RT,
     executor: &Executor<'a, L>,
@@ -127,7 +122,7 @@ fn first_step<'a, L: RunLedger, RT: Wait + Abort>(
     Ok(())
 }
 
-// Submits the row. How many of its events were answered, and why the next was not, if it was not.
+// Submits the row. Returns how many of its events succeeded, and the refusal of the next, if any.
 fn row_of<'a, L: RunLedger, R: AllocGlobal + Wait>(
     rt: &R,
     executor: &Executor<'a, L>,
@@ -143,7 +138,7 @@ fn row_of<'a, L: RunLedger, R: AllocGlobal + Wait>(
     }
 }
 
-// A row ends at its first event that is refused, and another goes on from there.
+// A row ends at its first refused event, and another goes on from there.
 fn two_rows<'a, L: RunLedger, RT: AllocGlobal + Wait + Abort>(
     rt: &RT,
     executor: &Executor<'a, L>,
@@ -162,7 +157,6 @@ fn two_rows<'a, L: RunLedger, RT: AllocGlobal + Wait + Abort>(
     Ok(())
 }
 
-/// The two shares.
 pub fn two<L: RunLedger>(
     alloc: Global,
     first: Share<L>,
@@ -174,7 +168,6 @@ pub fn two<L: RunLedger>(
     Ok(shares)
 }
 
-// The shares of two threads, which turn a node each off and on.
 fn flapped<'a, L: RunLedger + Send + Sync, RT: AllocGlobal + Threads + Wait + Sync + Abort>(
     rt: &RT,
     executor: &Executor<'a, L>,
@@ -207,7 +200,7 @@ fn run_two<'a, L: RunLedger + Send + Sync, RT: AllocGlobal + Threads + Wait + Sy
     flapped(rt, executor, first, second)
 }
 
-/// The store with its history behind what was done, where that went well. The tests drop no store: they give it up, or take its history out.
+/// The store with its history, if all went well. Tests drop no store: they give it up, or take its history.
 pub fn finished<'a, L: RunLedger>(
     executor: Executor<'a, L>,
     done: Result<Vec<Share<L>>, Fail>,
@@ -242,7 +235,6 @@ fn by_two<L: RunLedger + Send + Sync, RT: AllocGlobal + Threads + Wait + Sync + 
     Ok(())
 }
 
-// Fills the history, so that the next event is refused.
 fn filled<'a, L: RunLedger, RT: AllocGlobal + Wait + Abort>(
     rt: &RT,
     executor: &Executor<'a, L>,
@@ -255,7 +247,7 @@ fn filled<'a, L: RunLedger, RT: AllocGlobal + Wait + Abort>(
     Ok(())
 }
 
-// Whether no share at all is not enough.
+// Whether no shares at all are refused.
 fn disagrees<'a, L: RunLedger>(alloc: Global, executor: Executor<'a, L>) -> bool {
     match executor.finish(Vec::new(alloc)) {
         Ok(ledgered) => {

@@ -1,6 +1,5 @@
-//! Tests of the lock round a store and its history: that its calls succeed where there is memory enough, that two threads fill one history, that
-//! each receipt has its entry's event and reply, that a history may be full, and that a store goes on behind a recorded history or tells its first fault. Nothing
-//! is exported.
+//! Tests the lock around a store and its history: calls succeed with enough memory, two threads fill one history, and
+//! receipts match entries. A history may be full, and a store is restored or refused. Nothing is exported.
 #![tactic(auto)]
 
 #[cfg(test)]

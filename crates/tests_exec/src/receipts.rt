@@ -1,4 +1,4 @@
-//! Receipts of two threads, beside the history.
+//! The receipts of two threads, against the history.
 
 ghost use Rattle.std.specs.Prelude.{◌≡◌, ◌≤◌};
 
@@ -28,14 +28,14 @@ const SLOT: Slot = Slot {
     index: 1,
 };
 
-// A thread's share, and the receipts that it was given.
+// A thread's share and receipts.
 #[derive(Drop)]
 struct Client<L: RunLedger> {
     share: Share<L>,
     receipts: Vec<Receipt>,
 }
 
-// Submits the event and keeps its receipt. The number of the put or get that it started, if it did.
+// Submits the event and keeps its receipt. Returns the number of the put or get that it started.
 fn submit<'a, L: RunLedger, R: Wait>(
     rt: &R,
     executor: &Executor<'a, L>,
@@ -52,7 +52,7 @@ fn submit<'a, L: RunLedger, R: Wait>(
     Ok(number)
 }
 
-/// The start of a put of the key `a` that knows no get.
+/// Starts a put of the key `a` that names no get.
 pub fn a_put(alloc: Global, writer: WriterId) -> Result<Event, Refusal> {
     let Some(seen) = Seen::of(alloc, Vec::new(alloc))? else {
         return Err(Refusal::Disagree);
@@ -66,7 +66,6 @@ pub fn a_put(alloc: Global, writer: WriterId) -> Result<Event, Refusal> {
     }
 }
 
-/// The start of a get of the key `a`.
 pub fn a_get(alloc: Global) -> Result<Event, Refusal> {
     match Key::of(alloc, Vec::from_slice(alloc, b"a")?)? {
         Some(key) => Ok(Event::StartGet(key)),
@@ -74,7 +73,6 @@ pub fn a_get(alloc: Global) -> Result<Event, Refusal> {
     }
 }
 
-// Starts a put. Its number.
 fn start_put<'a, L: RunLedger, R: AllocGlobal + Wait>(
     rt: &R,
     executor: &Executor<'a, L>,
@@ -85,7 +83,6 @@ fn start_put<'a, L: RunLedger, R: AllocGlobal + Wait>(
     submit(rt, executor, client, start)
 }
 
-// Starts a get. Its number.
 fn start_get<'a, L: RunLedger, R: AllocGlobal + Wait>(
     rt: &R,
     executor: &Executor<'a, L>,
@@ -128,7 +125,6 @@ fn hint_and_handoff<'a, L: RunLedger, R: AllocGlobal + Wait>(
     Ok(())
 }
 
-// So many puts and gets. The thread's share and its receipts, or why an event was refused.
 fn writes<'a, L: RunLedger, R: AllocGlobal + Wait>(
     rt: &R,
     executor: &Executor<'a, L>,
@@ -143,7 +139,6 @@ fn writes<'a, L: RunLedger, R: AllocGlobal + Wait>(
     (client, Ok(()))
 }
 
-// So many hints and handoffs.
 fn hints<'a, L: RunLedger, R: AllocGlobal + Wait>(
     rt: &R,
     executor: &Executor<'a, L>,
@@ -158,19 +153,17 @@ fn hints<'a, L: RunLedger, R: AllocGlobal + Wait>(
     (client, Ok(()))
 }
 
-// The text of an event and its reply.
 fn text(alloc: Global, event: &Event, reply: &Reply) -> Result<String, AllocError> {
     format!(in alloc; "{event:?}, {reply:?}")
 }
 
-// Whether the receipt's entry has its event and its reply.
 fn is_of(alloc: Global, entry: &Entry, receipt: &Receipt) -> Result<bool, AllocError> {
     let noted = text(alloc, &entry.event, &entry.reply)?;
     let given = text(alloc, &receipt.event, &receipt.reply)?;
     Ok(noted.as_str() == given.as_str())
 }
 
-// The receipt is of an entry that has no other, and is marked.
+// Each receipt has an entry of its own, which is marked.
 fn stands<RT: AllocGlobal + Abort>(
     rt: &RT,
     entries: &[Entry],
@@ -192,7 +185,6 @@ fn stands<RT: AllocGlobal + Abort>(
     Ok(())
 }
 
-// Each receipt is of an entry of its own, which is marked.
 fn each_stands<RT: AllocGlobal + Abort>(
     rt: &RT,
     entries: &[Entry],
@@ -212,7 +204,6 @@ fn all_marked<RT: Abort>(rt: &RT, marks: &[bool]) -> Result<(), Fail> {
     Ok(())
 }
 
-// Each receipt is of an entry of its own, and no entry is without one.
 fn all_stand<RT: AllocGlobal + Abort>(
     rt: &RT,
     entries: &[Entry],
@@ -225,7 +216,6 @@ fn all_stand<RT: AllocGlobal + Abort>(
     all_marked(rt, marks.as_slice())
 }
 
-// The shares of two clients whose events were all answered. Adds their receipts.
 fn together<L: RunLedger>(
     alloc: Global,
     mut one: Client<L>,
@@ -237,7 +227,6 @@ fn together<L: RunLedger>(
     two(alloc, one.share, other.share)
 }
 
-// A client with a receipt of the join of d.
 fn joined<'a, L: RunLedger, R: AllocGlobal + Wait>(
     rt: &R,
     executor: &Executor<'a, L>,
@@ -251,7 +240,6 @@ fn joined<'a, L: RunLedger, R: AllocGlobal + Wait>(
     Ok(())
 }
 
-// Two threads put and get, hint and hand over.
 fn run_both<'a, L: RunLedger + Send + Sync, RT: AllocGlobal + Threads + Wait + Sync + Abort>(
     rt: &RT,
     executor: &Executor<'a, L>,
@@ -270,7 +258,6 @@ fn run_both<'a, L: RunLedger + Send + Sync, RT: AllocGlobal + Threads + Wait + S
     Ok(together(rt.alloc(), one, other, receipts)?)
 }
 
-// The shares of two clients, the first of which has the join of d. Adds their receipts.
 fn by_clients<'a, L: RunLedger + Send + Sync, RT: AllocGlobal + Threads + Wait + Sync + Abort>(
     rt: &RT,
     executor: &Executor<'a, L>,

@@ -1,4 +1,4 @@
-//! Stores behind histories that were recorded.
+//! Stores restored from histories.
 
 ghost use Rattle.std.specs.Prelude.{◌≡◌, ◌<◌};
 
@@ -33,7 +33,6 @@ fn put_and_get(alloc: Global) -> Result<Vec<Event>, Refusal> {
     Ok(Vec::from_array(alloc, events)?)
 }
 
-// The events happen in order.
 fn apply_all<'a, L: RunLedger>(
     ledgered: &mut Ledgered<'a, L>,
     share: &mut Share<L>,
@@ -45,7 +44,6 @@ fn apply_all<'a, L: RunLedger>(
     Ok(())
 }
 
-// The history of a store to which the events happened.
 fn happened<L: RunLedger>(
     alloc: Global,
     blank: Blank,
@@ -65,7 +63,6 @@ fn happened<L: RunLedger>(
     Ok(history)
 }
 
-// The history of a put and a get.
 fn recorded<L: RunLedger>(
     alloc: Global,
     blank: Blank,
@@ -83,7 +80,7 @@ fn recorded<L: RunLedger>(
 
 // ---- a store that goes on
 
-// The one share, behind the next event, which stands behind the history.
+// The next event comes after the history.
 fn next_event<'a, L: RunLedger, RT: AllocGlobal + Wait + Abort>(
     rt: &RT,
     executor: &Executor<'a, L>,
@@ -127,7 +124,7 @@ fn a_store_goes_on_behind_a_history(rt: HostRuntime) -> Result<(), Fail> {
 
 // ---- histories that are refused
 
-// How the history of a put and a get is changed.
+// The change to the history of a put and a get.
 #[derive(Clone, Copy)]
 enum Change {
     OtherReply,
@@ -156,7 +153,6 @@ fn make_change(history: &mut Vec<Entry>, how: Change) -> Result<(), AllocError> 
     Ok(())
 }
 
-// Why no store is made behind the history, if none is.
 fn refusal_of<L: RunLedger>(
     alloc: Global,
     blank: Blank,
@@ -178,14 +174,13 @@ fn refusal_of<L: RunLedger>(
     }
 }
 
-// Why the history of a put and a get is refused once it is changed, if it is.
 fn refused(alloc: Global, approved: &Approved, how: Change) -> Result<Option<Refusal>, Refusal> {
     let mut history = recorded::<Brand>(alloc, Blank::new(128), approved)?;
     make_change(&mut history, how)?;
     Ok(refusal_of::<Brand>(alloc, Blank::new(128), approved, history.as_slice()))
 }
 
-// Each change is refused where it stands.
+// Each change is refused at its place.
 fn all_refused<RT: AllocGlobal + Abort>(rt: &RT, approved: &Approved) -> Result<(), Fail> {
     let other = refused(rt.alloc(), approved, Change::OtherReply)?;
     same!(rt; other, Some(Refusal::Mismatch(4, 0)));
@@ -204,7 +199,7 @@ fn changed_histories_are_refused(rt: HostRuntime) -> Result<(), Fail> {
     all_refused(&rt, &approved)
 }
 
-// So many entries, of which the second would be refused.
+// Entries of which the second would be refused.
 fn downs(alloc: Global, count: u32) -> Result<Vec<Entry>, AllocError> {
     let mut history = Vec::with_capacity(alloc, count as usize)?;
     for _ in 0..count {

@@ -49,7 +49,8 @@ fn push_answers<'a, L: RunLedger, R: Wait>(
     Ok(())
 }
 
-// What an event is answered, where it is submitted once more if memory was refused. It prints that something changed by the refusal, if it did.
+// The answer to an event, which is submitted again if memory was refused. Prints that something changed by the
+// refusal, if it did.
 fn answer<'a, L: RunLedger, R: Wait>(
     rt: &R,
     executor: &Executor<'a, L>,

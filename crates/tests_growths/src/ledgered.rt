@@ -73,7 +73,8 @@ fn push_answers<'a, L: RunLedger>(
     mark_of(ledgered, share)
 }
 
-// What an event is answered, where it is applied once more if memory was refused. It prints that something changed by the refusal, if it did.
+// The answer to an event, which is applied again if memory was refused. Prints that something changed by the
+// refusal, if it did.
 fn answer<'a, L: RunLedger>(
     ledgered: &mut Ledgered<'a, L>,
     share: &mut Share<L>,

@@ -1,6 +1,7 @@
-//! Plays the script of a bundle on standard input by a store, by a store with its history and by one behind a lock, and restores the store
-//! behind that history. Prints what each event is answered. What is refused for want of memory is tried once more: all is as it was, or a line
-//! says that it is not, so the answers are the same whichever growth was refused.
+//! Plays the script of a bundle on standard input by a store, by a store with its history and by one behind a
+//! lock. Also restores the store behind that history. Prints what each event is answered. What is refused for
+//! want of memory is tried again. All is as it was, or a line says that it is not. So the answers are the same
+//! whichever growth was refused.
 #![tactic(auto)]
 
 ghost use Rattle.std.specs.Prelude.{◌≡◌, ◌<◌, ◌≤◌, length};
@@ -45,7 +46,8 @@ fn played<R: AllocGlobal + Wait>(rt: &R, bytes: &[u8]) -> Result<Vec<u8>, Refusa
     }
 }
 
-// What the events are answered by each of the stores, and whether the one that is restored is as the one whose history it has.
+// What each of the stores answers to the events, and whether the restored store is as the one with this
+// history.
 fn by_each<R: AllocGlobal + Wait>(
     rt: &R,
     approved: &Approved,
@@ -61,7 +63,7 @@ fn by_each<R: AllocGlobal + Wait>(
     Ok(out)
 }
 
-// Whether the store behind the history is as the one that has it. Refused memory, it is restored once more.
+// Whether the store behind the history is as the one that has it. If memory was refused, it is restored again.
 fn push_restored(
     alloc: Global,
     approved: &Approved,

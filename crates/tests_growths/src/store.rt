@@ -36,7 +36,8 @@ fn push_answers(world: &mut World, events: &[Event], out: &mut Vec<u8>) -> Resul
     Ok(())
 }
 
-// What an event is answered, where it is applied once more if memory was refused. It prints that the store changed by the refusal, if it did.
+// The answer to an event, which is applied again if memory was refused. Prints that the store changed by the
+// refusal, if it did.
 fn answer(
     world: &mut World,
     event: &Event,

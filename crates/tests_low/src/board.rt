@@ -1,4 +1,4 @@
-//! The board: a step that goes from hand to hand, and two threads that claim the same steps.
+//! The board: a step is claimed in turn, and two threads claim the same steps.
 
 ghost use Rattle.std.specs.Prelude.{◌≡◌, true, is_some};
 
@@ -32,7 +32,7 @@ fn a_step_from_hand_to_hand(rt: HostRuntime) -> Result<(), Fail> {
     Ok(())
 }
 
-// Claims a step, and marks it done where the claim is won.
+// Claims a step, and marks it done if that succeeds.
 fn took(board: &Board, seat: &mut Seat, step: u32) -> bool
     requires board { seat.old.board ≡ board.now.id }
     requires worker { is_some seat.old.worker ≡ true }
@@ -51,7 +51,7 @@ fn took(board: &Board, seat: &mut Seat, step: u32) -> bool
     }
 }
 
-// Claims every step in turn. How many it was that took, with the seat.
+// Claims every step in turn. Returns how many succeeded, with the seat.
 fn took_all(board: &Board, mut seat: Seat) -> (Seat, u32)
     requires board { seat.board ≡ board.now.id }
     requires worker { is_some seat.worker ≡ true }
@@ -66,7 +66,6 @@ fn took_all(board: &Board, mut seat: Seat) -> (Seat, u32)
     (seat, taken)
 }
 
-// How many of the words are that one.
 fn count(words: &[u64], wanted: u64) -> u32 {
     let mut found = 0u32;
     for word in words {

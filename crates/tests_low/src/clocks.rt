@@ -1,4 +1,4 @@
-//! Clocks and versions of three puts: two writers that know nothing of one another, and one of them again, who has seen both.
+//! Clocks and versions of three puts: two concurrent ones, and one of the same writers that has seen both.
 
 ghost use Rattle.std.specs.Prelude.{◌≡◌, IfOk, length};
 
@@ -17,7 +17,6 @@ pub fn entry(writer: u32, counter: u64) -> Entry {
     }
 }
 
-/// The clock with one put more by the writer.
 pub fn raised(clock: &Clock, writer: u32) -> Result<Clock, Refusal> {
     if clock.counter(WriterId(writer)) == u64::MAX {
         return Err(Refusal::TooLarge(0));
@@ -80,12 +79,10 @@ fn version(alloc: Global, put: u32, clock: &Clock) -> Result<Version, Refusal> {
     }
 }
 
-/// The set of one version.
 pub fn set_of(alloc: Global, put: u32, clock: &Clock) -> Result<Versions, Refusal> {
     Versions::of(alloc, version(alloc, put, clock)?)
 }
 
-/// The versions of a set, in a list.
 pub fn listed(alloc: Global, set: &Versions) -> Result<Vec<Version>, Refusal> {
     let mut out = Vec::new(alloc);
     let mut walk = set.versions();
@@ -95,7 +92,7 @@ pub fn listed(alloc: Global, set: &Versions) -> Result<Vec<Version>, Refusal> {
     Ok(out)
 }
 
-// Two that are in conflict stay, the third makes them ancestors, and they do not come back.
+// Two concurrent versions stay; the third succeeds them, and they do not come back.
 fn merged<RT: Abort>(
     rt: &RT,
     alloc: Global,

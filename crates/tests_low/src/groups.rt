@@ -1,4 +1,4 @@
-//! Clocks of writers whose numbers lie far apart, so that their entries are shared by groups.
+//! Clocks of writers in different groups, whose entries are shared by groups.
 
 use crate::clocks::{entry, raised};
 use crate::same::{holds, same};
@@ -10,7 +10,6 @@ use std::test::Fail;
 
 const LAST: u32 = 4_294_967_295;
 
-// The clock with one put more by each of these writers.
 fn raised_by(clock: &Clock, writers: &[u32]) -> Result<Clock, Refusal> {
     let mut clock = clock.try_copy()?;
     for writer in writers {
@@ -23,7 +22,7 @@ fn clock_of(alloc: Global, writers: &[u32]) -> Result<Clock, Refusal> {
     raised_by(&Clock::new(alloc), writers)
 }
 
-// Both ways to tell the entries give these.
+// Both ways to list the entries give these.
 fn told<RT: Abort>(rt: &RT, alloc: Global, clock: &Clock, wanted: &[Entry]) -> Result<(), Fail> {
     same!(rt; clock.list(alloc)?.as_slice(), wanted);
     let mut walk = clock.entries();
@@ -76,7 +75,6 @@ fn raised_once_more(rt: HostRuntime) -> Result<(), Fail> {
     Ok(())
 }
 
-// The join of both, in either order.
 fn joined<RT: Abort>(
     rt: &RT,
     alloc: Global,

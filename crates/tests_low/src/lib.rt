@@ -1,5 +1,5 @@
-//! Tests of what no contract says, of the crates below the checker: that calls which may run out of memory succeed where there is enough, texts
-//! that are printed, and places and clocks by values from outside. Nothing is exported.
+//! Tests what no contract says of the crates below the checker: calls succeed with enough memory, printed texts, and
+//! known places and clocks. Nothing is exported.
 #![tactic(auto)]
 
 #[cfg(test)]

@@ -8,7 +8,6 @@ use ring_space::{Place, place};
 use std::process::Abort;
 use std::test::Fail;
 
-// One name more, where there are few.
 fn add_name(names: &mut Names, name: &[u8]) -> Result<u32, Refusal> {
     if names.len() >= 100 {
         return Err(Refusal::OutOfMemory);
@@ -16,7 +15,6 @@ fn add_name(names: &mut Names, name: &[u8]) -> Result<u32, Refusal> {
     names.add(name)
 }
 
-// Names in order of first sight.
 fn numbered<RT: Abort>(rt: &RT, names: &mut Names) -> Result<(), Fail> {
     same!(rt; add_name(names, b"b")?, 0);
     same!(rt; add_name(names, b"a")?, 1);
@@ -84,7 +82,7 @@ fn values_copied(rt: HostRuntime) -> Result<(), Fail> {
 
 const LETTERS: &[u8] = b"abcdefghijklmnopqrstuvwxyz";
 
-// Places by the digests that RFC 1321 gives of these keys: 0cc1.., 9001.., c3fc.., and d41d.. of the empty one.
+// Places by the digests of these keys in RFC 1321: 0cc1.., 9001.., c3fc.., and d41d.. of the empty one.
 #[test]
 #[tactic(auto, unfolding(ring_names::specs::Space::is_space))]
 fn places(rt: HostRuntime) {

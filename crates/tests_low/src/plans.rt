@@ -1,4 +1,4 @@
-//! Plans that are made step by step.
+//! Plans made step by step.
 
 ghost use Rattle.std.specs.Prelude.{◌≡◌, []};
 
@@ -13,7 +13,6 @@ const SLOT: Slot = Slot {
     index: 1,
 };
 
-// The steps of the slot, by what the plan keeps besides them.
 fn kept<RT: Abort>(rt: &RT, plan: &mut Plan) -> Result<(), Fail>
     requires { plan.old ≡ [] }
 {
@@ -32,7 +31,6 @@ fn push_keeps_the_step(rt: HostRuntime) -> Result<(), Fail> {
     kept(&rt, &mut plan)
 }
 
-// The first steps that join and retire a node.
 fn looked_up<RT: Abort>(rt: &RT, plan: &mut Plan) -> Result<(), Fail>
     requires { plan.old ≡ [] }
 {

@@ -1,4 +1,4 @@
-//! Texts that are written as they were read, and the limits of texts.
+//! Texts are written as read, and have limits.
 
 ghost use Rattle.std.specs.Prelude.{◌≡◌, []};
 
@@ -26,11 +26,11 @@ const CERTS: [&str; 5] = [
     "cert 1\nfact 7 7\nfact 4294967295 0\nchain a 1 2 3 4 5 6 7 8 9\nend\n",
 ];
 
-// Node b counts apart what it receives and what reads from it.
+// Node b has two allowances.
 const SPLIT: &[u8] =
     b"ring 2\nspace 1\nquorum 2 1 2\nnode a 4 in\nnode b 1 2 in\nslots 0 a b\nend\n";
 
-// One store may be lost.
+// One node may lose its data.
 const LOSS: &[u8] =
     b"ring 3\nspace 1\nquorum 2 2 2 1\nnode a 4 in\nnode b 1 2 in\nslots 0 a b\nend\n";
 
@@ -39,14 +39,12 @@ const SPLIT_CERTS: [&str; 2] = [
     "cert 2\nfact 7 7\ngive b 2 5\nchain a 2\ntake b 7\ngive b 9\nend\n",
 ];
 
-// The ring is written so.
 fn is_written<RT: AllocGlobal + Abort>(rt: &RT, ring: &Ring, text: &[u8]) -> Result<(), Fail> {
     let written = write_ring(rt.alloc(), ring)?;
     same!(rt; written.as_slice(), text);
     Ok(())
 }
 
-// A ring is written as it was read.
 fn ring_written<RT: AllocGlobal + Abort>(rt: &RT, text: &[u8]) -> Result<(), Fail> {
     let ring = read_ring(rt.alloc(), text)?;
     is_written(rt, &ring, text)
@@ -59,7 +57,6 @@ fn rings_written(rt: HostRuntime) -> Result<(), Fail> {
     ring_written(&rt, LOSS)
 }
 
-// A ring that is migrated is written so.
 fn ring_migrated<RT: AllocGlobal + Abort>(rt: &RT, text: &[u8], to: &[u8]) -> Result<(), Fail> {
     let ring = read_ring(rt.alloc(), text)?;
     is_written(rt, &ring.migrate(), to)
@@ -76,7 +73,6 @@ fn rings_migrated(rt: HostRuntime) -> Result<(), Fail> {
     ring_migrated(&rt, LOSS, LOSS)
 }
 
-// A row is written with the names of the ring's nodes.
 fn row_written<RT: AllocGlobal + Abort>(rt: &RT, ring: &Ring) -> Result<(), Fail> {
     let mut text = Vec::new(rt.alloc());
     push_row(&mut text, ring.nodes(), 7, &[NodeId(3), NodeId(0)])?;
@@ -84,19 +80,16 @@ fn row_written<RT: AllocGlobal + Abort>(rt: &RT, ring: &Ring) -> Result<(), Fail
     Ok(())
 }
 
-// The plan's text, read and written.
 fn plan_text(alloc: Global, ring: &Ring) -> Result<Vec<u8>, Refusal> {
     let plan = read_plan(alloc, ring, TWO_MOVES)?;
     write_plan(alloc, ring, &plan)
 }
 
-// A certificate's text over the ring, read and written.
 fn cert_text(alloc: Global, ring: &Ring, text: &str) -> Result<Vec<u8>, Refusal> {
     let cert = read_cert(alloc, ring, text.as_bytes())?;
     write_cert(alloc, ring, &cert)
 }
 
-// Certificates over the ring are written as they were read.
 fn certs_written<RT: AllocGlobal + Abort>(
     rt: &RT,
     ring: &Ring,
@@ -108,7 +101,6 @@ fn certs_written<RT: AllocGlobal + Abort>(
     Ok(())
 }
 
-// The ring's members are known; a row, a plan and certificates are written as they were read.
 fn all_written<RT: AllocGlobal + Abort>(rt: &RT, ring: &Ring) -> Result<(), Fail> {
     holds!(rt; ring.is_member(NodeId(2)));
     holds!(rt; !ring.is_member(NodeId(3)));
@@ -129,7 +121,7 @@ fn split_certificates_written(rt: HostRuntime) -> Result<(), Fail> {
     certs_written(&rt, &ring, &SPLIT_CERTS)
 }
 
-// A text of that first line, so many of a line, and `end`.
+// A text of the first line, `count` times the line, and `end`.
 fn lines_of(alloc: Global, first: &[u8], line: &[u8], count: u32) -> Result<Vec<u8>, AllocError> {
     let mut text = Vec::from_slice(alloc, first)?;
     for _ in 0..count {
@@ -139,7 +131,6 @@ fn lines_of(alloc: Global, first: &[u8], line: &[u8], count: u32) -> Result<Vec<
     Ok(text)
 }
 
-// How many steps reading a plan of so many switches finds.
 fn steps_read(alloc: Global, ring: &Ring, count: u32) -> Result<u32, Refusal> {
     let text = lines_of(alloc, b"plan 1\n", b"switch 0 0\n", count)?;
     let plan = read_plan(alloc, ring, text.as_slice())?;
@@ -161,7 +152,6 @@ fn sizes(alloc: Global, ring: &Ring, text: &[u8]) -> Result<(usize, usize), Refu
     Ok((cert.facts.len(), cert.chains.len()))
 }
 
-// The numbers of facts and chains of a certificate of so many equal lines, or the refusal.
 fn sizes_of(
     alloc: Global,
     ring: &Ring,
@@ -189,7 +179,6 @@ fn largest_certificates(rt: HostRuntime) -> Result<(), Fail> {
     Ok(())
 }
 
-// A fact of so many steps.
 fn fact_of(alloc: Global, count: u32) -> Result<Vec<u8>, AllocError> {
     let mut text = Vec::from_slice(alloc, b"cert 1\nfact")?;
     for _ in 0..count {
@@ -199,7 +188,6 @@ fn fact_of(alloc: Global, count: u32) -> Result<Vec<u8>, AllocError> {
     Ok(text)
 }
 
-// The sizes of a certificate with one fact of so many steps.
 fn fact_sizes(alloc: Global, ring: &Ring, count: u32) -> Result<(usize, usize), Refusal> {
     let text = fact_of(alloc, count)?;
     sizes(alloc, ring, text.as_slice())
@@ -211,7 +199,6 @@ fn longest_facts<RT: AllocGlobal + Abort>(rt: &RT, ring: &Ring) {
     same!(rt; fact_sizes(rt.alloc(), ring, 1_025), Err(Refusal::TooLarge(2)));
 }
 
-// A side of the node of that number.
 fn side_of(node: u32, side: Side) -> NodeSide {
     NodeSide {
         node: NodeId(node),
@@ -236,7 +223,7 @@ fn chains_kept(rt: HostRuntime) -> Result<(), Fail> {
     kept(&rt, &mut chains)
 }
 
-// A certificate with one chain of a node that the ring does not have.
+// A certificate with a chain of a node that the ring does not have.
 fn strange_cert(alloc: Global) -> Result<Cert, Refusal> {
     let mut chains = Chains::new(alloc);
     chains.push(side_of(4, Side::Both), &[2])?;
@@ -246,7 +233,6 @@ fn strange_cert(alloc: Global) -> Result<Cert, Refusal> {
     })
 }
 
-// Whether that certificate suits the ring.
 fn suits(alloc: Global, ring: &Ring) -> Result<bool, Refusal> {
     Ok(strange_cert(alloc)?.suits(ring))
 }

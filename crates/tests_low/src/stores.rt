@@ -1,4 +1,4 @@
-//! What nodes store and keep: each call that may run out of memory succeeds where there is enough.
+//! What nodes store and keep: calls succeed with enough memory.
 
 ghost use Rattle.std.specs.Prelude.{◌≡◌, ◌<◌};
 ghost use Rattle.store_maps.specs.Chunks.{chunk_of};
@@ -22,13 +22,11 @@ const SLOT: Slot = Slot {
     index: 1,
 };
 
-// The set of one version, of the first put of a writer.
 fn a_set(alloc: Global) -> Result<Versions, Refusal> {
     let clock = Clock::new(alloc).bump(WriterId(0))?;
     set_of(alloc, 7, &clock)
 }
 
-// What a merge brings is made first, and then taken in.
 fn merged_in_halves<RT: Abort>(rt: &RT, map: &mut KeyMap, set: &Versions) -> Result<(), Fail> {
     let fresh = map.prepare(b"b", set)?;
     holds!(rt; map.key_versions(b"b").is_none());
@@ -37,7 +35,6 @@ fn merged_in_halves<RT: Abort>(rt: &RT, map: &mut KeyMap, set: &Versions) -> Res
     Ok(())
 }
 
-// Two maps become one.
 fn maps_merged<RT: Abort>(
     rt: &RT,
     set: &Versions,
@@ -96,7 +93,7 @@ fn keepers_of_slots(rt: HostRuntime) -> Result<(), Fail> {
     kept(&rt, &mut pairs, &mut sets)
 }
 
-// One of many pairs, each of another number.
+// One of many different pairs.
 fn numbered(number: u32) -> KeptFor {
     let slot = Slot {
         partition: number / 50,
@@ -108,14 +105,13 @@ fn numbered(number: u32) -> KeptFor {
     }
 }
 
-// The pairs stand as in a plain list, and there are no others.
+// The pairs are as in a plain list, and there are no others.
 fn stand_as<RT: Abort>(rt: &RT, pairs: &Pairs, list: &[KeptFor]) {
     for number in 0..3000u32 {
         same!(rt; pairs.nth(number), list.get(number as usize).copied());
     }
 }
 
-// Takes a pair out of both, the last one in its place.
 fn take_from_both<RT: Abort>(rt: &RT, pairs: &mut Pairs, list: &mut Vec<KeptFor>, place: usize) {
     if place < list.len() {
         let pair = list.swap_remove(place);
@@ -124,7 +120,7 @@ fn take_from_both<RT: Abort>(rt: &RT, pairs: &mut Pairs, list: &mut Vec<KeptFor>
     }
 }
 
-// Adds a pair to both, as the last one, where it is not there.
+// Appends a pair to both, unless present.
 fn add_to_both(pairs: &mut Pairs, list: &mut Vec<KeptFor>, pair: KeptFor) -> Result<(), Fail> {
     if !list.contains(&pair) {
         list.push(pair)?;
@@ -155,7 +151,6 @@ fn numbers_of_pairs(rt: HostRuntime) -> Result<(), Fail> {
     Ok(())
 }
 
-// A node's store of one key, and its copy.
 #[tactic(auto, using(store_maps::proofs::KeyPlaces::chunk_at))]
 fn stored<RT: Abort>(rt: &RT, store: &mut NodeStore, set: &Versions) -> Result<(), Fail> {
     let chunk = place(store.q(), b"a").chunk;
@@ -174,7 +169,6 @@ fn stores_of_nodes(rt: HostRuntime) -> Result<(), Fail> {
     Ok(())
 }
 
-// How many versions a set has.
 fn count_of(set: &Versions) -> usize {
     let mut count = 0_usize;
     let mut walk = set.versions();
@@ -184,7 +178,6 @@ fn count_of(set: &Versions) -> usize {
     count
 }
 
-// So many versions of the key are at the node.
 fn versions_of<RT: Abort>(rt: &RT, stores: &Stores, at: &SlotKey, node: NodeId, count: usize)
     requires { chunk_of (shared_space stores.now) at.now.key.now ≡ at.now.chunk }
 {
@@ -195,7 +188,7 @@ fn versions_of<RT: Abort>(rt: &RT, stores: &Stores, at: &SlotKey, node: NodeId, 
     same!(rt; found, count);
 }
 
-// A chunk of one key is copied from the first node to the second, and then one of them gets another version, which the other has not.
+// Copies a chunk of one key from the first node to the second; then one of them gets another version, which the other lacks.
 fn copied_apart<RT: Abort>(
     rt: &RT,
     stores: &mut Stores,
@@ -242,7 +235,6 @@ fn stores_of_keys(rt: HostRuntime) -> Result<(), Fail> {
     stored(&rt, &mut store, &set)
 }
 
-// So many nodes keep the key for the slot.
 fn kept_by<RT: Abort>(rt: &RT, hints: &Hints, count: usize) {
     let found = match hints.key_keepers(SLOT, b"a") {
         Some(nodes) => nodes.len(),
@@ -251,7 +243,7 @@ fn kept_by<RT: Abort>(rt: &RT, hints: &Hints, count: usize) {
     same!(rt; found, count);
 }
 
-// One node keeps the key, in a copy too, and none once it is taken out.
+// One node keeps the key, in a copy too, and none after it is taken.
 fn forgotten<RT: Abort>(rt: &RT, hints: &mut Hints) -> Result<(), Fail> {
     kept_by(rt, hints, 1);
     kept_by(rt, &hints.try_copy()?, 1);
@@ -260,7 +252,6 @@ fn forgotten<RT: Abort>(rt: &RT, hints: &mut Hints) -> Result<(), Fail> {
     Ok(())
 }
 
-// A hint that a node keeps.
 fn hinted<RT: Abort>(rt: &RT, hints: &mut Hints, set: &Versions) -> Result<(), Fail> {
     if let Some(version) = set.first() {
         hints.add(NodeId(3), SLOT, b"a", version)?;

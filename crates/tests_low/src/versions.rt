@@ -1,5 +1,5 @@
-//! Sets of hundreds of versions in conflict, whose clocks share hundreds of entries, merged with themselves, with newer ones and with ancestors. A
-//! walk over all pairs, by the counters of the puts' own writers, says what must stay.
+//! Sets of hundreds of concurrent versions with large shared clocks, merged with themselves, with newer ones and with
+//! ancestors. A walk over all pairs, by the writers' own counters, says what must stay.
 
 use crate::clocks::{listed, raised, set_of};
 use ring_clock::Clock;
@@ -13,7 +13,7 @@ const SHARED: u32 = 500;
 
 const MANY: u32 = 600;
 
-// The clock of puts by many writers, whose numbers are odd.
+// The clock of puts by many writers with odd numbers.
 fn shared(alloc: Global) -> Result<Clock, Refusal> {
     let mut clock = Clock::new(alloc);
     for place in 0..SHARED {
@@ -22,7 +22,7 @@ fn shared(alloc: Global) -> Result<Clock, Refusal> {
     Ok(clock)
 }
 
-// A version by each of many writers, whose numbers are even, who have seen the same and nothing of one another.
+// A version by each of many writers with even numbers, who have seen the same, and are concurrent.
 fn in_conflict(alloc: Global) -> Result<Versions, Refusal> {
     let seen = shared(alloc)?;
     let mut set = Versions::new(alloc);
@@ -33,7 +33,7 @@ fn in_conflict(alloc: Global) -> Result<Versions, Refusal> {
     Ok(set)
 }
 
-// The clock of a put after the version, by its writer, or by another who has seen the first one too; none for each third.
+// The clock of a put after the version, by its writer, or by another that has seen the first too; none for each third.
 fn after(version: &Version, first: &Version) -> Result<Option<Clock>, Refusal> {
     match version.put % 3 {
         0 => Ok(Some(raised(&version.clock, version.clock.own().0)?)),
@@ -57,7 +57,6 @@ fn newer(alloc: Global, set: &Versions) -> Result<Versions, Refusal> {
     Ok(more)
 }
 
-// Whether another put of these knows of the version's.
 fn is_seen(version: &Version, others: &[Version]) -> bool {
     let own = version.clock.own();
     let counter = version.clock.counter(own);
@@ -77,7 +76,7 @@ fn push_unseen(
     Ok(())
 }
 
-// The puts of those of both sets that no other of them has seen.
+// The puts of both sets that no other one has seen.
 fn unseen(alloc: Global, first: &[Version], second: &[Version]) -> Result<Vec<u32>, AllocError> {
     let mut puts = Vec::new(alloc);
     push_unseen(&mut puts, first, second)?;

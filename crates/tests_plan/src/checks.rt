@@ -15,7 +15,7 @@ use std::alloc::Global;
 use std::process::Abort;
 use std::test::Fail;
 
-// Moves slot 1 of a partition from b to d, and then slot 2 from c to b, which reads slots 1 and 0.
+// Moves slot 1 of a partition from b to d, then slot 2 from c to b, which reads slots 1 and 0.
 const READS_LISTED: &[u8] =
     b"plan 1\njoin d\nmirror 0 1 d after 0\ncopy 0 1 owner after 1\nswitch 0 1 after 2\nmirror 0 2 b after 3\ncopy 0 2 slots 1 0 after 4\nend\n";
 
@@ -58,7 +58,6 @@ fn facts_by_paths(rt: HostRuntime) -> Result<(), Fail> {
 
 // ---- partitions
 
-// What the check of a partition says, by the facts of a certificate.
 fn partition_by(alloc: Global, ring: &Ring, plan: &Plan, cert: &Cert) -> Result<(), Refusal>
     requires { Suits ring.now plan.now }
 {
@@ -69,7 +68,6 @@ fn partition_by(alloc: Global, ring: &Ring, plan: &Plan, cert: &Cert) -> Result<
     check_partition(alloc, ring, plan, &facts, 0)
 }
 
-// Asks for the clauses of a partition, by the certificate's text.
 fn partition(alloc: Global, ring: &Ring, plan: &Plan, cert: &[u8]) -> Result<(), Refusal>
     requires { Suits ring.now plan.now }
 {
@@ -77,7 +75,7 @@ fn partition(alloc: Global, ring: &Ring, plan: &Plan, cert: &[u8]) -> Result<(),
     partition_by(alloc, ring, plan, &cert)
 }
 
-// The copy from slot 1 needs the path from the switch of that slot.
+// The copy from slot 1 needs the path from that slot's switch.
 fn listed_copy<RT: AllocGlobal + Abort>(rt: &RT, ring: &Ring, plan: &Plan)
     requires { Suits ring.now plan.now }
 {
@@ -87,7 +85,6 @@ fn listed_copy<RT: AllocGlobal + Abort>(rt: &RT, ring: &Ring, plan: &Plan)
     same!(rt; without, Err(Refusal::MovingSource(5)));
 }
 
-// These nodes take part in the step.
 fn parties_are<RT: AllocGlobal + Abort>(
     rt: &RT,
     ring: &Ring,
@@ -102,7 +99,6 @@ fn parties_are<RT: AllocGlobal + Abort>(
     Ok(())
 }
 
-// From these nodes the step reads.
 fn sources_are<RT: AllocGlobal + Abort>(
     rt: &RT,
     ring: &Ring,
@@ -126,7 +122,7 @@ fn parties_of<RT: AllocGlobal + Abort>(rt: &RT, ring: &Ring, plan: &Plan) -> Res
     parties_are(rt, ring, plan, 3, &[])
 }
 
-// The slot went from b to d, and b still has what it held.
+// The slot went from b to d, and b still has its data.
 fn is_moved<RT: Abort>(rt: &RT, stage: &Stage) {
     same!(rt; stage.owner, NodeId(3));
     same!(rt; stage.mirror, None);
@@ -167,7 +163,6 @@ fn partitions_and_their_parts(rt: HostRuntime) -> Result<(), Fail> {
 
 // ---- nodes
 
-// What the check of node b says, and that of all nodes.
 fn nodes_by(alloc: Global, ring: &Ring, plan: &Plan, cert: &Cert) -> Result<(), Refusal>
     requires { Suits ring.now plan.now }
 {
@@ -179,7 +174,6 @@ fn nodes_by(alloc: Global, ring: &Ring, plan: &Plan, cert: &Cert) -> Result<(), 
     check_nodes(alloc, ring, plan, &facts, cert)
 }
 
-// Asks for the clauses of all nodes, by the certificate's text.
 fn nodes(alloc: Global, ring: &Ring, plan: &Plan, cert: &[u8]) -> Result<(), Refusal>
     requires { Suits ring.now plan.now }
 {
@@ -187,7 +181,7 @@ fn nodes(alloc: Global, ring: &Ring, plan: &Plan, cert: &[u8]) -> Result<(), Ref
     nodes_by(alloc, ring, plan, &cert)
 }
 
-// Without the chain of d no chain covers its copies.
+// Without the chain of d, no chain covers its copies.
 const SHORT: &[u8] = b"cert 1\nfact 2 3 4 5\nchain b 2 5\nend\n";
 
 fn chains_needed<RT: AllocGlobal + Abort>(rt: &RT, ring: &Ring, plan: &Plan)
@@ -211,19 +205,16 @@ fn nodes_covered(rt: HostRuntime) -> Result<(), Fail> {
 
 // ---- the whole check
 
-// What the check of the two moves says, by the certificate.
 fn moves_by(alloc: Global, ring: Ring, cert: &Cert) -> Result<u32, Refusal> {
     let plan = two_moves(alloc, &ring)?;
     approved(alloc, ring, plan, cert)
 }
 
-// Checks the moves, by the certificate's text.
 fn moves(alloc: Global, ring: Ring, cert: &[u8]) -> Result<u32, Refusal> {
     let cert = cert_from(alloc, &ring, cert)?;
     moves_by(alloc, ring, &cert)
 }
 
-// What the check of the two moves over the ring says.
 fn whole(alloc: Global, cert: &[u8]) -> Result<u32, Refusal> {
     let ring = ring_from(alloc, RING)?;
     moves(alloc, ring, cert)

@@ -1,4 +1,4 @@
-//! A few nodes that own most of the slots leave, and give one copy at a time.
+//! A few nodes with most slots leave, and give one copy at a time.
 
 use crate::figures::{depth, moves, plan_of, reads_owners};
 use crate::ring_texts::{push_nodes, push_numbered, push_owners};
@@ -10,21 +10,21 @@ use std::alloc::{AllocError, Global};
 use std::process::Abort;
 use std::test::Fail;
 
-// Nodes that leave, nodes that stay, and nodes that join.
+// Nodes that leave, that stay, and that join.
 const LEAVERS: u32 = 5;
 
 const STAYERS: u32 = 30;
 
 const JOINERS: u32 = 100;
 
-// The lines of the nodes. Leavers give one copy at a time.
+// Leavers give one copy at a time.
 fn push_all_nodes(text: &mut Vec<u8>) -> Result<(), AllocError> {
     push_nodes(text, b"node l", 0, LEAVERS, &[b" 1 in\n"])?;
     push_nodes(text, b"node s", 0, STAYERS, &[b" 4 in\n"])?;
     push_nodes(text, b"node j", 0, JOINERS, &[b" 4 out\n"])
 }
 
-// The line of a partition: five slots are the leavers', and two are owned by those that stay, in turn.
+// Five slots are the leavers'; two belong to nodes that stay, in turn.
 fn push_row(text: &mut Vec<u8>, row: u32) -> Result<(), AllocError> {
     push_numbered(text, b"slots ", row)?;
     push_owners(text, b" l", row, LEAVERS, LEAVERS)?;
@@ -32,7 +32,6 @@ fn push_row(text: &mut Vec<u8>, row: u32) -> Result<(), AllocError> {
     text.extend_from_slice(b"\n")
 }
 
-// Adds the text of a ring of so many partitions.
 fn push_ring(text: &mut Vec<u8>, partitions: u32) -> Result<(), AllocError> {
     push_numbered(text, b"ring 1\nspace ", partitions)?;
     text.extend_from_slice(b"\nquorum 7 2 6\n")?;
@@ -43,14 +42,13 @@ fn push_ring(text: &mut Vec<u8>, partitions: u32) -> Result<(), AllocError> {
     text.extend_from_slice(b"end\n")
 }
 
-// The text of the ring.
 fn ring_text(alloc: Global, partitions: u32) -> Result<Vec<u8>, AllocError> {
     let mut text = Vec::new(alloc);
     push_ring(&mut text, partitions)?;
     Ok(text)
 }
 
-// The leavers' slots are copied in a quarter of the rounds that reading them from the leavers would take.
+// The copies need a quarter of the rounds that reading from the leavers would take.
 fn is_quick<RT: AllocGlobal + Abort>(rt: &RT, plan: &Plan) -> Result<(), Fail> {
     same!(rt; moves(plan), 22_000);
     holds!(rt; !reads_owners(plan));
@@ -70,7 +68,7 @@ fn drain<RT: AllocGlobal + Abort>(rt: &RT, text: &[u8]) -> Result<(), Fail> {
     drained(rt, &ring)
 }
 
-// From as many partitions as a ring may have.
+// The most partitions of a ring.
 #[test]
 fn the_longest_drain(rt: HostRuntime) -> Result<(), Fail> {
     let text = ring_text(rt.alloc(), 4096)?;

@@ -15,7 +15,6 @@ const TICKET: Reply = Reply::Ticket(
     4,
 );
 
-// The reply has this text.
 fn written<RT: AllocGlobal + Abort>(rt: &RT, reply: &Reply, text: &str) -> Result<(), Fail> {
     let mut out = Vec::new(rt.alloc());
     reply.write_text(&mut out)?;
@@ -44,7 +43,6 @@ fn is_key(alloc: Global, text: &str) -> Result<bool, AllocError> {
     Ok(Key::of(alloc, bytes)?.is_some())
 }
 
-// Whether a put may have seen the gets of these numbers.
 fn is_seen(alloc: Global, gets: &[u32]) -> Result<bool, AllocError> {
     let gets = Vec::from_slice(alloc, gets)?;
     Ok(Seen::of(alloc, gets)?.is_some())

@@ -1,4 +1,4 @@
-//! How much a plan does: its moves, the slots that each node owns behind it, and the copies that must wait for one another.
+//! What a plan does: its moves, the final slots of each node, and the copies that must wait for one another.
 
 ghost use Rattle.std.specs.Prelude.{◌<◌};
 ghost use Rattle.plan_text.specs.Valid.{Suits};
@@ -11,7 +11,6 @@ use ring_names::{NodeId, Refusal, Slot};
 use ring_table::{Allowance, Ring};
 use std::alloc::{AllocError, Global};
 
-// The number at that place, or 0.
 fn at(numbers: &[u32], place: u32) -> u32 {
     match numbers.get(place as usize) {
         Some(number) => *number,
@@ -19,7 +18,6 @@ fn at(numbers: &[u32], place: u32) -> u32 {
     }
 }
 
-// So many zeros.
 fn zeros(alloc: Global, count: usize) -> Result<Vec<u32>, AllocError> {
     let mut zeros = Vec::new(alloc);
     for _ in 0..count {
@@ -28,7 +26,6 @@ fn zeros(alloc: Global, count: usize) -> Result<Vec<u32>, AllocError> {
     Ok(zeros)
 }
 
-// Counts one more for the node.
 fn count(counts: &mut [u32], node: NodeId) {
     match counts.get_mut(node.0 as usize) {
         Some(number) => *number = number.saturating_add(1),
@@ -36,7 +33,6 @@ fn count(counts: &mut [u32], node: NodeId) {
     }
 }
 
-/// So many nodes from that number on.
 pub fn nodes_from(alloc: Global, first: u32, count: u32) -> Result<Vec<NodeId>, AllocError> {
     let mut nodes = Vec::new(alloc);
     for n in 0..count {
@@ -45,7 +41,7 @@ pub fn nodes_from(alloc: Global, first: u32, count: u32) -> Result<Vec<NodeId>, 
     Ok(nodes)
 }
 
-/// The planner's plan by which the nodes below `leavers` leave, and so many join from the number `first` on.
+/// Plans that the nodes below `leavers` leave, and `joiners` nodes join from number `first` on.
 pub fn plan_of(
     alloc: Global,
     ring: &Ring,
@@ -58,7 +54,7 @@ pub fn plan_of(
     make(alloc, ring, joins.as_slice(), leaves.as_slice())
 }
 
-/// The number divided by the other, rounded up; 0 where the other is 0.
+/// Divides and rounds up; 0 if the divisor is 0.
 fn parts(number: u32, size: u32) -> u32 {
     match number
         .saturating_add(size.saturating_sub(1))
@@ -69,7 +65,6 @@ fn parts(number: u32, size: u32) -> u32 {
     }
 }
 
-/// How many slots the plan moves, by its mirror steps.
 pub fn moves(plan: &Plan) -> u32 {
     let mut moves = 0u32;
     for k in 0..plan.len() {
@@ -80,7 +75,6 @@ pub fn moves(plan: &Plan) -> u32 {
     moves
 }
 
-/// Whether each copy reads from the slot's owner.
 pub fn reads_owners(plan: &Plan) -> bool {
     for k in 0..plan.len() {
         if matches!(plan.step(k), Step::Copy(_, Source::Slots(_))) {
@@ -90,7 +84,6 @@ pub fn reads_owners(plan: &Plan) -> bool {
     true
 }
 
-// Counts the owners of a partition's slots behind all steps.
 fn count_row(
     alloc: Global,
     ring: &Ring,
@@ -108,7 +101,7 @@ fn count_row(
     Ok(())
 }
 
-/// How many slots each node owns behind all steps of the plan, by number.
+/// Counts the slots of each node after the plan.
 pub fn owned(alloc: Global, ring: &Ring, plan: &Plan) -> Result<Vec<u32>, Refusal> {
     let mut owned = zeros(alloc, ring.nodes().len())?;
     for partition in 0..ring.q() {
@@ -117,14 +110,12 @@ pub fn owned(alloc: Global, ring: &Ring, plan: &Plan) -> Result<Vec<u32>, Refusa
     Ok(owned)
 }
 
-// How many copies read from each node, and how many each receives.
 #[derive(Drop)]
 struct Copies {
     given: Vec<u32>,
     taken: Vec<u32>,
 }
 
-// Counts the nodes of one step, if it is a copy: those from which it reads, and the one that receives it.
 fn count_copy(
     alloc: Global,
     ring: &Ring,
@@ -146,7 +137,6 @@ fn count_copy(
     Ok(())
 }
 
-// The copies of all nodes.
 fn count_copies(alloc: Global, ring: &Ring, plan: &Plan) -> Result<Copies, Refusal>
     requires { Suits ring.now plan.now }
 {
@@ -160,7 +150,7 @@ fn count_copies(alloc: Global, ring: &Ring, plan: &Plan) -> Result<Copies, Refus
     Ok(copies)
 }
 
-/// In how many rounds the copies of the busiest node can be done at best, as many at a time as its allowance lets.
+/// The fewest rounds of the busiest node's copies, within its allowance.
 pub fn rounds(alloc: Global, ring: &Ring, plan: &Plan) -> Result<u32, Refusal>
     requires { Suits ring.now plan.now }
 {
@@ -180,7 +170,6 @@ pub fn rounds(alloc: Global, ring: &Ring, plan: &Plan) -> Result<u32, Refusal>
     Ok(rounds)
 }
 
-// The most copies on a path to one of the steps.
 fn deepest(depths: &[u32], steps: &[u32]) -> u32 {
     let mut most = 0u32;
     for step in steps {
@@ -189,7 +178,7 @@ fn deepest(depths: &[u32], steps: &[u32]) -> u32 {
     most
 }
 
-/// The most copies on a path of dependencies: so many must be done one after the other.
+/// The most copies on a path of dependencies.
 pub fn depth(alloc: Global, plan: &Plan) -> Result<u32, AllocError> {
     let mut depths = Vec::new(alloc);
     let mut most = 0u32;
@@ -204,7 +193,6 @@ pub fn depth(alloc: Global, plan: &Plan) -> Result<u32, AllocError> {
     Ok(most)
 }
 
-// How many slots of the row the nodes of the least numbers own.
 fn owned_below(row: &[NodeId], leavers: u32) -> u32 {
     let mut owned = 0u32;
     for node in row {
@@ -215,8 +203,10 @@ fn owned_below(row: &[NodeId], leavers: u32) -> u32 {
     owned
 }
 
-/// The fewest moves of a change by which the nodes below `leavers` leave and so many join, where each that joins shall own `share` slots:
-/// those of the leavers, and what the joiners want besides them. No more of a partition's slots than there are joiners can go to these.
+/// The fewest moves by which the nodes below `leavers` leave and each joiner gets `share` slots.
+///
+/// They are the leavers' slots, and what joiners want besides. At most as many slots of a partition as joiners
+/// can go to joiners.
 pub fn fewest_moves(ring: &Ring, leavers: u32, joiners: u32, share: u32) -> u32 {
     let mut left = 0u32;
     let mut kept = 0u32;

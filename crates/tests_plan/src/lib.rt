@@ -1,5 +1,5 @@
-//! Tests of what no contract says, of the checker and the planner, and of the parts of a store that need no more: that calls which may run out of
-//! memory succeed where there is enough, that workers overlap, and how good plans are. Nothing is exported.
+//! Tests the checker, the planner and parts of a store beyond contracts: calls succeed with enough memory, workers
+//! overlap, and plans are good. Nothing is exported.
 #![tactic(auto)]
 
 #[cfg(test)]

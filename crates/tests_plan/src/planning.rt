@@ -1,4 +1,4 @@
-//! Changes, and the plans that are made for them.
+//! Changes, and the plans made for them.
 
 ghost use Rattle.plan_text.specs.Valid.{Suits};
 ghost use Rattle.change_text.specs.Valid.{IsChange};
@@ -34,7 +34,6 @@ const D: NodeId = NodeId(3);
 
 // ---- texts of changes
 
-// By the change d joins and b leaves.
 fn exchanges<RT: Abort>(rt: &RT, change: &Change) {
     same!(rt; change.joins.as_slice(), [D].as_slice());
     same!(rt; change.leaves.as_slice(), [B].as_slice());
@@ -48,7 +47,6 @@ fn is_written<RT: AllocGlobal + Abort>(rt: &RT, ring: &Ring, change: &Change) ->
     Ok(())
 }
 
-// A change of the ring is written as it was read.
 fn change_written<RT: AllocGlobal + Abort>(rt: &RT, ring: &Ring) -> Result<(), Fail> {
     let change = read_change(rt.alloc(), ring, CHANGE)?;
     exchanges(rt, &change);
@@ -61,7 +59,6 @@ fn changes_written(rt: HostRuntime) -> Result<(), Fail> {
     change_written(&rt, &ring)
 }
 
-// The ring's text, and another behind it.
 fn behind_ring(alloc: Global, text: &[u8]) -> Result<Vec<u8>, AllocError> {
     let mut both = Vec::from_slice(alloc, RING)?;
     both.extend_from_slice(text)?;
@@ -103,7 +100,6 @@ fn a_join_fulfilled(rt: HostRuntime) -> Result<(), Fail> {
 
 // ---- proposals
 
-// How many slots the node owns behind the plan.
 fn owns(alloc: Global, ring: &Ring, plan: &Plan, node: NodeId) -> Result<u32, Refusal> {
     let owned = owned(alloc, ring, plan)?;
     match owned.get(node.0 as usize) {
@@ -121,7 +117,6 @@ fn exchanged<RT: AllocGlobal + Abort>(rt: &RT, ring: &Ring, plan: &Plan) -> Resu
     Ok(())
 }
 
-// The checker accepts the plan.
 fn accepted<RT: AllocGlobal + Abort>(
     rt: &RT,
     ring: Ring,
@@ -134,7 +129,6 @@ fn accepted<RT: AllocGlobal + Abort>(
     Ok(())
 }
 
-// The plan of that text makes the exchange, and the checker accepts it.
 fn plan_checked<RT: AllocGlobal + Abort>(
     rt: &RT,
     ring: Ring,
@@ -146,7 +140,6 @@ fn plan_checked<RT: AllocGlobal + Abort>(
     accepted(rt, ring, plan, cert)
 }
 
-// Checks a plan, by its text and the certificate's.
 fn texts_checked<RT: AllocGlobal + Abort>(
     rt: &RT,
     ring: Ring,
@@ -157,7 +150,6 @@ fn texts_checked<RT: AllocGlobal + Abort>(
     plan_checked(rt, ring, plan, &cert)
 }
 
-// Checks a plan and its certificate in one text.
 fn proposal_checked<RT: AllocGlobal + Abort>(rt: &RT, text: &str) -> Result<(), Fail> {
     let Some((plan, _)) = text.split_once("cert 1\n") else {
         panic!(rt; "no certificate in {text}");
@@ -169,7 +161,6 @@ fn proposal_checked<RT: AllocGlobal + Abort>(rt: &RT, text: &str) -> Result<(), 
     texts_checked(rt, ring, plan.as_bytes(), cert)
 }
 
-// The text of the plan for a change of the ring.
 fn proposal_over(alloc: Global, ring: Ring) -> Result<Vec<u8>, Refusal> {
     let change = read_change(alloc, &ring, CHANGE)?;
     let found = propose(alloc, ring, &change)?;
@@ -190,7 +181,7 @@ fn an_exchange_proposed(rt: HostRuntime) -> Result<(), Fail> {
     proposal_checked(&rt, text)
 }
 
-// The number of the refusal of a plan for the change, or 0.
+// The number of the refusal, or 0.
 fn refused(alloc: Global, ring: &Ring, joins: &[NodeId], leaves: &[NodeId]) -> u8 {
     match make(alloc, ring, joins, leaves) {
         Ok(_) => 0,
@@ -213,13 +204,13 @@ fn too_few_members_left(rt: HostRuntime) -> Result<(), Fail> {
 
 // ---- plans for many changes
 
-// A ring of `members`, and nodes behind them that join; the first members leave.
+// A ring of `members`, then nodes that join; the first members leave.
 #[derive(Clone, Copy)]
 struct Case {
     format: u32,
     partitions: u32,
     slots: u32,
-    // how many slots answer a read and take a write, and in format 3 how many stores may be lost
+    // the read and write quorums, and in format 3 the allowed losses
     quorum: &'static str,
     allowance: &'static str,
     members: u32,
@@ -241,7 +232,6 @@ fn plain(partitions: u32, allowance: &'static str, members: u32, joins: u32, lea
     }
 }
 
-// The lines of the nodes.
 fn push_members(text: &mut Vec<u8>, case: &Case) -> Result<(), AllocError> {
     let allowance = case.allowance.as_bytes();
     let end = case.members.saturating_add(case.joins);
@@ -261,7 +251,6 @@ fn push_members(text: &mut Vec<u8>, case: &Case) -> Result<(), AllocError> {
     )
 }
 
-// The line of a partition: the members own slots in turn.
 fn push_row(text: &mut Vec<u8>, case: &Case, row: u32) -> Result<(), AllocError> {
     push_numbered(text, b"slots ", row)?;
     let first = row.saturating_mul(case.slots);
@@ -269,7 +258,6 @@ fn push_row(text: &mut Vec<u8>, case: &Case, row: u32) -> Result<(), AllocError>
     text.extend_from_slice(b"\n")
 }
 
-// The lines before those of nodes.
 fn push_head(text: &mut Vec<u8>, case: &Case) -> Result<(), AllocError> {
     push_numbered(text, b"ring ", case.format)?;
     push_numbered(text, b"\nspace ", case.partitions)?;
@@ -279,7 +267,6 @@ fn push_head(text: &mut Vec<u8>, case: &Case) -> Result<(), AllocError> {
     text.extend_from_slice(b"\n")
 }
 
-// Adds the text of the case's ring.
 fn push_ring(text: &mut Vec<u8>, case: &Case) -> Result<(), AllocError> {
     push_head(text, case)?;
     push_members(text, case)?;
@@ -289,14 +276,13 @@ fn push_ring(text: &mut Vec<u8>, case: &Case) -> Result<(), AllocError> {
     text.extend_from_slice(b"end\n")
 }
 
-// The text of the case's ring.
 fn ring_text(alloc: Global, case: &Case) -> Result<Vec<u8>, AllocError> {
     let mut text = Vec::new(alloc);
     push_ring(&mut text, case)?;
     Ok(text)
 }
 
-// How many slots each joiner shall own: its part of all, rounded down.
+// Each joiner's share of all slots, rounded down.
 fn share(case: &Case) -> u32 {
     let after = case
         .members
@@ -309,13 +295,12 @@ fn share(case: &Case) -> u32 {
     }
 }
 
-// The plan moves no more slots than it must.
 fn moves_least<RT: Abort>(rt: &RT, case: &Case, ring: &Ring, plan: &Plan) {
     let fewest = fewest_moves(ring, case.leaves, case.joins, share(case));
     same!(rt; moves(plan), fewest);
 }
 
-// Each joiner owns its share, and no leaver owns a slot, by the numbers of slots that the nodes own.
+// Each joiner owns its share, and no leaver owns a slot.
 fn are_shares<RT: Abort>(rt: &RT, case: &Case, owned: &[u32]) {
     let mut node = 0u32;
     for count in owned {
@@ -329,7 +314,6 @@ fn are_shares<RT: Abort>(rt: &RT, case: &Case, owned: &[u32]) {
     }
 }
 
-// So it is behind the plan.
 fn spreads<RT: AllocGlobal + Abort>(
     rt: &RT,
     case: &Case,
@@ -341,7 +325,7 @@ fn spreads<RT: AllocGlobal + Abort>(
     Ok(())
 }
 
-// No more copies wait for one another than allowances make them, or half as many again where copies read listed slots.
+// No more copies wait for one another than allowances demand, or half as many again with listed slots.
 fn hurries<RT: AllocGlobal + Abort>(rt: &RT, ring: &Ring, plan: &Plan) -> Result<(), Fail>
     requires { Suits ring.now plan.now }
 {
@@ -357,7 +341,6 @@ fn hurries<RT: AllocGlobal + Abort>(rt: &RT, ring: &Ring, plan: &Plan) -> Result
     Ok(())
 }
 
-// The plan makes the change.
 fn makes_change<RT: AllocGlobal + Abort>(rt: &RT, case: &Case, plan: &Plan) -> Result<(), Fail> {
     let joins = nodes_from(rt.alloc(), case.members, case.joins)?;
     let leaves = nodes_from(rt.alloc(), 0, case.leaves)?;
@@ -365,7 +348,6 @@ fn makes_change<RT: AllocGlobal + Abort>(rt: &RT, case: &Case, plan: &Plan) -> R
     Ok(())
 }
 
-// The plan is good.
 fn is_good<RT: AllocGlobal + Abort>(
     rt: &RT,
     case: &Case,
@@ -380,7 +362,6 @@ fn is_good<RT: AllocGlobal + Abort>(
     hurries(rt, ring, plan)
 }
 
-// The plan is good, and the checker accepts it.
 fn judged<RT: AllocGlobal + Abort>(
     rt: &RT,
     case: &Case,
@@ -403,7 +384,6 @@ fn planned_by_text<RT: AllocGlobal + Abort>(rt: &RT, case: &Case, text: &[u8]) -
     planned_over(rt, case, ring)
 }
 
-// The case's change is planned well.
 fn planned<RT: AllocGlobal + Abort>(rt: &RT, case: &Case) -> Result<(), Fail> {
     let text = ring_text(rt.alloc(), case)?;
     planned_by_text(rt, case, text.as_slice())

@@ -1,15 +1,15 @@
-//! Texts of rings of many nodes, whose names are a word and a number.
+//! Texts of rings with many nodes, named by a word and a number.
 
 use ring_names::push_decimal;
 use std::alloc::AllocError;
 
-/// Adds the word, and the number behind it.
+/// Adds the word and the number.
 pub fn push_numbered(text: &mut Vec<u8>, word: &[u8], number: u32) -> Result<(), AllocError> {
     text.extend_from_slice(word)?;
     push_decimal(text, number)
 }
 
-/// Adds a line for each node of the numbers from `first` up to `end`.
+/// Adds a line for each node from `first` up to `end`.
 pub fn push_nodes(
     text: &mut Vec<u8>,
     word: &[u8],
@@ -24,7 +24,6 @@ pub fn push_nodes(
     Ok(())
 }
 
-// Adds one text behind the other.
 fn push_all(text: &mut Vec<u8>, parts: &[&[u8]]) -> Result<(), AllocError> {
     for part in parts {
         text.extend_from_slice(part)?;
@@ -32,7 +31,7 @@ fn push_all(text: &mut Vec<u8>, parts: &[&[u8]]) -> Result<(), AllocError> {
     Ok(())
 }
 
-/// Adds so many owners: the nodes below `nodes` in turn, from the number `first` on.
+/// Adds owners: the nodes below `nodes` in turn, from `first` on.
 pub fn push_owners(
     text: &mut Vec<u8>,
     word: &[u8],

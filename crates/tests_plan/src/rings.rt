@@ -1,4 +1,4 @@
-//! A ring of four nodes, a plan of two moves, and how many steps of a plan the checker approves.
+//! A ring of four nodes, a plan of two moves, and how many steps the checker approves.
 
 ghost use Rattle.std.specs.Prelude.{IfOk};
 ghost use Rattle.plan_text.specs.Valid.{Suits};
@@ -17,33 +17,29 @@ pub const RING: &[u8] =
 const TWO_MOVES: &[u8] =
     b"plan 1\njoin d\nmirror 0 1 d after 0\ncopy 0 1 owner after 1\nswitch 0 1 after 2\nmirror 1 1 d after 0 3\ncopy 1 1 owner after 4\nswitch 1 1 after 5\nend\n";
 
-// The texts are read here alone: what readers ensure is long, and no test needs it where it owns what is read.
+// Texts are read only here: readers ensure much, which tests that own the result do not need.
 
-/// The ring of that text.
 pub fn ring_from(alloc: Global, text: &[u8]) -> Result<Ring, Refusal> {
     read_ring(alloc, text)
 }
 
-/// The plan of that text.
 pub fn plan_from(alloc: Global, ring: &Ring, text: &[u8]) -> Result<Plan, Refusal>
     ensures { IfOk result (λ plan. Suits ring.now plan) }
 {
     read_plan(alloc, ring, text)
 }
 
-/// The certificate of that text.
 pub fn cert_from(alloc: Global, ring: &Ring, text: &[u8]) -> Result<Cert, Refusal> {
     read_cert(alloc, ring, text)
 }
 
-/// The plan of the two moves.
 pub fn two_moves(alloc: Global, ring: &Ring) -> Result<Plan, Refusal>
     ensures { IfOk result (λ plan. Suits ring.now plan) }
 {
     plan_from(alloc, ring, TWO_MOVES)
 }
 
-/// How many steps of the plan are approved.
+/// Checks the plan. Returns the number of its steps.
 pub fn approved(alloc: Global, ring: Ring, plan: Plan, cert: &Cert) -> Result<u32, Refusal>
     requires { Suits ring plan }
 {

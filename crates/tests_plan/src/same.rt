@@ -1,9 +1,9 @@
-//! Assertions that are a call each: what `assert!` and `assert_eq!` write at their place is proved there each time anew.
+//! Assertions by call: `assert!` and `assert_eq!` are proved again wherever they are written.
 
 use std::fmt::Debug;
 use std::process::Abort;
 
-/// What was found is as wanted; else the test fails with both, and with the text of what was asked.
+/// Fails with both values, and the text of the question, if they differ.
 pub fn is_wanted<RT: Abort, T: Debug + PartialEq + Drop>(
     rt: &RT,
     asked: &str,

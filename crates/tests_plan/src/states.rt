@@ -1,4 +1,4 @@
-//! What a running store keeps of nodes, steps, slots, keys, puts and gets: each call that may run out of memory succeeds where there is enough.
+//! What a running store keeps of nodes, steps, slots, keys, puts and gets: calls succeed with enough memory.
 
 use crate::rings::{RING, ring_from};
 use crate::same::{holds, same};
@@ -32,7 +32,6 @@ fn slots_started<RT: AllocGlobal + Abort>(rt: &RT, ring: &Ring) -> Result<(), Fa
     Ok(())
 }
 
-// The nodes, steps and slots of a ring at the start.
 fn started<RT: AllocGlobal + Abort>(rt: &RT, ring: &Ring) -> Result<(), Fail> {
     nodes_started(rt, ring)?;
     steps_started(rt)?;
@@ -45,7 +44,7 @@ fn parts_at_the_start(rt: HostRuntime) -> Result<(), Fail> {
     started(&rt, &ring)
 }
 
-// The key has that number, also where it was added before.
+// The key has that number, also if it was added before.
 fn key_is<RT: Abort>(rt: &RT, keys: &mut Keys, key: &[u8], number: usize) -> Result<(), Fail> {
     let added = keys.add(key)?;
     same!(rt; added, number);

@@ -1,4 +1,4 @@
-//! Wishes, and how good the owners are that are found for them: how many slots move, in how many partitions two are in one rack, and how even it gets.
+//! Wishes, and how good their owners are: moves, partitions with two slots in one rack, and balance.
 
 use crate::ring_texts::{push_nodes, push_numbered, push_owners};
 use crate::rings::ring_from;
@@ -13,7 +13,7 @@ use std::test::Fail;
 // The nodes in three racks by turns.
 const RACKS: [u32; 14] = [0, 1, 2, 0, 1, 2, 0, 1, 2, 0, 1, 2, 0, 1];
 
-// A wish in these racks: nobody joins or leaves, and all weigh the same.
+// A wish with these racks: no changes, equal weights.
 fn racked(racks: &[u32]) -> Wish<'_> {
     Wish {
         joins: &[],
@@ -26,7 +26,7 @@ fn racked(racks: &[u32]) -> Wish<'_> {
 
 // ---- the ring
 
-// The owners take turns: each partition has three that stand side by side, so one in each rack.
+// Each partition has three consecutive owners, one in each rack.
 fn push_rows(text: &mut Vec<u8>) -> Result<(), AllocError> {
     for partition in 0..64u32 {
         push_numbered(text, b"slots ", partition)?;
@@ -36,7 +36,7 @@ fn push_rows(text: &mut Vec<u8>) -> Result<(), AllocError> {
     text.extend_from_slice(b"end\n")
 }
 
-// A ring of 64 partitions with three slots each: twelve members with 16 slots each, and two nodes that are none.
+// 64 partitions with three slots: twelve members with 16 slots each, and two other nodes.
 fn twelve(alloc: Global) -> Result<Ring, Refusal> {
     let mut text = Vec::from_slice(alloc, b"ring 1\nspace 64\nquorum 3 2 2\n")?;
     push_nodes(&mut text, b"node n", 0, 12, &[b" 4 in\n"])?;
@@ -47,7 +47,6 @@ fn twelve(alloc: Global) -> Result<Ring, Refusal> {
 
 // ---- what wishes come to
 
-// How many slots have another owner than before.
 fn moved(ring: &Ring, rows: &[Listed<NodeId>]) -> u32 {
     let mut moved = 0u32;
     for (old, new) in ring.rows().iter().zip(rows.iter()) {
@@ -60,7 +59,6 @@ fn moved(ring: &Ring, rows: &[Listed<NodeId>]) -> u32 {
     moved
 }
 
-// Whether two of the owners are in one rack.
 fn share(racks: &[u32], row: &[NodeId]) -> bool {
     for (place, one) in row.iter().enumerate() {
         for other in row.iter().skip(place.saturating_add(1)) {
@@ -73,7 +71,6 @@ fn share(racks: &[u32], row: &[NodeId]) -> bool {
     false
 }
 
-// In how many partitions two owners are in one rack.
 fn shared(racks: &[u32], rows: &[Listed<NodeId>]) -> u32 {
     let mut shared = 0u32;
     for row in rows {
@@ -84,7 +81,6 @@ fn shared(racks: &[u32], rows: &[Listed<NodeId>]) -> u32 {
     shared
 }
 
-// How many slots the node owns.
 fn load(rows: &[Listed<NodeId>], node: NodeId) -> u32 {
     let mut load = 0u32;
     for row in rows {
@@ -95,7 +91,7 @@ fn load(rows: &[Listed<NodeId>], node: NodeId) -> u32 {
     load
 }
 
-// The fewest and the most slots of those that are members in the end.
+// The fewest and the most slots of the final members.
 fn least_and_most(ring: &Ring, wish: &Wish, rows: &[Listed<NodeId>]) -> (u32, u32) {
     let (mut least, mut most) = (u32::MAX, 0u32);
     for number in 0..14u32 {
@@ -109,8 +105,7 @@ fn least_and_most(ring: &Ring, wish: &Wish, rows: &[Listed<NodeId>]) -> (u32, u3
     (least, most)
 }
 
-// What the ring above comes to by the wish: the slots that move and the partitions with two slots in one rack, and the fewest and the most slots of a
-// member.
+// Checks the moves, the partitions with two slots in one rack, and the fewest and the most slots of a member.
 fn comes_to<RT: AllocGlobal + Abort>(
     rt: &RT,
     wish: &Wish,
@@ -125,14 +120,13 @@ fn comes_to<RT: AllocGlobal + Abort>(
     Ok(())
 }
 
-// No ring fulfils the wish.
 fn is_refused<RT: AllocGlobal + Abort>(rt: &RT, wish: &Wish) -> Result<(), Fail> {
     let ring = twelve(rt.alloc())?;
     holds!(rt; matches!(wished(rt.alloc(), &ring, wish), Err(Refusal::NoPlan)));
     Ok(())
 }
 
-// Each of two that join takes its part, 13 slots, and no partition gets two in one rack.
+// Two joiners take their parts, 13 slots each, and no partition gets two in one rack.
 #[test]
 fn two_join_apart(rt: HostRuntime) -> Result<(), Fail> {
     let wish = Wish {
@@ -142,7 +136,7 @@ fn two_join_apart(rt: HostRuntime) -> Result<(), Fail> {
     comes_to(&rt, &wish, (26, 0), (12, 16))
 }
 
-// The slots of one that leaves stay in its rack, as each partition has one in each of three.
+// A leaver's slots stay in its rack, as each partition has one in each of three.
 #[test]
 fn one_leaves_its_rack(rt: HostRuntime) -> Result<(), Fail> {
     let wish = Wish {
@@ -152,7 +146,7 @@ fn one_leaves_its_rack(rt: HostRuntime) -> Result<(), Fail> {
     comes_to(&rt, &wish, (16, 0), (16, 22))
 }
 
-// Two that join take all that two leave, each in its rack.
+// Two joiners take all that two leavers had, each in its rack.
 #[test]
 fn two_for_two(rt: HostRuntime) -> Result<(), Fail> {
     let wish = Wish {
@@ -163,7 +157,8 @@ fn two_for_two(rt: HostRuntime) -> Result<(), Fail> {
     comes_to(&rt, &wish, (32, 0), (16, 16))
 }
 
-// Half of the partitions have no keys: two that join take six slots each of the others, as their shares are 96 by 14. Their racks alone give.
+// Half of the partitions have no keys: two joiners take six slots each of the others, as their shares are 96 by 14.
+// Only their racks give.
 #[test]
 fn two_join_by_size(rt: HostRuntime) -> Result<(), Fail> {
     let mut sizes = [0u64; 64];
@@ -178,21 +173,21 @@ fn two_join_by_size(rt: HostRuntime) -> Result<(), Fail> {
     comes_to(&rt, &wish, (12, 0), (6, 16))
 }
 
-// In two racks each partition has two slots in one of them; where it has three, one moves.
+// With two racks, each partition has two slots in one rack; a third one there moves.
 #[test]
 fn two_racks_shared(rt: HostRuntime) -> Result<(), Fail> {
     let wish = racked(&[0, 0, 0, 0, 0, 0, 1, 1, 1, 1, 1, 1]);
     comes_to(&rt, &wish, (64, 64), (16, 16))
 }
 
-// Each partition shares racks before: two slots of half of them move, and one of the others.
+// Racks are shared before: half of the partitions move two slots, the others one.
 #[test]
 fn racks_mended(rt: HostRuntime) -> Result<(), Fail> {
     let wish = racked(&[0, 0, 0, 0, 1, 1, 1, 1, 2, 2, 2, 2]);
     comes_to(&rt, &wish, (96, 0), (16, 16))
 }
 
-// One of weight 3 takes three times what one of weight 1 takes.
+// Weight 3 takes three times as much as weight 1.
 #[test]
 fn weight_taken(rt: HostRuntime) -> Result<(), Fail> {
     let wish = Wish {
@@ -203,7 +198,6 @@ fn weight_taken(rt: HostRuntime) -> Result<(), Fail> {
     comes_to(&rt, &wish, (48, 0), (12, 36))
 }
 
-// With two members no partition has three owners.
 #[test]
 fn too_few_left(rt: HostRuntime) -> Result<(), Fail> {
     let mut leaves = Vec::new(rt.alloc());
@@ -217,7 +211,7 @@ fn too_few_left(rt: HostRuntime) -> Result<(), Fail> {
     is_refused(&rt, &wish)
 }
 
-// A member cannot join, and who is none cannot leave.
+// A member cannot join, and others cannot leave.
 #[test]
 fn wrong_nodes_refused(rt: HostRuntime) -> Result<(), Fail> {
     let joins = Wish {

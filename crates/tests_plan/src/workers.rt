@@ -1,4 +1,4 @@
-//! The check by workers: that they overlap, and what a gate that stops one makes of it.
+//! The check by workers: they overlap, and a gate can stop one.
 
 ghost use Rattle.plan_text.specs.Valid.{Suits};
 
@@ -17,7 +17,7 @@ use std::thread::Threads;
 
 const CERT: &[u8] = b"cert 1\nfact 2 3 4 5\nchain b 2 5\nchain d 2 5\nend\n";
 
-// Holds workers until as many have come as it waits for, and looks a million times.
+// Holds workers until enough have come, for at most a million looks.
 #[derive(Drop)]
 struct Turnstile {
     come: Mutex<u32>,
@@ -32,13 +32,11 @@ impl Turnstile {
         }
     }
 
-    // One more has come.
     fn count<R: Wait>(&self, rt: &R) {
         let mut come = self.come.lock(rt);
         *come = come.saturating_add(1);
     }
 
-    // Whether as many have come as it waits for.
     fn is_met<R: Wait>(&self, rt: &R) -> bool {
         *self.come.lock(rt) >= self.awaited
     }
@@ -61,7 +59,6 @@ impl Gate for Turnstile {
     }
 }
 
-// How many steps of the plan are approved.
 fn approved<RT: AllocGlobal + Threads + Wait + Sync>(
     rt: &RT,
     workers: u32,
@@ -78,7 +75,6 @@ fn approved<RT: AllocGlobal + Threads + Wait + Sync>(
     }
 }
 
-// What the check of the two moves says, by the certificate.
 fn moves_by<RT: AllocGlobal + Threads + Wait + Sync>(
     rt: &RT,
     workers: u32,
@@ -90,7 +86,6 @@ fn moves_by<RT: AllocGlobal + Threads + Wait + Sync>(
     approved(rt, workers, gate, (ring, plan), cert)
 }
 
-// Checks the moves by workers, by the certificate's text.
 fn moves<RT: AllocGlobal + Threads + Wait + Sync>(
     rt: &RT,
     workers: u32,
@@ -102,7 +97,7 @@ fn moves<RT: AllocGlobal + Threads + Wait + Sync>(
     moves_by(rt, workers, gate, ring, &cert)
 }
 
-// What the check of the two moves says by so many workers, under a gate that waits for so many.
+// Checks the two moves by workers, with a gate that waits for `awaited` of them.
 fn whole<RT: AllocGlobal + Threads + Wait + Sync>(
     rt: &RT,
     workers: u32,
@@ -135,7 +130,6 @@ fn no_share_is_begun_after_a_bad_path(rt: HostRuntime) {
     same!(rt; whole(&rt, 2, 3, b"cert 1\nfact 2 5\nend\n"), Err(Refusal::BadPath(0)));
 }
 
-// Whether the paths of the certificate say that one step is before another.
 fn ordered<RT: AllocGlobal + Threads + Sync>(
     rt: &RT,
     plan: &Plan,
@@ -145,7 +139,6 @@ fn ordered<RT: AllocGlobal + Threads + Sync>(
     Ok(facts.ordered(plan, 2, 5))
 }
 
-// Whether workers give the order of the plan's steps, by the certificate's text.
 fn ordered_by_cert<RT: AllocGlobal + Threads + Sync>(
     rt: &RT,
     ring: &Ring,
@@ -155,7 +148,6 @@ fn ordered_by_cert<RT: AllocGlobal + Threads + Sync>(
     ordered(rt, plan, &cert)
 }
 
-// Whether workers give the order of the steps of the two moves.
 fn moves_ordered<RT: AllocGlobal + Threads + Sync>(rt: &RT, ring: &Ring) -> Result<bool, Refusal> {
     let plan = two_moves(rt.alloc(), ring)?;
     ordered_by_cert(rt, ring, &plan)

@@ -106,7 +106,7 @@ fn written<RT: AllocGlobal + Files + Eprint + Threads + Wait + Sync + Abort>(
     run(rt, Screen::Plain, &["ringplan", word], &mut input, output)
 }
 
-// What the whole output is, where a write takes a byte, and that the last call is no write.
+// What the whole output is if a write takes a byte, and that the last call is not a write.
 fn output_of<RT: AllocGlobal + Files + Eprint + Threads + Wait + Sync + Abort>(
     rt: &RT,
     word: &str,
@@ -191,7 +191,7 @@ fn each_write_fails(rt: HostRuntime) {
 // A ring of one node, and a change that changes nothing.
 const REST: &[u8] = b"ring 1\nspace 1\nquorum 1 1 1\nnode a 1 in\nslots 0 a\nend\nchange 1\nend\n";
 
-// A goal that tells by its status whether its plan has steps ends with that one.
+// A goal whose status tells whether its plan has steps ends with that status.
 fn goal_ends<RT: AllocGlobal + Files + Eprint + Threads + Wait + Sync + Abort>(
     rt: &RT,
     bundle: &[u8],

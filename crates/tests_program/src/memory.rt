@@ -125,7 +125,7 @@ impl Read for Endless {
     }
 }
 
-// Fails where no call is left.
+// Fails if no call is left.
 fn use_call(calls: &mut usize) -> io::Result<()> {
     if *calls == 0 {
         return Err(io::Error::from(ErrorKind::BrokenPipe));

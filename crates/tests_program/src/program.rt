@@ -16,8 +16,8 @@ const CHECK: [&str; 2] = ["ringplan", "check"];
 const BUNDLE: &[u8] =
     b"ring 1\nspace 1\nquorum 1 1 1\nnode a 1 in\nslots 0 a\nend\nplan 1\nend\ncert 1\nend\n";
 
-// The text contains the other. An output is dropped at each exit of what owns it, which makes the proof of that dear: what is asserted of it is so in
-// functions to which it is lent.
+// The text contains the other. What owns an output drops it at each exit, which makes its proof dear. So
+// functions to which the output is lent assert this.
 fn shows<RT: Abort>(rt: &RT, shown: &[u8], text: &str) -> Result<(), Fail> {
     let shown = str::from_utf8(shown)?;
     assert!(rt; shown.contains(text), "{shown}");
@@ -134,7 +134,7 @@ fn words_that_are_no_text(rt: HostRuntime) -> Result<(), Fail> {
     begins(&rt, output.bytes.as_slice(), "error: invalid UTF-8")
 }
 
-// The answer to the least bundle, where a read gives and a write takes so many bytes at most.
+// The answer to the least bundle, if a read gives and a write takes so many bytes at most.
 fn answered<RT: AllocGlobal + Files + Eprint + Threads + Wait + Sync + Abort>(rt: &RT, step: usize)
     requires { 0 < step }
 {

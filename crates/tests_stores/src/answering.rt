@@ -1,7 +1,7 @@
-//! Rings and plans of tests, and what a store of one answers to the events of a script.
+//! Rings and plans of tests, and a store's replies to the events of a script.
 //!
-//! A store and its plan are dropped at each exit of what owns them, which makes the proof of that dear: each function here owns one of them and lends
-//! it on.
+//! A store and its plan are dropped at each exit of their owner, which is costly to prove. So each function here owns
+//! one and lends it.
 
 ghost use Rattle.plan_text.specs.Valid.{Suits};
 
@@ -20,7 +20,7 @@ use std::test::Fail;
 pub const RING: &[u8] =
     b"ring 1\nspace 4\nquorum 3 2 2\nnode a 4 in\nnode b 1 in\nnode c 4 in\nnode d 4 out\nslots 0 a b c\nslots 1 a b c\nslots 2 a b c\nslots 3 a b c\nend\n";
 
-// One store may be lost.
+// One node may lose its data.
 const LOSSY: &[u8] =
     b"ring 3\nspace 4\nquorum 3 2 3 1\nnode a 4 in\nnode b 1 in\nnode c 4 in\nnode d 4 out\nslots 0 a b c\nslots 1 a b c\nslots 2 a b c\nslots 3 a b c\nend\n";
 
@@ -28,7 +28,7 @@ const LOSSY: &[u8] =
 const SPARE: &[u8] =
     b"ring 1\nspace 4\nquorum 3 2 2\nnode a 4 in\nnode b 1 in\nnode c 4 in\nnode d 4 in\nslots 0 a b c\nslots 1 a b c\nslots 2 a b c\nslots 3 a b c\nend\n";
 
-// Node b counts apart what it receives and what reads from it.
+// Node b has two allowances.
 const SPLIT: &[u8] =
     b"ring 2\nspace 4\nquorum 3 2 2\nnode a 4 in\nnode b 1 2 in\nnode c 4 in\nnode d 4 out\nslots 0 a b c\nslots 1 a b c\nslots 2 a b c\nslots 3 a b c\nend\n";
 
@@ -41,7 +41,6 @@ const SPLIT_CHAINS: &[u8] = b"cert 2\ngive b 2\nchain d 2\nend\n";
 
 const NO_STEPS: &[u8] = b"plan 1\nend\n";
 
-/// A ring, a plan of it and the plan's certificate.
 pub struct Texts {
     pub ring: &'static [u8],
     pub plan: &'static [u8],
@@ -72,7 +71,6 @@ pub const SPLIT_MOVE: Texts = Texts {
     cert: SPLIT_CHAINS,
 };
 
-/// What was checked, or why it was turned away.
 pub fn approved_of(found: Result<Approved, Turned>) -> Result<Approved, Refusal> {
     match found {
         Ok(approved) => Ok(approved),
@@ -80,7 +78,6 @@ pub fn approved_of(found: Result<Approved, Turned>) -> Result<Approved, Refusal>
     }
 }
 
-// The plan of the ring, where its certificate shows that it is sound.
 fn certified(alloc: Global, ring: Ring, plan: Plan, cert: &[u8]) -> Result<Approved, Refusal>
     requires { Suits ring plan }
 {
@@ -88,19 +85,17 @@ fn certified(alloc: Global, ring: Ring, plan: Plan, cert: &[u8]) -> Result<Appro
     approved_of(check(alloc, ring, plan, &cert))
 }
 
-// The plan of a text, where its certificate shows that it is sound.
 fn planned(alloc: Global, ring: Ring, plan: &[u8], cert: &[u8]) -> Result<Approved, Refusal> {
     let plan = read_plan(alloc, &ring, plan)?;
     certified(alloc, ring, plan, cert)
 }
 
-/// The plan of these texts, where its certificate shows that it is sound.
+/// Reads and checks the plan.
 pub fn approved(alloc: Global, texts: &Texts) -> Result<Approved, Refusal> {
     let ring = read_ring(alloc, texts.ring)?;
     planned(alloc, ring, texts.plan, texts.cert)
 }
 
-// Adds the line of a reply, which was allowed.
 fn reply_added<RT: Abort>(
     rt: &RT,
     reply: &Reply,
@@ -113,7 +108,6 @@ fn reply_added<RT: Abort>(
     Ok(())
 }
 
-// Adds the line of a refusal, which was foretold.
 fn refusal_added<RT: Abort>(
     rt: &RT,
     refusal: Refusal,
@@ -125,7 +119,7 @@ fn refusal_added<RT: Abort>(
     Ok(())
 }
 
-// Adds the line that the event is answered, which is what was allowed.
+// Adds the line of the event's reply, which must be the one foretold.
 #[tactic(auto, using(ring_core::proofs::SoundAfterEvent::has_number))]
 fn answer<RT: Abort>(
     rt: &RT,
@@ -141,12 +135,10 @@ fn answer<RT: Abort>(
     }
 }
 
-// The lines are these.
 fn are_lines<RT: Abort>(rt: &RT, out: &[u8], lines: &[u8]) {
     assert_eq!(rt; out, lines);
 }
 
-// The events are answered by these lines.
 fn events_answered<RT: AllocGlobal + Abort>(
     rt: &RT,
     world: &mut World,
@@ -161,13 +153,11 @@ fn events_answered<RT: AllocGlobal + Abort>(
     Ok(())
 }
 
-/// The script of a text, without the names of its writers.
 pub fn script_of(alloc: Global, ring: &Ring, text: &[u8]) -> Result<Script, Refusal> {
     let mut names = Names::new(alloc);
     read_script(alloc, ring, &mut names, text)
 }
 
-// The script's events are answered by these lines.
 fn script_answered<RT: AllocGlobal + Abort>(
     rt: &RT,
     ring: &Ring,
@@ -179,7 +169,7 @@ fn script_answered<RT: AllocGlobal + Abort>(
     events_answered(rt, world, script.events(), lines)
 }
 
-/// The events of a script's text are answered by these lines.
+/// The events of a script's text get these replies.
 pub fn answered<RT: AllocGlobal + Abort>(
     rt: &RT,
     approved: &Approved,

@@ -1,4 +1,4 @@
-//! Histories: texts that are written as they were read, and lines that are refused.
+//! Histories are written as read, and faulty lines are refused.
 
 use crate::answering::{LOSS, RING, approved};
 use history_text::{are_known, push_history, read_history, read_replay};
@@ -25,7 +25,6 @@ down b = ok
 end
 ";
 
-// The text of a history, where it names whom the ring and the names know.
 fn written<RT: AllocGlobal + Abort>(
     rt: &RT,
     approved: &Approved,
@@ -39,14 +38,12 @@ fn written<RT: AllocGlobal + Abort>(
     Ok(text)
 }
 
-// The history is written as it was read, and its writers are numbered in order of first sight.
 fn is_as_read<RT: Abort>(rt: &RT, len: usize, second: Option<u32>, text: &[u8]) {
     assert_eq!(rt; len, 9);
     assert_eq!(rt; text, HISTORY);
     assert_eq!(rt; second, Some(1));
 }
 
-// A history that is read and written.
 fn history_written<RT: AllocGlobal + Abort>(rt: &RT, approved: &Approved) -> Result<(), Fail> {
     let mut names = Names::new(rt.alloc());
     let history = read_history(rt.alloc(), approved.ring(), &mut names, HISTORY)?;
@@ -61,7 +58,6 @@ fn histories_written(rt: HostRuntime) -> Result<(), Fail> {
     history_written(&rt, &approved)
 }
 
-// The number of entries of a history of these lines.
 fn entries_of(alloc: Global, ring: &Ring, lines: &str) -> Result<usize, Refusal> {
     let mut names = Names::new(alloc);
     let text = format!(in alloc; "history 1\n{lines}end\n")?;
@@ -69,7 +65,6 @@ fn entries_of(alloc: Global, ring: &Ring, lines: &str) -> Result<usize, Refusal>
     Ok(history.len())
 }
 
-// What is said of one entry, or two.
 fn lines_read<RT: AllocGlobal + Abort>(
     rt: &RT,
     ring: &Ring,
@@ -95,7 +90,7 @@ fn signs_read<RT: AllocGlobal + Abort>(rt: &RT, ring: &Ring) {
     lines_read(rt, ring, "ack 0 = found 1 x\n", bad);
 }
 
-// Of several faults in a line the one of the least number decides, and of lines the first.
+// In a line the fault of the least number decides, and of lines the first.
 fn faults_read<RT: AllocGlobal + Abort>(rt: &RT, ring: &Ring) {
     lines_read(
         rt,
@@ -148,7 +143,6 @@ write 0 0 = ticket 0 0 0
 end
 ";
 
-// The number of entries of a replay's bundle.
 fn replayed(alloc: Global, bytes: &[u8]) -> Result<usize, Refusal> {
     let bundle = read_replay(alloc, bytes)?;
     Ok(bundle.history.len())

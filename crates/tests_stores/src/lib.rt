@@ -1,5 +1,5 @@
-//! Tests of what no contract says, of stores that run plans and of scripts: that calls which may run out of memory succeed where there is enough, and
-//! texts that are printed. Nothing is exported.
+//! Tests what no contract says of running stores and scripts: calls succeed with enough memory, and printed texts.
+//! Nothing is exported.
 #![tactic(auto)]
 
 #[cfg(test)]

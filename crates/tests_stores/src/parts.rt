@@ -1,4 +1,4 @@
-//! Histories that are cut into their partitions: the parts are runs exactly if the whole is one.
+//! Histories cut into their partitions: the parts are runs exactly if the whole is one.
 
 use crate::answering::{STAND_IN, approved};
 use history_parts::part;
@@ -11,7 +11,8 @@ use std::alloc::Global;
 use std::process::Abort;
 use std::test::Fail;
 
-// Puts of keys of partitions 0 and 2, of which one is hinted and handed off, and gets of both; a put knows a get of its key.
+// Puts in partitions 0 and 2, one of them hinted and handed off, and gets of both. A put names a get of its
+// key.
 const RUN: &str = "\
 put w1 a x31 = put 0
 put w1 b x32 = put 1
@@ -37,7 +38,7 @@ put w2 b x33 seen 0 = put 2
 write 2 1 = ticket 2 1 0
 ";
 
-// An entry more each, or two, after which the history is a run, or is none.
+// One or two more entries, after which the history still is a run, or is not.
 const GOES_ON: [&str; 5] = [
     "write 2 2 = ticket 2 2 0\n",
     "get c = get 2\n",
@@ -60,7 +61,6 @@ const ENDS: [&str; 11] = [
     "handoff d 0 2 = ok\n",
 ];
 
-// Whether the entries are a run.
 fn is_run<RT: AllocGlobal + Abort>(
     rt: &RT,
     approved: &Approved,
@@ -74,7 +74,6 @@ fn is_run<RT: AllocGlobal + Abort>(
     }
 }
 
-// Whether each part of one partition is a run.
 fn are_runs<RT: AllocGlobal + Abort>(
     rt: &RT,
     approved: &Approved,
@@ -93,7 +92,6 @@ fn are_runs<RT: AllocGlobal + Abort>(
     Ok(all)
 }
 
-// The entries of these lines.
 fn entries_of(
     alloc: Global,
     approved: &Approved,
@@ -105,7 +103,6 @@ fn entries_of(
     read_history(alloc, approved.ring(), &mut names, text.as_bytes())
 }
 
-// The whole and its parts are runs, or neither is.
 fn decided<RT: AllocGlobal + Abort>(
     rt: &RT,
     approved: &Approved,

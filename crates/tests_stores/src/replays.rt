@@ -1,4 +1,4 @@
-//! Histories of what a script's events were answered.
+//! Histories of a script's replies.
 
 use crate::answering::{MOVE, approved, script_of};
 use plan_check::Approved;
@@ -49,10 +49,9 @@ ack 0
 end
 ";
 
-// How the play of the script ends.
+// The end of the script's play.
 const OWNERS: &[u8] = b"slots 0 a d c\nslots 1 a b c\nslots 2 a b c\nslots 3 a b c\nend\n";
 
-// Notes the event with its reply, where it is answered.
 #[tactic(auto, using(ring_core::proofs::SoundAfterEvent::has_number))]
 fn note<RT: AllocGlobal + Abort>(
     rt: &RT,
@@ -72,7 +71,6 @@ fn note<RT: AllocGlobal + Abort>(
     Ok(())
 }
 
-// Notes the events that are answered.
 fn note_all<RT: AllocGlobal + Abort>(
     rt: &RT,
     world: &mut World,
@@ -99,14 +97,12 @@ fn are_same<RT: Abort>(rt: &RT, one: &[Listed<NodeId>], other: &[Listed<NodeId>]
     }
 }
 
-// The store has these owners.
 fn owns<RT: Abort>(rt: &RT, world: &World, owners: &[Listed<NodeId>]) -> Result<(), Fail> {
     let again = world.table()?;
     are_same(rt, owners, again.as_slice());
     Ok(())
 }
 
-// The store behind the history has these owners.
 fn owned_again<RT: AllocGlobal + Abort>(
     rt: &RT,
     approved: &Approved,
@@ -118,7 +114,6 @@ fn owned_again<RT: AllocGlobal + Abort>(
     owns(rt, &again, owners)
 }
 
-// The store behind the history has the same owners.
 fn replayed<RT: AllocGlobal + Abort>(
     rt: &RT,
     approved: &Approved,
@@ -129,7 +124,6 @@ fn replayed<RT: AllocGlobal + Abort>(
     owned_again(rt, approved, history, owners.as_slice())
 }
 
-// The events happen to a store, and what was answered is replayed.
 fn happened<RT: AllocGlobal + Abort>(
     rt: &RT,
     approved: &Approved,
@@ -141,7 +135,6 @@ fn happened<RT: AllocGlobal + Abort>(
     replayed(rt, approved, world, history.as_slice())
 }
 
-// The play prints those owners.
 fn printed<RT: AllocGlobal + Abort>(
     rt: &RT,
     approved: &Approved,

@@ -1,4 +1,4 @@
-//! Scripts: texts that are written as they were read, scripts that are made event by event, and a play of a bundle.
+//! Scripts are written as read, scripts are made event by event, and a bundle is played.
 
 ghost use Rattle.plan_text.specs.Valid.{Suits};
 
@@ -39,14 +39,12 @@ lose b
 end
 ";
 
-// The script is written as it was read, and its writers are numbered in order of first sight.
 fn is_as_read<RT: Abort>(rt: &RT, len: usize, second: Option<u32>, text: &[u8]) {
     assert_eq!(rt; len, 18);
     assert_eq!(rt; text, SCRIPT);
     assert_eq!(rt; second, Some(1));
 }
 
-// A script that is read and written.
 fn script_written<RT: AllocGlobal + Abort>(rt: &RT, ring: &Ring) -> Result<(), Fail> {
     let mut names = Names::new(rt.alloc());
     let script = read_script(rt.alloc(), ring, &mut names, SCRIPT)?;
@@ -61,7 +59,7 @@ fn scripts_written(rt: HostRuntime) -> Result<(), Fail> {
     script_written(&rt, &ring)
 }
 
-// A client brings about the first event and not the second.
+// A client may do the first event, not the second.
 fn pushed<RT: Abort>(rt: &RT, script: &mut Script) -> Result<(), Fail> {
     assert_eq!(rt; script.len(), 0);
     script.push(Event::Down(NodeId(1)))?;
@@ -101,7 +99,6 @@ read 0 0
 end
 ";
 
-// What is printed of the events, where the certificate shows that the plan is sound.
 fn checked_and_played(
     alloc: Global,
     ring: Ring,
@@ -115,7 +112,6 @@ fn checked_and_played(
     play(alloc, &approved, script)
 }
 
-// What is printed of the bundle's events.
 fn played(alloc: Global, bytes: &[u8]) -> Result<Vec<u8>, Refusal> {
     let bundle = read_bundle(alloc, Kind::Play, bytes)?;
     checked_and_played(

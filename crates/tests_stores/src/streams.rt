@@ -1,4 +1,4 @@
-//! Bundles that are cut to a part while they are read: the part is that of the whole, whatever the reads give, and what is no bundle is refused.
+//! Bundles cut to a part while they are read: the part does not depend on the reads, and other inputs are refused.
 
 ghost use Rattle.std.specs.Prelude.{◌<◌, Some};
 ghost use Rattle.history_parts.specs.Choices.{IsChoice};
@@ -55,7 +55,7 @@ impl<'a> Read for Fails<'a> {
     }
 }
 
-// Gives the front, the turn so many times, and the end.
+// Gives the front, the turn several times, and the end.
 #[derive(Drop)]
 struct Turns<'a> {
     front: &'a [u8],
@@ -129,7 +129,6 @@ ack 2 = ok
 end
 ";
 
-// The bundle of a history.
 fn bundle(alloc: Global, history: &[u8]) -> Result<Vec<u8>, Fail> {
     let mut text = Vec::from_slice(alloc, RING)?;
     text.extend_from_slice(MOVE_STEPS)?;
@@ -138,7 +137,6 @@ fn bundle(alloc: Global, history: &[u8]) -> Result<Vec<u8>, Fail> {
     Ok(text)
 }
 
-// What cutting gives, by reads of at most so many bytes.
 fn cut(alloc: Global, choice: Choice, bytes: &[u8], step: usize) -> Result<Part, NoPart>
     requires step { 0 < step }
     requires choice { IsChoice choice }
@@ -147,7 +145,6 @@ fn cut(alloc: Global, choice: Choice, bytes: &[u8], step: usize) -> Result<Part,
     cut_stream(alloc, choice, 0, &mut input)
 }
 
-// The refusal of the bytes.
 fn refused<RT: AllocGlobal + Abort>(rt: &RT, bytes: &[u8], wanted: Refusal) -> Result<(), Fail> {
     for step in [100usize, 65_536] {
         match cut(rt.alloc(), Choice::Share { of: 4, part: 0 }, bytes, step) {
@@ -158,7 +155,6 @@ fn refused<RT: AllocGlobal + Abort>(rt: &RT, bytes: &[u8], wanted: Refusal) -> R
     Ok(())
 }
 
-// The text of a part, or none.
 fn text_of<RT: AllocGlobal + Abort>(rt: &RT, found: Result<Part, NoPart>) -> Result<Vec<u8>, Fail> {
     match found {
         Ok(part) => Ok(part.text),
@@ -166,7 +162,7 @@ fn text_of<RT: AllocGlobal + Abort>(rt: &RT, found: Result<Part, NoPart>) -> Res
     }
 }
 
-// The bundle of the part that is cut of the whole history in memory.
+// The part cut from the whole history in memory.
 fn wanted<RT: AllocGlobal + Abort>(rt: &RT, choice: Choice, bytes: &[u8]) -> Result<Vec<u8>, Fail>
     requires { IsChoice choice }
 {
@@ -222,7 +218,6 @@ fn a_part_is_that_of_the_whole(rt: HostRuntime) -> Result<(), Fail> {
     Ok(())
 }
 
-// Entries of partition 0's part, by their places in the whole.
 #[test]
 fn entries_are_mapped_back(rt: HostRuntime) -> Result<(), Fail> {
     let whole = bundle(rt.alloc(), HISTORY)?;
@@ -251,7 +246,7 @@ fn entries_are_mapped_back(rt: HostRuntime) -> Result<(), Fail> {
     Ok(())
 }
 
-// 1,000,001 entries are no part, and one fewer are.
+// 1,000,001 entries are too many, one fewer are not.
 #[test]
 fn a_part_has_a_million_entries_at_most(rt: HostRuntime) -> Result<(), Fail> {
     let front = bundle(rt.alloc(), b"history 1\n")?;

@@ -1,4 +1,4 @@
-//! Stores that run plans: what each is asked in turn, and how it stands between.
+//! Stores that run plans: their replies, and their state between.
 
 use crate::answering::{LOSS, MOVE, SPLIT_MOVE, STAND_IN, Texts, answered, approved};
 use plan_check::Approved;
@@ -12,7 +12,6 @@ const SLOT: Slot = Slot {
     index: 1,
 };
 
-// A store that runs a plan.
 #[derive(Drop)]
 struct Scene<'a, RT> {
     rt: &'a RT,
@@ -20,7 +19,6 @@ struct Scene<'a, RT> {
     world: World<'a>,
 }
 
-// Which of the stories below is told.
 #[derive(Clone, Copy)]
 enum Story {
     StaleTickets,
@@ -30,7 +28,6 @@ enum Story {
     BrokenOff,
 }
 
-// The story of a store at its start.
 fn told_from_start<RT: AllocGlobal + Abort>(
     rt: &RT,
     story: Story,
@@ -45,7 +42,6 @@ fn told_from_start<RT: AllocGlobal + Abort>(
     scene.tell(story)
 }
 
-// The story is told of the plan of these texts.
 fn told<RT: AllocGlobal + Abort>(rt: &RT, story: Story, texts: &Texts) -> Result<(), Fail> {
     let approved = approved(rt.alloc(), texts)?;
     told_from_start(rt, story, &approved)
@@ -87,7 +83,6 @@ impl<'a, RT: AllocGlobal + Abort> Scene<'a, RT> {
         }
     }
 
-    // The events are answered by these lines.
     fn answers(&mut self, events: &str, lines: &str) -> Result<(), Fail> {
         answered(self.rt, self.approved, &mut self.world, events, lines)
     }
@@ -114,20 +109,19 @@ impl<'a, RT: AllocGlobal + Abort> Scene<'a, RT> {
         assert_eq!(self.rt; open.as_slice(), counts.as_slice());
     }
 
-    // The steps that are left, and the first that can begin from step 0 on.
+    // The steps that are left, and the first that can begin.
     fn steps(&self, left: u32, next: Option<u32>) {
         assert_eq!(self.rt; self.world.left(), left);
         assert_eq!(self.rt; self.world.ready(0), next);
     }
 
-    // The first partition's owners.
     fn owners(&self, row: &[NodeId]) -> Result<(), Fail> {
         let table = self.world.table()?;
         are_owners(self.rt, table.as_slice(), row);
         Ok(())
     }
 
-    // A ticket that was given before the loss of a store is refused, and a second loss is.
+    // A ticket from before a loss is refused, and so is a second loss.
     fn tickets_stale(&mut self) -> Result<(), Fail> {
         self.answers(
             "put w1 a x31\nwrite 0 0\nwrite 0 1\nlose b\nwrite 0 2\nack 0\nwrite 0 1\nack 0\nlose d\nlose a\n",
@@ -135,7 +129,7 @@ impl<'a, RT: AllocGlobal + Abort> Scene<'a, RT> {
         )
     }
 
-    // A put is acknowledged, a store is lost, and a get finds the put.
+    // A put is acknowledged, a node loses its data, and a get finds the put.
     fn loss_survived(&mut self) -> Result<(), Fail> {
         self.answers(
             "put w1 a x31\nwrite 0 0\nwrite 0 1\nwrite 0 2\nack 0\nlose b\n",
@@ -148,7 +142,7 @@ impl<'a, RT: AllocGlobal + Abort> Scene<'a, RT> {
         )
     }
 
-    // A put that its slot's owner misses is kept by a stand-in.
+    // A stand-in keeps a put that its slot's owner misses.
     fn hint_kept(&mut self) -> Result<(), Fail> {
         self.answers(
             "put w1 a x31\ndown b\nwrite 0 1\nhint 0 1 d\nhint 0 2 d\nhandoff d 0 1\n",
@@ -160,7 +154,7 @@ impl<'a, RT: AllocGlobal + Abort> Scene<'a, RT> {
         Ok(())
     }
 
-    // It is handed over.
+    // The hint is handed over.
     fn hints_taken(&mut self) -> Result<(), Fail> {
         self.hint_kept()?;
         self.answers(
@@ -172,14 +166,13 @@ impl<'a, RT: AllocGlobal + Abort> Scene<'a, RT> {
         Ok(())
     }
 
-    // The copy from b to d is open.
     fn copy_open(&self) {
         self.transfers(3, [1, 1, 0]);
         self.transfers(1, [1, 0, 1]);
         self.transfers(0, [0, 0, 0]);
     }
 
-    // A copy is opened, broken off and opened again; which chunks were given stays.
+    // A copy is opened, aborted and opened again; its chunks stay marked.
     fn broken_off(&mut self) -> Result<(), Fail> {
         self.answers(
             "do 0\ndo 1\nopen 2\nchunk 2 0\nchunk 2 1\nchunk 2 2\nchunk 2 3\nchunk 2 4\nchunk 2 5\nchunk 2 6\n",
@@ -194,7 +187,7 @@ impl<'a, RT: AllocGlobal + Abort> Scene<'a, RT> {
         Ok(())
     }
 
-    // The rest of the chunks, and the end of the copy.
+    // The other chunks, and the end of the copy.
     fn copied(&mut self) -> Result<(), Fail> {
         self.answers(
             "chunk 2 6\nclose 2\nchunk 2 7\nchunk 2 8\nchunk 2 9\nchunk 2 10\nchunk 2 11\nchunk 2 12\nchunk 2 13\nchunk 2 14\nchunk 2 15\n",
@@ -216,7 +209,7 @@ impl<'a, RT: AllocGlobal + Abort> Scene<'a, RT> {
         self.owners(&[NodeId(0), NodeId(3), NodeId(2)])
     }
 
-    // A put at b alone goes with the slot.
+    // A put only at b goes with the slot.
     fn run_moved(&mut self) -> Result<(), Fail> {
         self.answers(
             "put w1 a x31\nwrite 0 1\ndo 1\n",
@@ -230,18 +223,15 @@ impl<'a, RT: AllocGlobal + Abort> Scene<'a, RT> {
     }
 }
 
-// The first partition's owners, of four.
 fn are_owners<RT: Abort>(rt: &RT, table: &[Listed<NodeId>], row: &[NodeId]) {
     assert_eq!(rt; table.len(), 4);
     assert_eq!(rt; table[0].as_slice(), row);
 }
 
-// The owner is the ring's.
 fn is_first_owner<RT: Abort>(rt: &RT, owner: NodeId) {
     assert_eq!(rt; owner, NodeId(1));
 }
 
-// The owner of a slot of a store at its start is the ring's.
 fn owner_at_the_start<RT: AllocGlobal + Abort>(rt: &RT, approved: &Approved) -> Result<(), Fail> {
     assert!(rt; approved.ring().q() == 4);
     assert!(rt; approved.ring().n() == 3);

@@ -1,4 +1,4 @@
-//! A put and a get by themselves.
+//! Single puts and gets.
 
 ghost use Rattle.std.specs.Prelude.{◌≡◌, ◌<◌};
 
@@ -13,10 +13,9 @@ use std::marker::Brand;
 use std::sync::Wait;
 use std::sync::ledger::Blank;
 
-// How many events of an attempt were answered, whether the last answer is the one that is expected, and the refusal that the attempt ended with.
+// The number of receipts, whether the last reply is as expected, and the final refusal.
 type Came = (usize, bool, Option<Refusal>);
 
-// What came of it, where a history writes the last answer so.
 fn came(alloc: Global, attempt: Attempt, last: &[u8]) -> Result<Came, Refusal> {
     let mut text = Vec::new(alloc);
     if let Some(receipt) = attempt.receipts.last() {
@@ -36,7 +35,6 @@ fn a_key(alloc: Global) -> Result<Key, Refusal> {
     }
 }
 
-// A put of the key, and then a get.
 fn put_and_get<'a, L: RunLedger, R: AllocGlobal + Wait>(
     rt: &R,
     executor: &Executor<'a, L>,
@@ -55,7 +53,6 @@ fn put_and_get<'a, L: RunLedger, R: AllocGlobal + Wait>(
     Ok((came(alloc, put, b"ok")?, came(alloc, get, b"reply 0")?))
 }
 
-// A put of the key, and then a get, after these nodes went down.
 fn put_and_get_without<'a, L: RunLedger, R: AllocGlobal + Wait>(
     rt: &R,
     executor: &Executor<'a, L>,
@@ -68,7 +65,7 @@ fn put_and_get_without<'a, L: RunLedger, R: AllocGlobal + Wait>(
     put_and_get(rt, executor, share)
 }
 
-// A put of the key, and then a get, at a store of its own of which these nodes went down.
+// Puts and gets the key at a new store in which these nodes are down.
 fn without<L: RunLedger, R: AllocGlobal + Wait>(
     rt: &R,
     blank: Blank,

@@ -1,4 +1,4 @@
-//! What drives come to.
+//! The results of drives.
 
 ghost use Rattle.std.specs.Prelude.{◌≡◌, ◌<◌, ◌≤◌, true};
 ghost use Rattle.std.specs.List.{list_all};
@@ -17,11 +17,10 @@ use std::slice;
 use std::sync::Wait;
 use std::thread::Threads;
 
-// The most puts and gets of a history that a store is asked about.
+// The most puts and gets of a history to replay.
 const MOST: u32 = 1000;
 
-/// What came of a drive: how many entries its history has, how many lists of receipts there are, whether the judge says that they are its threads', and
-/// whether a store answers each entry's event as the entry says.
+/// The history's length, the lists of receipts, whether the judge accepts them, and whether a store gives the same replies.
 #[derive(Clone, Copy, Debug, PartialEq, Eq)]
 pub struct Came {
     pub entries: usize,
@@ -30,7 +29,7 @@ pub struct Came {
     pub replays: bool,
 }
 
-/// What a drive that ends well came to.
+/// The result of a successful drive.
 pub const fn well(entries: usize, lists: usize) -> Came {
     Came {
         entries,
@@ -40,7 +39,6 @@ pub const fn well(entries: usize, lists: usize) -> Came {
     }
 }
 
-// Whether the store answers the entry's event with its reply.
 #[tactic(auto, using(ring_core::proofs::SoundAfterEvent::has_number))]
 fn is_answered(alloc: Global, world: &mut World, entry: &Entry) -> Result<bool, Refusal> {
     if world.puts() >= MOST || world.gets() >= MOST {
@@ -54,7 +52,6 @@ fn is_answered(alloc: Global, world: &mut World, entry: &Entry) -> Result<bool, 
     Ok(given.as_slice() == noted.as_slice())
 }
 
-// Whether it answers all of them so, one behind the other.
 fn are_answered(alloc: Global, world: &mut World, history: &[Entry]) -> Result<bool, Refusal> {
     for entry in history {
         if !is_answered(alloc, world, entry)? {
@@ -64,13 +61,11 @@ fn are_answered(alloc: Global, world: &mut World, history: &[Entry]) -> Result<b
     Ok(true)
 }
 
-// Whether the plan from its start answers the history so.
 fn replays(alloc: Global, approved: &Approved, history: &[Entry]) -> Result<bool, Refusal> {
     let mut world = World::start(alloc, approved)?;
     are_answered(alloc, &mut world, history)
 }
 
-/// What the outcome of a drive is.
 pub fn told(
     alloc: Global,
     approved: &Approved,
@@ -88,7 +83,7 @@ pub fn told(
     })
 }
 
-/// A drive of the plan with a client for each script; its refusal, where it breaks off.
+/// Drives the plan with a client for each script.
 pub fn drive_all<RT: AllocGlobal + Threads + Wait + Sync, G: Gate + Sync>(
     rt: &RT,
     approved: &Approved,
@@ -105,7 +100,7 @@ pub fn drive_all<RT: AllocGlobal + Threads + Wait + Sync, G: Gate + Sync>(
     }
 }
 
-/// A drive of the plan with one client; its refusal, where it breaks off.
+/// Drives the plan with one client.
 pub fn drive_one<RT: AllocGlobal + Threads + Wait + Sync, G: Gate + Sync>(
     rt: &RT,
     approved: &Approved,
@@ -119,7 +114,7 @@ pub fn drive_one<RT: AllocGlobal + Threads + Wait + Sync, G: Gate + Sync>(
     drive_all(rt, approved, slice::from_ref(script), workers, gate)
 }
 
-/// How long the history is with which a drive breaks off, and why it does; nothing where it does not.
+/// The length of the history and the refusal of a drive that breaks off.
 pub fn broken_one<RT: AllocGlobal + Threads + Wait + Sync, G: Gate + Sync>(
     rt: &RT,
     approved: &Approved,

@@ -19,7 +19,6 @@ use std::sync::Wait;
 use std::test::Fail;
 use std::thread::Threads;
 
-// A ring, a plan of it, its certificate and a script.
 #[derive(Clone, Copy)]
 struct Texts<'t> {
     ring: &'t [u8],
@@ -28,7 +27,6 @@ struct Texts<'t> {
     script: &'t [u8],
 }
 
-// A drive of these texts.
 fn drive_texts<RT: AllocGlobal + Threads + Wait + Sync, G: Gate + Sync>(
     rt: &RT,
     texts: Texts,
@@ -43,7 +41,6 @@ fn drive_texts<RT: AllocGlobal + Threads + Wait + Sync, G: Gate + Sync>(
     drive_one(rt, &approved, &script, workers, gate)
 }
 
-// A drive of these texts that breaks off.
 fn broken_texts<RT: AllocGlobal + Threads + Wait + Sync, G: Gate + Sync>(
     rt: &RT,
     texts: Texts,
@@ -58,7 +55,6 @@ fn broken_texts<RT: AllocGlobal + Threads + Wait + Sync, G: Gate + Sync>(
     Ok(broken_one(rt, &approved, &script, workers, gate))
 }
 
-// Two copies with a script beside them.
 const fn copies(script: &[u8]) -> Texts {
     Texts {
         ring: RING,
@@ -68,7 +64,7 @@ const fn copies(script: &[u8]) -> Texts {
     }
 }
 
-// A script over a ring of four members, or three, with no step.
+// A script over a ring, with no step.
 const fn still<'t>(ring: &'t [u8], script: &'t [u8]) -> Texts<'t> {
     Texts {
         ring,
@@ -125,7 +121,7 @@ fn a_put_that_a_stand_in_keeps(rt: HostRuntime) {
 
 #[test]
 fn nodes_that_stay_down(rt: HostRuntime) {
-    // Of 64 rounds each writes to the one slot whose node is up. The put that names the get without an end is left out.
+    // In 64 rounds each writes to the only slot whose node is up. The put that names the unfinished get is left out.
     let script = b"script 1\ndown b\ndown c\nput w1 a x31\nget a\nput w1 a x32 seen 0\nend\n";
     let came = drive_texts(&rt, still(RING, script), 1, &OpenGate);
     assert_eq!(rt; came, Ok(well(69, 3)));
@@ -133,7 +129,7 @@ fn nodes_that_stay_down(rt: HostRuntime) {
 
 #[test]
 fn nodes_that_are_all_down(rt: HostRuntime) {
-    // The put and the get are started, and nothing else of them is answered.
+    // Put and get are started, without further replies.
     let script = b"script 1\ndown a\ndown b\ndown c\nput w1 a x31\nget a\nend\n";
     let came = drive_texts(&rt, still(RING, script), 1, &OpenGate);
     assert_eq!(rt; came, Ok(well(5, 3)));
@@ -141,7 +137,7 @@ fn nodes_that_are_all_down(rt: HostRuntime) {
 
 #[test]
 fn a_stand_in_that_is_down(rt: HostRuntime) {
-    // The hint is left with e. It stays there, since b is down.
+    // The hint is left with e and stays there, since b is down.
     let script = b"script 1\ndown b\ndown d\nput w1 a x31\nend\n";
     let came = drive_texts(&rt, still(FIVE, script), 1, &OpenGate);
     assert_eq!(rt; came, Ok(well(7, 3)));
@@ -161,7 +157,7 @@ fn a_gate_that_shuts_before_a_line(rt: HostRuntime) {
 
 #[test]
 fn a_gate_that_shuts_at_a_copy(rt: HostRuntime) {
-    // The copy that the worker shows is the last that was opened.
+    // The worker shows the last copy that was opened.
     for (mark, entries) in [(2, 3), (5, 23)] {
         let gate = ShutAt { worker: 0, mark };
         let came = broken_texts(&rt, copies(SILENCE), 1, &gate);
@@ -178,7 +174,7 @@ fn a_gate_that_shuts_at_other_steps(rt: HostRuntime) {
     }
 }
 
-// A node that goes down and comes up, as often as a script may say.
+// A node goes down and up as often as a script allows.
 fn flaps(alloc: Global) -> Result<Script, Refusal>
     ensures { IfOk result (λ s. list_all is_client_event s ≡ true) }
 {
@@ -199,7 +195,6 @@ fn flaps(alloc: Global) -> Result<Script, Refusal>
     Err(Refusal::Disagree)
 }
 
-// What a drive of the one step comes to beside that script.
 fn flapped<RT: AllocGlobal + Threads + Wait + Sync>(
     rt: &RT,
 ) -> Result<Option<(usize, Refusal)>, Refusal> {

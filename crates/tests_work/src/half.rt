@@ -1,4 +1,4 @@
-//! Drives of eight clients beside a plan that moves half of a ring's slots.
+//! Drives of eight clients during a plan that moves half of a ring's slots.
 
 ghost use Rattle.std.specs.Prelude.{◌<◌, ◌≤◌};
 ghost use Rattle.drive_text.specs.Drives.{IsDrive};
@@ -11,8 +11,8 @@ use std::process::Abort;
 use std::sync::Wait;
 use std::thread::Threads;
 
-// Eight partitions, of which each moves one slot or two: all slots of a, b and c, which retire, go to g, h and i, which join. The eight scripts take
-// seven of the nine nodes down at some time, and up again.
+// Each of eight partitions moves one or two slots. All slots of a, b and c, which retire, go to g, h and i,
+// which join. The eight scripts take seven of the nine nodes down and up.
 const HALF: &[u8] =
     b"ring 1\nspace 8\nquorum 3 2 2\nnode a 4 in\nnode b 4 in\nnode c 4 in\nnode d 4 in\nnode e 4 in\nnode f 4 in\nnode g 4 out\nnode h 4 out\n\
     node i 4 out\nslots 0 a c e\nslots 1 b d f\nslots 2 c e a\nslots 3 d f b\nslots 4 e a c\nslots 5 f b d\nslots 6 a c e\nslots 7 b d f\nend\n\
@@ -33,7 +33,6 @@ const HALF: &[u8] =
     down g\nget kh\nput w5 kh x3b seen 0\nup g\nend\nscript 1\ndown b\nput w6 ka x3c\nup b\nget ka\ndown b\nget kd\nup b\nend\nscript 1\n\
     get ke\nput w7 ke x3d seen 0\ndown h\nput w7 kc x3e\nup h\nget kc\nend\n";
 
-// The drive of a bundle's plan, with a client for each of its scripts.
 fn drive_parts<RT: AllocGlobal + Threads + Wait + Sync>(
     rt: &RT,
     bundle: DriveBundle,
@@ -48,7 +47,6 @@ fn drive_parts<RT: AllocGlobal + Threads + Wait + Sync>(
     }
 }
 
-// The drive of a bundle's text.
 fn drive_text<RT: AllocGlobal + Threads + Wait + Sync>(
     rt: &RT,
     text: &[u8],
@@ -60,7 +58,7 @@ fn drive_text<RT: AllocGlobal + Threads + Wait + Sync>(
     drive_parts(rt, bundle, workers)
 }
 
-// The drive is as its threads tell, and as a store answers. Its steps alone are 258 events.
+// The drive agrees with its threads and a store. Its steps are 258 events.
 fn is_sound<RT: AllocGlobal + Threads + Wait + Sync + Abort>(rt: &RT, workers: u32)
     requires { (0 < workers) × (workers ≤ 64) }
 {

@@ -12,7 +12,7 @@ use ring_table::{Ring, read_ring};
 use script_text::{Script, read_script};
 use std::alloc::Global;
 
-/// Four partitions of three slots; d is no member.
+/// Four partitions of three slots; d is not a member.
 pub const RING: &[u8] =
     b"ring 1\nspace 4\nquorum 3 2 2\nnode a 4 in\nnode b 4 in\nnode c 4 in\nnode d 4 out\nslots 0 a b c\nslots 1 a b c\nslots 2 a b c\nslots 3 a b c\nend\n";
 
@@ -20,38 +20,32 @@ pub const RING: &[u8] =
 pub const FOUR: &[u8] =
     b"ring 1\nspace 4\nquorum 3 2 2\nnode a 4 in\nnode b 4 in\nnode c 4 in\nnode d 4 in\nslots 0 a b c\nslots 1 a b c\nslots 2 a b c\nslots 3 a b c\nend\n";
 
-/// With another member, e.
+/// The same with another member, e.
 pub const FIVE: &[u8] =
     b"ring 1\nspace 4\nquorum 3 2 2\nnode a 4 in\nnode b 4 in\nnode c 4 in\nnode d 4 in\nnode e 4 in\nslots 0 a b c\nslots 1 a b c\nslots 2 a b c\n\
     slots 3 a b c\nend\n";
 
-/// Two copies, of which none waits for the other.
+/// Two independent copies.
 pub const TWO_COPIES: &[u8] =
     b"plan 1\njoin d\nmirror 0 1 d after 0\ncopy 0 1 owner after 1\nswitch 0 1 after 2\nmirror 1 1 d after 0\ncopy 1 1 owner after 4\nswitch 1 1 after 5\nend\n";
 
-/// Its certificate.
 pub const TWO_CHAINS: &[u8] = b"cert 1\nchain b 2\nchain b 5\nchain d 2\nchain d 5\nend\n";
 
 /// A slot that moves from b to d, which joins.
 pub const MOVE: &[u8] =
     b"plan 1\njoin d\nmirror 0 1 d after 0\ncopy 0 1 owner after 1\nswitch 0 1 after 2\ndrop 0 1 b after 3\nend\n";
 
-/// Its certificate.
 pub const MOVE_CHAINS: &[u8] = b"cert 1\nchain b 2\nchain d 2\nend\n";
 
-/// One step.
 pub const JOIN: &[u8] = b"plan 1\njoin d\nend\n";
 
-/// No step.
 pub const NOTHING: &[u8] = b"plan 1\nend\n";
 
-/// A certificate of nothing.
 pub const NO_CHAINS: &[u8] = b"cert 1\nend\n";
 
-/// A script of no line.
+/// An empty script.
 pub const SILENCE: &[u8] = b"script 1\nend\n";
 
-/// The plan of the ring, where its certificate shows that it is sound.
 pub fn approved(alloc: Global, ring: Ring, plan: &[u8], cert: &[u8]) -> Result<Approved, Refusal> {
     let plan = read_plan(alloc, &ring, plan)?;
     let cert = read_cert(alloc, &ring, cert)?;
@@ -61,7 +55,6 @@ pub fn approved(alloc: Global, ring: Ring, plan: &[u8], cert: &[u8]) -> Result<A
     }
 }
 
-/// A client's script over the ring.
 pub fn script(alloc: Global, ring: &Ring, text: &[u8]) -> Result<Script, Refusal>
     ensures { IfOk result (λ s. list_all is_client_event s ≡ true) }
 {
@@ -73,7 +66,6 @@ pub fn script(alloc: Global, ring: &Ring, text: &[u8]) -> Result<Script, Refusal
     Err(Refusal::Disagree)
 }
 
-/// The ring of that text.
 pub fn ring(alloc: Global, text: &[u8]) -> Result<Ring, Refusal> {
     read_ring(alloc, text)
 }

@@ -1,4 +1,4 @@
-//! What the judge of receipts says of lists that are not a drive's.
+//! The judge refuses lists that are not a drive's.
 
 use crate::inputs::{JOIN, NO_CHAINS, RING, SILENCE, approved, ring, script};
 use plan_check::Approved;
@@ -10,15 +10,13 @@ use script_text::Script;
 use std::alloc::{AllocError, Global};
 use std::slice;
 
-// The place in the history of the first step, the event and the reply of a receipt.
+// The index, event and reply of a receipt.
 type Given = (u32, Event, Reply);
 
-// The receipt of the first step.
 fn step() -> Option<Given> {
     Some((0, Event::Do(0), Reply::Plain))
 }
 
-// A list of that receipt, or of none.
 fn list_of(alloc: Global, given: Option<Given>) -> Result<Listed<Receipt>, AllocError> {
     let mut list = Vec::new(alloc);
     if let Some((index, event, reply)) = given {
@@ -31,7 +29,6 @@ fn list_of(alloc: Global, given: Option<Given>) -> Result<Listed<Receipt>, Alloc
     Ok(Listed::from_vec(list))
 }
 
-// The history of the first step.
 fn history(alloc: Global) -> Result<Vec<Entry>, AllocError> {
     let mut history = Vec::new(alloc);
     history.push(Entry {
@@ -41,7 +38,6 @@ fn history(alloc: Global) -> Result<Vec<Entry>, AllocError> {
     Ok(history)
 }
 
-// The lists of the worker, the client and the handoffs.
 fn lists(
     alloc: Global,
     work: Option<Given>,
@@ -55,7 +51,7 @@ fn lists(
     Ok(lists)
 }
 
-// A board of no step at its end, at which the judge does not look.
+// An empty closed board, which the judge ignores.
 fn board(alloc: Global) -> Result<ClosedBoard, Refusal> {
     let (board, seat) = Board::new(alloc, 0, 0)?;
     let mut seats = Vec::new(alloc);
@@ -63,7 +59,6 @@ fn board(alloc: Global) -> Result<ClosedBoard, Refusal> {
     board.end(seats)
 }
 
-// Whether the judge says yes to them, with that finisher.
 fn judged(
     alloc: Global,
     approved: &Approved,
@@ -82,7 +77,7 @@ fn judged(
     agrees(alloc, approved, slice::from_ref(script), 1, &outcome)
 }
 
-// Judges a run over the ring, by its plan of one step and a script of no line.
+// Judges a run of one step and an empty script.
 fn judge(
     alloc: Global,
     work: Option<Given>,

@@ -1,5 +1,5 @@
-//! Tests of drives: that threads overlap, what a gate that answers false or a full history makes of one, what goes on from such a history, that each event of a history is answered so
-//! by a store, and that the judge of receipts tells lists that are not a drive's. Nothing is exported.
+//! Tests drives: threads overlap, gates and full histories stop them, histories can be resumed and replayed, and the
+//! judge refuses other lists. Nothing is exported.
 #![tactic(auto)]
 
 #[cfg(test)]

@@ -1,4 +1,4 @@
-//! Drives that go on from a history.
+//! Drives resumed from a history.
 
 ghost use Rattle.std.specs.Prelude.{◌≡◌, true};
 ghost use Rattle.std.specs.List.{list_all};
@@ -18,11 +18,9 @@ use std::sync::Wait;
 use std::test::Fail;
 use std::thread::Threads;
 
-// What a resume comes to: what its outcome is, and how many steps were finished before it, where these are the first ones; else its refusal and the
-// length of its history.
+// The result of a resume, and how many steps were finished before, if the first ones; or the refusal and the history's length.
 type Ended = Result<(Came, Option<usize>), (Refusal, usize)>;
 
-// Entries of these events, each answered that it is done.
 fn done(alloc: Global, events: &[Event]) -> Result<Vec<Entry>, AllocError> {
     let mut entries = Vec::new(alloc);
     for event in events {
@@ -34,7 +32,7 @@ fn done(alloc: Global, events: &[Event]) -> Result<Vec<Entry>, AllocError> {
     Ok(entries)
 }
 
-// A history that broke off in the copy, behind its first chunk.
+// A history that broke off in the copy, after its first chunk.
 fn broken(alloc: Global) -> Result<Vec<Entry>, AllocError> {
     let events = [
         Event::Do(0),
@@ -45,7 +43,7 @@ fn broken(alloc: Global) -> Result<Vec<Entry>, AllocError> {
     done(alloc, events.as_slice())
 }
 
-// A history that broke off behind the copy.
+// A history that broke off after the copy.
 fn copied(alloc: Global) -> Result<Vec<Entry>, AllocError> {
     let events = [Event::Do(0), Event::Do(1), Event::OpenCopy(2)];
     let mut entries = done(alloc, events.as_slice())?;
@@ -62,7 +60,7 @@ fn copied(alloc: Global) -> Result<Vec<Entry>, AllocError> {
     Ok(entries)
 }
 
-// How many steps were finished before a resume by one worker, where these are the first ones and the worker finished the others.
+// How many steps were finished before a resume by one worker, if these are the first ones and the worker finished the others.
 fn finished_before(finishers: &[u32]) -> Option<usize> {
     let mut before = 0usize;
     for (step, finisher) in finishers.iter().enumerate() {
@@ -75,7 +73,6 @@ fn finished_before(finishers: &[u32]) -> Option<usize> {
     Some(before)
 }
 
-// What the resume of the plan from these entries comes to.
 fn resumed<RT: AllocGlobal + Threads + Wait + Sync, G: Gate + Sync>(
     rt: &RT,
     approved: &Approved,
@@ -95,7 +92,6 @@ fn resumed<RT: AllocGlobal + Threads + Wait + Sync, G: Gate + Sync>(
     }
 }
 
-// A resume of the plan that moves a slot.
 fn resumed_from<RT: AllocGlobal + Threads + Wait + Sync, G: Gate + Sync>(
     rt: &RT,
     entries: &[Entry],
@@ -107,7 +103,7 @@ fn resumed_from<RT: AllocGlobal + Threads + Wait + Sync, G: Gate + Sync>(
     resumed(rt, &approved, &script, entries, gate)
 }
 
-// The fault of a drive whose worker may not pass; none where it ends.
+// The fault of a drive whose gate is shut.
 fn stopped<RT: AllocGlobal + Threads + Wait + Sync>(
     rt: &RT,
     approved: &Approved,
@@ -121,7 +117,7 @@ fn stopped<RT: AllocGlobal + Threads + Wait + Sync>(
     }
 }
 
-// Why the drive broke off, and what its resume comes to.
+// Why the drive broke off, and the result of its resume.
 fn stopped_and_resumed<RT: AllocGlobal + Threads + Wait + Sync>(
     rt: &RT,
 ) -> Result<(Refusal, Ended), Refusal> {
@@ -137,7 +133,7 @@ fn stopped_and_resumed<RT: AllocGlobal + Threads + Wait + Sync>(
 
 #[test]
 fn a_copy_that_broke_off_is_done_again(rt: HostRuntime) -> Result<(), Fail> {
-    // The four entries, the abort, the copy with its fifteen other chunks, and the two steps behind it.
+    // The four entries, the abort, the copy with its fifteen other chunks, and the two last steps.
     let entries = broken(rt.alloc())?;
     let ended = resumed_from(&rt, entries.as_slice(), &OpenGate);
     assert_eq!(rt; ended, Ok(Ok((well(24, 4), Some(2)))));
@@ -146,7 +142,7 @@ fn a_copy_that_broke_off_is_done_again(rt: HostRuntime) -> Result<(), Fail> {
 
 #[test]
 fn a_copy_that_was_closed_stays_done(rt: HostRuntime) -> Result<(), Fail> {
-    // The twenty entries and the two steps behind the copy, which is not broken off.
+    // The twenty entries and the two last steps; the copy is not aborted.
     let entries = copied(rt.alloc())?;
     let ended = resumed_from(&rt, entries.as_slice(), &OpenGate);
     assert_eq!(rt; ended, Ok(Ok((well(22, 4), Some(3)))));
@@ -155,7 +151,7 @@ fn a_copy_that_was_closed_stays_done(rt: HostRuntime) -> Result<(), Fail> {
 
 #[test]
 fn a_resume_that_breaks_off(rt: HostRuntime) -> Result<(), Fail> {
-    // The four entries, the abort, and the copy that is opened once more, at which the gate is shut.
+    // The four entries, the abort, and the copy opened again, at which the gate is shut.
     let entries = broken(rt.alloc())?;
     let ended = resumed_from(&rt, entries.as_slice(), &Shut);
     assert_eq!(rt; ended, Ok(Err((Refusal::TurnsSpent, 6))));

@@ -5,7 +5,7 @@ use std::sync::atomic::{AtomicBool, Ordering};
 use std::sync::{Mutex, Wait};
 use std::thread;
 
-/// Holds each that comes until so many have come, for at most a million looks, each under a lock.
+/// Holds threads until enough have come, for at most a million looks, each under a lock.
 #[derive(Drop)]
 pub struct Turnstile {
     come: Mutex<u32>,
@@ -20,13 +20,11 @@ impl Turnstile {
         }
     }
 
-    // One more has come.
     fn count<R: Wait>(&self, rt: &R) {
         let mut come = self.come.lock(rt);
         *come = come.saturating_add(1);
     }
 
-    // Whether as many have come as it waits for.
     fn is_met<R: Wait>(&self, rt: &R) -> bool {
         *self.come.lock(rt) >= self.awaited
     }
@@ -49,7 +47,7 @@ impl Gate for Turnstile {
     }
 }
 
-/// Holds a worker until a client has come to that line, for at most a million looks.
+/// Holds a worker until a client has come to this line, for at most a million looks.
 #[derive(Drop)]
 pub struct Behind {
     come: AtomicBool,
@@ -64,14 +62,12 @@ impl Behind {
         }
     }
 
-    // Notes that a client has come to this line.
     fn note(&self, line: u64) {
         if line >= self.line {
             self.come.store(true, Ordering::SeqCst);
         }
     }
 
-    // Whether a client came to the line while it was looked for.
     fn is_met(&self) -> bool {
         for _ in 0..1_000_000 {
             if self.come.load(Ordering::SeqCst) {
@@ -97,7 +93,7 @@ impl Gate for Behind {
     }
 }
 
-/// Shut for one worker at one mark alone.
+/// Shut only for one worker at one mark.
 #[derive(Clone, Copy, Debug)]
 pub struct ShutAt {
     pub worker: u32,
@@ -116,7 +112,7 @@ impl Gate for ShutAt {
     }
 }
 
-/// Lets nobody pass.
+/// Lets no one pass.
 #[derive(Clone, Copy, Debug)]
 pub struct Shut;
 

@@ -15,15 +15,14 @@ use std::slice;
 use std::sync::Wait;
 use std::thread::Threads;
 
-// The last step makes d the mirror of a slot of partition 0, which it may not be while it keeps a hint for another slot there.
+// The last step mirrors a slot of partition 0 to d, which it may not while d keeps a hint for another slot there.
 const PLAN: &[u8] = b"plan 1\nmirror 1 0 d\ncopy 1 0 owner after 0\nmirror 0 2 d after 1\nend\n";
 
 const CHAINS: &[u8] = b"cert 1\nchain a 1\nchain d 1\nend\n";
 
-// The key is one of partition 0, so that d keeps a hint for b.
+// The key is in partition 0, so that d keeps a hint for b.
 const SCRIPT: &[u8] = b"script 1\ndown b\nput w1 a x31\nup b\nend\n";
 
-// Whether a hint was handed off before the step was done.
 fn is_behind_handoff(history: &[Entry], step: u32) -> bool {
     let mut handed = false;
     for entry in history {
@@ -40,7 +39,7 @@ fn is_behind_handoff(history: &[Entry], step: u32) -> bool {
     false
 }
 
-// Whether the drive's last step stands behind the handoff. Its worker goes on from the copy once the client's put has ended.
+// Whether the last step comes after the handoff. The worker goes on from the copy once the client's put has ended.
 fn drive_behind<RT: AllocGlobal + Threads + Wait + Sync>(
     rt: &RT,
     approved: &Approved,
@@ -61,7 +60,6 @@ fn drive_behind<RT: AllocGlobal + Threads + Wait + Sync>(
     }
 }
 
-// Whether the last step of a drive of the texts is done after the handoff.
 fn waits<RT: AllocGlobal + Threads + Wait + Sync>(rt: &RT) -> Result<bool, Refusal> {
     let ring = ring(rt.alloc(), FOUR)?;
     let script = script(rt.alloc(), &ring, SCRIPT)?;

@@ -35,7 +35,7 @@ steps_at chains k = elim (slice_get chains k) [ Some c ↦ c.steps | None ↦ []
 abbrev pub side_at : List Chain → ℕ → Side
 side_at chains k = elim (slice_get chains k) [ Some c ↦ c.side | None ↦ Both ]
 
--- the steps of those of these chains that are of the side
+-- the steps of these chains, if they are on the side
 abbrev pub chains_at : List Chain → Side → List ℕ → List (List ℕ)
 chains_at chains side [] = []
 chains_at chains side (k ∷ ks) =
@@ -52,7 +52,7 @@ chain_guard ring x copies O chains k = (
 abbrev pub copy_guard : List (List ℕ) → NodeId → ℕ → Guard
 copy_guard chains x n = (in_some n chains, CoverMissing x.0 n)
 
--- the copies of that side of the node are in its chains of that side
+-- the node's copies on that side are in its chains on that side
 abbrev pub side_guards : Lists NodeSide ℕ → List Chain → List ℕ → NodeId → Side → List Guard
 side_guards copies chains numbers x side = map (copy_guard (chains_at chains side numbers) x) (sides_kept copies x side)
 

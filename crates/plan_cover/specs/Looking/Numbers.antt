@@ -63,11 +63,11 @@ is_last n xs = elim (slice_get xs (length xs - 1)) [ Some m ↦ m == n | None �
 abbrev pub with_last : ℕ → List ℕ → List ℕ
 with_last n xs = if is_last n xs then xs else xs ++ n ∷ []
 
--- the same where it is asked for
+-- the same if it is asked for
 abbrev pub with_last_if : Bool → ℕ → List ℕ → List ℕ
 with_last_if b n xs = if b then with_last n xs else xs
 
--- the copies of each side of a node, and the chains of each node
+-- the copies on each side of a node, and each node's chains
 pub record IsCover (ring : RingValue) (plan : List Planned) (cert : Cert) (a : Cover) : Type 0 where
   pub copies : (y : NodeSide) → copies_kept a.copies y ≡ copies_of ring plan y
   pub chains : (x : NodeId) → kept_of a.chains x ≡ chain_numbers cert.chains x

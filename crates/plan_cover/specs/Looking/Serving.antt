@@ -20,7 +20,7 @@ use Rattle.plan_cover.specs.declared.present.Present.{Present}
 abbrev pub serving_of : Stage → Serving
 serving_of a = record { owner = a.owner; mirror = a.mirror }
 
--- where a slot is kept
+-- the place in which a slot is kept
 abbrev pub place_of : Slot → ℕ
 place_of s = 7 * s.partition + s.index
 

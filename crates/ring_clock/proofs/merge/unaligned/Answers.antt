@@ -34,7 +34,7 @@ entries-preserved-else-other-entry c =
       decide = (λ h. c.entries.invariant.decide.0 (law.0 h), λ h. law.1 (c.entries.invariant.decide.1 h));
     }
 
--- the second list alone has the writer in front of it
+-- only the second list has the writer in front of it
 pub entries-preserved : goal.entries-preserved
 entries-preserved c =
     let law = pass entries c.in-Some.entry.now c.in-Some-split_first.other.now c.in-Some.later.now c.in-Some-split_first.later_others.now c.entries.rest.now c.entries.others.now (c.in-Some.ensures).cases.0 (c.in-Some-split_first.ensures).cases.0 (grind (arith, c.if-entry-other.false, c.if-entry-other-2.false)) c.entries.invariant.first c.entries.invariant.second in

@@ -5,7 +5,7 @@ use Rattle.ring_versions.specs.Versions.{IsIn}
 use Rattle.ring_versions.specs.declared.version.Version.{Version}
 use Rattle.ring_versions.proofs.whole.are_beyond.Given as goal
 
--- it is so of all if it is so of those left
+-- it is so of all if it is so of the rest
 abbrev pub invariant-chunks : goal.invariant-chunks
 invariant-chunks l =
     ((v : Version) → IsIn v (all_of l.rest) → IsAtMost v.clock l.clock → ⊥) → (v : Version) → IsIn v (all_of l.chunks) → IsAtMost v.clock l.clock → ⊥

@@ -1,4 +1,4 @@
--- A first fault is told as it is, and is no limit of turns.
+-- A first fault is told as it is, and is not a limit of turns.
 use Rattle.std.proofs.Common.{◌≡◌, ◌≢◌, ℕ, arith}
 use Rattle.ring_names.specs.declared.refusal.Refusal.{Refusal}
 use Rattle.ring_names.specs.declared.refusal.Refusal.TheVariants.{HistoryFull, OutOfMemory, TurnsSpent, Mismatch}

@@ -1,4 +1,4 @@
--- What the last state of the table says of the words and of the seats.
+-- What the table's last state says about words and seats.
 use Rattle.std.proofs.Common.{◌≡◌, ◌≤◌, ap, ◌∙◌, arith}
 use Rattle.std.specs.Slots.{slots_items}
 use Rattle.ring_board.specs.Seats.{BoardView}
