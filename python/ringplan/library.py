@@ -9,7 +9,7 @@ Each is a call of the C library in this process, where it is there: the file tha
 RINGPLAN_LIBRARY names, else what the tree has built or `make install` has installed. Else, and
 where an option names a file, the program `ringplan` runs. Both give the same bytes. Calls may run
 in any number of threads: ctypes lets go of the interpreter's lock while one runs. A refusal is an
-`Answer` too; `Answer.demand` makes an exception of it.
+`Answer` too; `Answer.demand` makes an exception of it. A `Watch` judges a history while it grows.
 """
 
 from __future__ import annotations
@@ -19,7 +19,10 @@ import enum
 import functools
 import os
 import pathlib
+import threading
+import weakref
 from collections.abc import Sequence
+from types import TracebackType
 from typing import NamedTuple
 
 from ringplan import programs
@@ -44,7 +47,7 @@ class Status(enum.IntEnum):
 
     # It is printed, or yes.
     DONE = 0
-    # The plan is refused, there is none, or the history is no run of it.
+    # The plan is refused, there is none, or the history is not a run of it.
     PLAN_REFUSED = 1
     # A text is refused, or the command line.
     TEXT_REFUSED = 2
@@ -241,3 +244,83 @@ def windows(bundle: bytes, *options: str) -> Answer:
 def after(bundle: bytes, *options: str) -> Answer:
     """The ring that the plan leaves, or what a history has done of it."""
     return call_or_run("after", bundle, options)
+
+
+class Held(ctypes.Structure):
+    """The C library's `struct ringplan_watch`: a judge that only the library looks into."""
+
+    _fields_ = [("judge", ctypes.c_void_p), ("is_held", ctypes.c_bool)]
+
+
+class Watch:
+    """Judges a history while it grows, as `ringplan watch` does. Needs the C library.
+
+    >>> with Watch(bundle) as watch:
+    ...     watch.take(b"history 1\\nput w1 k x31 = put 0\\n")
+    ...     print(watch.count)
+    1
+
+    A bundle that is refused is a `Refused`, and so is an entry that cannot have happened. From
+    then on each call raises the same. One call runs at a time.
+    """
+
+    def __init__(self, bundle: bytes) -> None:
+        library = load(os.environ.get("RINGPLAN_LIBRARY"))
+        if library is None:
+            raise NoLibrary("a watch needs the C library")
+        self._library, self._lock, self._held = library, threading.Lock(), Held()
+        library.ringplan_watch_count.restype = ctypes.c_uint32
+        library.ringplan_watch_free.restype = None
+        self._call("new", bundle).demand()
+        self._free = weakref.finalize(self, library.ringplan_watch_free, ctypes.byref(self._held))
+
+    def _call(self, name: str, *given: bytes) -> Answer:
+        for each in given:
+            if not isinstance(each, bytes):
+                raise TypeError(f"a watch takes bytes, and not {type(each).__name__}")
+        call = getattr(self._library, f"ringplan_watch_{name}")
+        call.restype = ctypes.c_uint8
+        length, size, room = ctypes.c_size_t(), ctypes.c_size_t, LINE
+        with self._lock:
+            if name != "new" and not self._held.is_held:
+                raise ValueError("the watch is closed")
+            while True:
+                output = ctypes.create_string_buffer(room)
+                words = [word for each in given for word in (each, size(len(each)))]
+                told = ctypes.byref(length)
+                status = call(ctypes.byref(self._held), *words, output, size(room), told)
+                if length.value <= room:
+                    return Answer(Status(status), output.raw[: length.value])
+                room = length.value
+
+    def take(self, data: bytes) -> None:
+        """Takes the next bytes of the history, which may end anywhere."""
+        self._call("take", data).demand()
+
+    @property
+    def count(self) -> int:
+        """How many entries the judge has followed."""
+        with self._lock:
+            if not self._held.is_held:
+                raise ValueError("the watch is closed")
+            return int(self._library.ringplan_watch_count(ctypes.byref(self._held)))
+
+    def end(self) -> Answer:
+        """What a replay of the history prints if no more bytes come. The watch may take more."""
+        return self._call("end")
+
+    def close(self) -> None:
+        """Frees the judge. Does nothing if it was freed before."""
+        with self._lock:
+            self._free()
+
+    def __enter__(self) -> Watch:
+        return self
+
+    def __exit__(
+        self,
+        kind: type[BaseException] | None,
+        error: BaseException | None,
+        trace: TracebackType | None,
+    ) -> None:
+        self.close()

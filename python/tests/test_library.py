@@ -130,3 +130,58 @@ def test_what_is_no_bundle_or_no_library_is_told(
     monkeypatch.setenv("RINGPLAN_LIBRARY", "libc.so.6")
     with pytest.raises(NoLibrary, match="libc.so.6 is no library of ringplan"):
         library.check(b"")
+
+
+def watched(bundle: bytes, history: bytes, piece: int) -> Answer:
+    """What a watch answers to a history that comes in pieces."""
+    with library.Watch(bundle) as watch:
+        try:
+            for at in range(0, len(history), piece):
+                watch.take(history[at : at + piece])
+            return watch.end()
+        except Refused as error:
+            # It stays refused.
+            with pytest.raises(Refused) as again:
+                watch.take(b"end\n")
+            assert again.value.answer == error.answer == watch.end()
+            return error.answer
+
+
+def test_a_watch_answers_as_the_program_does(way: str, tmp_path: pathlib.Path) -> None:
+    histories = [path.read_bytes() for path in EXAMPLES if b"\nhistory 1\n" in path.read_bytes()]
+    front = tmp_path / "front"
+    for whole in histories:
+        at = whole.index(b"\nhistory 1\n") + 1
+        front.write_bytes(whole[:at])
+        if way == "program":
+            with pytest.raises(NoLibrary):
+                library.Watch(whole[:at])
+            continue
+        for history in (whole[at:], whole[at:-9], whole[at:] + b"more"):
+            ran = subprocess.run(
+                [programs.find(), "watch", front], input=history, capture_output=True
+            )
+            for piece in (1, 7, 1 << 16):
+                assert watched(whole[:at], history, piece) == Answer(
+                    Status(ran.returncode), ran.stdout
+                )
+
+
+def test_a_watch_is_closed_once(way: str) -> None:
+    if way == "program":
+        return
+    bundle = next(path for path in EXAMPLES if library.check(path.read_bytes()).status == 0)
+    watch = library.Watch(bundle.read_bytes())
+    watch.take(b"history 1\n")
+    assert watch.count == 0
+    with pytest.raises(TypeError):
+        watch.take(bytearray(b"end\n"))
+    watch.close()
+    watch.close()
+    calls: list[Callable[[], object]] = [watch.end, lambda: watch.take(b""), lambda: watch.count]
+    for call in calls:
+        with pytest.raises(ValueError):
+            call()
+    with pytest.raises(Refused) as refused:
+        library.Watch(b"")
+    assert refused.value.answer == Answer(Status.TEXT_REFUSED, b"no 1 1\n")
