@@ -139,16 +139,8 @@ def dpkg(root: pathlib.Path, *words: object) -> str:
     return does(f"dpkg {words[0]}", "dpkg", f"--root={root}", "--log=/dev/null", *force, *words)
 
 
-def install(deb: pathlib.Path, root: pathlib.Path) -> None:
-    """Installs the deb into a root that has nothing but this machine's word for what the deb
-    depends on.
-    """
-    field = does("the deb's needs", "dpkg-deb", "-f", deb, "Depends")
-    owes(
-        "the deb's needs",
-        re.fullmatch(r"libc6 \(>= 2\.\d+\), python3 \(>= 3\.11\)", field.strip()) is not None,
-        field,
-    )
+def make_root(root: pathlib.Path) -> None:
+    """Makes a root in which dpkg knows only the packages on which the deb depends."""
     there = does(
         "the packages that it needs", "dpkg-query", "-s", "libc6", "python3-minimal", "python3"
     )
@@ -165,6 +157,19 @@ def install(deb: pathlib.Path, root: pathlib.Path) -> None:
     (root / "var/lib/dpkg/updates").mkdir()
     (root / "var/lib/dpkg/available").touch()
     (root / "var/lib/dpkg/status").write_text("\n\n".join(it.strip() for it in kept) + "\n")
+
+
+def install(deb: pathlib.Path, root: pathlib.Path) -> None:
+    """Installs the deb into a root that has nothing but this machine's word for what the deb
+    depends on.
+    """
+    field = does("the deb's needs", "dpkg-deb", "-f", deb, "Depends")
+    owes(
+        "the deb's needs",
+        re.fullmatch(r"libc6 \(>= 2\.\d+\), python3 \(>= 3\.11\)", field.strip()) is not None,
+        field,
+    )
+    make_root(root)
     dpkg(root, "-i", deb)
     owes("dpkg --verify", dpkg(root, "--verify", "ringplan") == "", "changed")
     owes(
@@ -253,6 +258,17 @@ def try_shells(usr: pathlib.Path) -> None:
         owes(f"what {shell} completes", shown[-1:] == [wanted], shown)
 
 
+# What bash completes of a line, and what completes the commands in zsh.
+BY_BASH = (
+    '. "$0"; COMP_LINE=$1; COMP_POINT=${#1}; COMP_TYPE=9; _python_argcomplete "${1%% *}"; echo'
+    ' "${COMPREPLY[@]}"'
+)
+BY_ZSH = (
+    'fpath=("$1" $fpath); autoload -U compinit; compinit -u -D; print $_comps[ringplan-run]'
+    " $_comps[ringplan-import] $_comps[ringplan-merge] $_comps[ringplan-break]"
+)
+
+
 def try_python_completions(usr: pathlib.Path) -> None:
     """What shells complete of the commands in Python, by argcomplete."""
     if not shutil.which("register-python-argcomplete"):
@@ -260,14 +276,6 @@ def try_python_completions(usr: pathlib.Path) -> None:
             "the completions of ringplan-run are not tried, as python3-argcomplete is not installed"
         )
         return
-    by_bash = (
-        '. "$0"; COMP_LINE=$1; COMP_POINT=${#1}; COMP_TYPE=9; _python_argcomplete "${1%% *}"; echo'
-        ' "${COMPREPLY[@]}"'
-    )
-    by_zsh = (
-        'fpath=("$1" $fpath); autoload -U compinit; compinit -u -D; print $_comps[ringplan-run]'
-        " $_comps[ringplan-import] $_comps[ringplan-merge] $_comps[ringplan-break]"
-    )
     env = {"PATH": f"{usr}/bin:{PLAIN['PATH']}", "HOME": usr.parent}
     for line, wanted in {
         "ringplan-run st": "status",
@@ -277,11 +285,11 @@ def try_python_completions(usr: pathlib.Path) -> None:
         "ringplan-break --sc": "--script",
     }.items():
         script = usr / "share/bash-completion/completions" / line.split()[0]
-        found = does(f"bash on {line}", "bash", "--norc", "-c", by_bash, script, line, env=env)
+        found = does(f"bash on {line}", "bash", "--norc", "-c", BY_BASH, script, line, env=env)
         owes(f"bash on {line}", found.strip() == wanted, found)
     calls: dict[str, tuple[tuple[object, ...], str]] = {
         "zsh": (
-            ("-fc", by_zsh, "zsh", usr / "share/zsh/vendor-completions"),
+            ("-fc", BY_ZSH, "zsh", usr / "share/zsh/vendor-completions"),
             "_ringplan-run _ringplan-run _ringplan-run _ringplan-run",
         ),
         "fish": (
@@ -311,37 +319,14 @@ def try_manual(page: pathlib.Path, *headings: str) -> None:
 
 def try_library(usr: pathlib.Path, scratch: pathlib.Path) -> None:
     """Compiles the installed `run.c` by what pkg-config says, and compares it with the program."""
-    version = does(
-        "the version of pkg-config",
-        "pkg-config",
-        "--modversion",
-        "ringplan",
-        env={"PKG_CONFIG_PATH": usr / "lib/pkgconfig"},
-    )
-    owes(
-        "the version of pkg-config",
-        version.strip() == run(PROGRAM, "--version").stdout.split()[1],
-        version,
-    )
-    words = does(
-        "pkg-config",
-        "pkg-config",
-        "--define-prefix",
-        "--cflags",
-        "--libs",
-        "ringplan",
-        env={"PKG_CONFIG_PATH": usr / "lib/pkgconfig"},
-    ).split()
-    does(
-        "cc",
-        "cc",
-        "-Wall",
-        "-Werror",
-        "-o",
-        scratch / "run",
-        usr / "share/doc/ringplan/c/run.c",
-        *words,
-    )
+    env = {"PKG_CONFIG_PATH": usr / "lib/pkgconfig"}
+    what = "the version of pkg-config"
+    version = does(what, "pkg-config", "--modversion", "ringplan", env=env)
+    owes(what, version.strip() == run(PROGRAM, "--version").stdout.split()[1], version)
+    asked = ("--define-prefix", "--cflags", "--libs", "ringplan")
+    words = does("pkg-config", "pkg-config", *asked, env=env).split()
+    source = usr / "share/doc/ringplan/c/run.c"
+    does("cc", "cc", "-Wall", "-Werror", "-o", scratch / "run", source, *words)
     try_linking(usr, scratch, words)
     for job, name in (
         ("check", "planned_replace"),

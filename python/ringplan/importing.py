@@ -330,26 +330,7 @@ def command_line() -> argparse.ArgumentParser:
     )
     parser.add_argument("source", choices=SOURCES, help="what the file is")
     parser.add_argument("file", nargs="?", default="-", help="the file; standard input without it")
-    parser.add_argument(
-        "--read", type=int, metavar="R", help="slots that answer a read (default: 2)"
-    )
-    parser.add_argument(
-        "--write", type=int, metavar="W", help="slots that take a write (default: 2)"
-    )
-    parser.add_argument(
-        "--slots",
-        type=int,
-        default=3,
-        metavar="N",
-        help="of riak and ring: the replicas of a key (default: %(default)s)",
-    )
-    parser.add_argument(
-        "--allowance",
-        type=int,
-        default=2,
-        metavar="K",
-        help="transfers that each node may have open at once",
-    )
+    add_numbers(parser)
     parser.add_argument(
         "--join",
         action="append",
@@ -372,6 +353,30 @@ def command_line() -> argparse.ArgumentParser:
         help="of describering and ring: only the nodes of this datacentre",
     )
     return parser
+
+
+def add_numbers(parser: argparse.ArgumentParser) -> None:
+    """The quorums, the slots and the allowance, which no source has."""
+    parser.add_argument(
+        "--read", type=int, metavar="R", help="slots that answer a read (default: 2)"
+    )
+    parser.add_argument(
+        "--write", type=int, metavar="W", help="slots that take a write (default: 2)"
+    )
+    parser.add_argument(
+        "--slots",
+        type=int,
+        default=3,
+        metavar="N",
+        help="of riak and ring: the replicas of a key (default: %(default)s)",
+    )
+    parser.add_argument(
+        "--allowance",
+        type=int,
+        default=2,
+        metavar="K",
+        help="transfers that each node may have open at once",
+    )
 
 
 def main() -> int:

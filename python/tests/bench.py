@@ -115,32 +115,18 @@ class Server:
         cluster = ",".join(f"m{number}={peer}" for number, peer in enumerate(peers))
         self.words, self.processes = list[list[str]](), dict[int, subprocess.Popen[bytes]]()
         for number, (port, peer) in enumerate(zip(self.ports, peers)):
-            client, data = f"http{'s' * is_tls}://127.0.0.1:{port}", str(
-                folder / (f"data{number}" if number else "data")
-            )
-            words = [
-                "etcd",
-                "--name",
-                f"m{number}",
-                "--data-dir",
-                data,
-                "--listen-client-urls",
-                client,
-                "--advertise-client-urls",
-                client,
-            ]
-            self.words.append(
-                [
-                    *words,
-                    "--listen-peer-urls",
-                    peer,
-                    "--initial-advertise-peer-urls",
-                    peer,
-                    "--initial-cluster",
-                    cluster,
-                    *options,
-                ]
-            )
+            client = f"http{'s' * is_tls}://127.0.0.1:{port}"
+            named = {
+                "name": f"m{number}",
+                "data-dir": folder / (f"data{number}" if number else "data"),
+                "listen-client-urls": client,
+                "advertise-client-urls": client,
+                "listen-peer-urls": peer,
+                "initial-advertise-peer-urls": peer,
+                "initial-cluster": cluster,
+            }
+            words = (f"--{name}={value}" for name, value in named.items())
+            self.words.append(["etcd", *words, *options])
         self.start()
 
     def start(self, is_awaited: bool = True) -> None:

@@ -18,7 +18,18 @@ from test_runner import at_random, claim_of, lose_answers, open_board, over_both
 
 from ringplan import programs, texts
 from ringplan.run import etcd
-from ringplan.run.board import Board, Change, Claim, ClaimEnded, Note, Record, Status, Stop, Tries
+from ringplan.run.board import (
+    Board,
+    Change,
+    Claim,
+    ClaimEnded,
+    Name,
+    Note,
+    Record,
+    Status,
+    Stop,
+    Tries,
+)
 from ringplan.run.runner import read_steps
 from ringplan.run.supervisor import now
 
@@ -101,6 +112,18 @@ def see_the_end(bench: Bench) -> None:
     assert bench.run("history")[1].splitlines()[1:-1] == record.entries
 
 
+def see_copies(bench: Bench) -> None:
+    """Each copy began once, but for the one that read birch: it began again from two others."""
+    begun = [
+        (line["step"], line.get("from"), line.get("slots"), line.get("again"))
+        for word, line in bench.log()
+        if word == "begin" and line["do"] == "copy"
+    ]
+    assert begun.count((OTHER, ["amber"], None, None)) == 1
+    assert begun.count((DEAD, ["birch"], None, None)) == 1
+    assert begun.count((DEAD, ["cedar", "dune"], [1, 2], True)) == 1 and len(begun) == 5
+
+
 @over_both
 def test_a_runner_goes_on_by_another_plan(bench: Bench) -> None:
     process = begin_copies(bench)
@@ -128,16 +151,7 @@ def test_a_runner_goes_on_by_another_plan(bench: Bench) -> None:
     assert "the board has another plan: " in out and out.endswith(
         "16 of 16 steps are done, and the judge says yes\n"
     )
-    begun = [
-        (line["step"], line.get("from"), line.get("slots"), line.get("again"))
-        for word, line in bench.log()
-        if word == "begin" and line["do"] == "copy"
-    ]
-    assert (
-        begun.count((OTHER, ["amber"], None, None)) == 1
-        and begun.count((DEAD, ["birch"], None, None)) == 1
-    )
-    assert begun.count((DEAD, ["cedar", "dune"], [1, 2], True)) == 1 and len(begun) == 5
+    see_copies(bench)
     assert len(bench.steps("end")) == 16
     # The bundle with which it began has become the other one; a third one has not.
     see_the_end(bench)
@@ -341,18 +355,7 @@ def see_swap(address: str) -> None:
     failed = claim_of(board, "w", [names[3]])
     assert isinstance(failed, Claim)
     board.give_back(failed, Tries(2, 1).later(1000))
-    edition, other = board.record().edition, open_board(address)
-    with other.pausing():
-        assert board.claim("w", edition, names) is None
-        with pytest.raises(Stop, match="another `around` works with"), open_board(
-            address
-        ).pausing():
-            pass
-        known = other.record()
-        board.note(one, [Note("chunk", 4)])
-        assert not other.swap(known, Change(GROW, names, []))
-        assert swap(other, "--dead", "birch")
-    assert board.claim("w", edition, names) is None
+    edition, known = see_pause(board, address, names, one)
     record = board.record()
     assert record.entries == [
         "do 0 = ok",
@@ -366,7 +369,45 @@ def see_swap(address: str) -> None:
         programs.ask("replay", record.text()).first() == "yes"
         and "copy 1 0 slots 1 2" in record.bundle
     )
-    # A claim of the copy that is open goes on, and the one of the copy that begins anew ends.
+    see_claims(board, names, one, two)
+    edition, states = board.states()
+    assert edition != known.edition and [state.number for state in states] == list(range(16))
+    assert {
+        state.number: state.tries.failures
+        for state in states
+        if state.is_begun and not state.is_done
+    } == {3: 0, 6: 0}
+    assert isinstance(claim_of(board, "w", [names[3]]), Claim)
+    board.end()
+    see_both_plans(address, names, record.bundle)
+
+
+def see_both_plans(address: str, names: list[Name], bundle: str) -> None:
+    """A runner may begin with the plan that the board has, or with the one that it had."""
+    for known in (GROW, bundle):
+        board = open_board(address)
+        board.begin(known, names)
+        assert board.record().bundle == bundle
+        board.end()
+
+
+def see_pause(board: Board, address: str, names: list[Name], one: Claim) -> tuple[str, Record]:
+    """While another plan is sought, no step is given out, and a note makes it sought again."""
+    edition, other, third = board.record().edition, open_board(address), open_board(address)
+    with other.pausing():
+        assert board.claim("w", edition, names) is None
+        with pytest.raises(Stop, match="another `around` works with"), third.pausing():
+            pass
+        known = other.record()
+        board.note(one, [Note("chunk", 4)])
+        assert not other.swap(known, Change(GROW, names, []))
+        assert swap(other, "--dead", "birch")
+    assert board.claim("w", edition, names) is None
+    return edition, known
+
+
+def see_claims(board: Board, names: list[Name], one: Claim, two: Claim) -> None:
+    """A claim of the copy that is open goes on, and the one of the copy that begins again ends."""
     until = time.monotonic() + LONG
     while board.until(two) > now():
         assert time.monotonic() < until
@@ -385,21 +426,6 @@ def see_swap(address: str) -> None:
         False,
         frozenset(),
     )
-    edition, states = board.states()
-    assert edition != known.edition and [state.number for state in states] == list(range(16))
-    assert {
-        state.number: state.tries.failures
-        for state in states
-        if state.is_begun and not state.is_done
-    } == {3: 0, 6: 0}
-    assert isinstance(claim_of(board, "w", [names[3]]), Claim)
-    # A board that has the plan, and had the other one.
-    board.end()
-    for bundle in (GROW, record.bundle):
-        next_one = open_board(address)
-        next_one.begin(bundle, names)
-        assert next_one.record().bundle == record.bundle
-        next_one.end()
 
 
 @over_both

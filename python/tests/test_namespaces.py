@@ -35,35 +35,20 @@ class Network:
     def __init__(self) -> None:
         self.spaces = {name: f"ringplan-{os.getpid()}-{name}" for name in ("etcd", *MACHINES)}
 
+    def join(self, number: int, machine: str) -> None:
+        """Joins a machine to the one of etcd by a pair of devices with an address each."""
+        hub, other = self.spaces["etcd"], self.spaces[machine]
+        link = f"link add {machine} type veth peer name eth0 netns {other}"
+        self.ip("-n", hub, *link.split())
+        for space, device, host in ((hub, machine, 1), (other, "eth0", 2)):
+            self.ip("-n", space, "address", "add", f"10.98.{number}.{host}/24", "dev", device)
+            self.ip("-n", space, "link", "set", device, "up")
+
     def start(self, folder: pathlib.Path) -> None:
         for space in self.spaces.values():
             self.ip("netns", "add", space)
         for number, machine in enumerate(MACHINES):
-            self.ip(
-                "-n",
-                self.spaces["etcd"],
-                "link",
-                "add",
-                machine,
-                "type",
-                "veth",
-                "peer",
-                "name",
-                "eth0",
-                "netns",
-                self.spaces[machine],
-            )
-            for name, device, host in (("etcd", machine, 1), (machine, "eth0", 2)):
-                self.ip(
-                    "-n",
-                    self.spaces[name],
-                    "address",
-                    "add",
-                    f"10.98.{number}.{host}/24",
-                    "dev",
-                    device,
-                )
-                self.ip("-n", self.spaces[name], "link", "set", device, "up")
+            self.join(number, machine)
         self.ip("-n", self.spaces["etcd"], "link", "set", "lo", "up")
         client, peer = f"http://0.0.0.0:{PORT}", "http://127.0.0.1:2380"
         words = [

@@ -22,7 +22,7 @@ import re
 import signal
 import sys
 import time
-from collections.abc import Sequence
+from collections.abc import Callable, Sequence
 
 from ringplan import __version__, programs, texts
 from ringplan.options import complete
@@ -131,6 +131,17 @@ def is_wanted(board: str, bundle: str) -> bool:
     return sys.stdin.readline().strip().lower() in ("y", "yes")
 
 
+def options_of(words: argparse.Namespace) -> Options:
+    return Options(
+        words.workers,
+        words.give_up,
+        words.pause,
+        words.longest_pause,
+        words.only_between,
+        words.on_event,
+    )
+
+
 def apply(words: argparse.Namespace) -> Status:
     bundle = read_bundle(words.bundle)
     if words.plan_sum not in (None, sum_of(bundle)):
@@ -149,19 +160,7 @@ def apply(words: argparse.Namespace) -> Status:
     if sizes:
         board.set("sizes", sizes)
     hooks = Hooks(words.do, board.locks, dict(words.timeout))
-    runner = Runner(
-        board,
-        hooks,
-        Options(
-            words.workers,
-            words.give_up,
-            words.pause,
-            words.longest_pause,
-            words.only_between,
-            words.on_event,
-        ),
-    )
-
+    runner = Runner(board, hooks, options_of(words))
     try:
         if words.serve is not None:
             page = Page(open_board(words, is_read=True), runner, words.listen, words.serve)
@@ -188,6 +187,21 @@ def sizes_of(layout: str | None, bundle: str) -> dict[str, int]:
     }
 
 
+def other_plan(marked: Record, options: Sequence[str]) -> tuple[Change, str]:
+    """The plan by which `ringplan around` goes on, and what it prints on standard error."""
+    answer = programs.ask("around", marked.text(), *options)
+    if answer.status:
+        raise Stop(
+            Status.REFUSED if answer.status == 1 else Status.FAULT,
+            f"the board is as it was:\n{answer.text}{answer.errors}".rstrip(),
+        )
+    *bundle, history = texts.read_texts(answer.text)
+    if not isinstance(history, texts.History):
+        raise Stop(Status.FAULT, "`ringplan around` printed no history")
+    _, names = read_steps(text := texts.write_texts(bundle))
+    return Change.of(text, names, history.entries), answer.errors
+
+
 def around(words: argparse.Namespace) -> Status:
     programs.find()
     board = open_board(words)
@@ -204,23 +218,14 @@ def around(words: argparse.Namespace) -> Status:
         while not is_swapped:
             known = board.record()
             marked = known._replace(entries=[*known.entries, *downs(known, words.dead)])
-            answer = programs.ask("around", marked.text(), *options)
-            if answer.status:
-                raise Stop(
-                    Status.REFUSED if answer.status == 1 else Status.FAULT,
-                    f"the board is as it was:\n{answer.text}{answer.errors}".rstrip(),
-                )
-            *bundle, history = texts.read_texts(answer.text)
-            if not isinstance(history, texts.History):
-                raise Stop(Status.FAULT, "`ringplan around` printed no history")
-            _, names = read_steps(text := texts.write_texts(bundle))
+            change, errors = other_plan(marked, options)
             left = [
                 state
                 for state in board.states()[1]
-                if state.is_begun and not state.is_done and state.name not in names
+                if state.is_begun and not state.is_done and state.name not in change.names
             ]
-            is_swapped = board.swap(known, Change.of(text, names, history.entries))
-    print(answer.errors, end="", file=sys.stderr)
+            is_swapped = board.swap(known, change)
+    print(errors, end="", file=sys.stderr)
     for state in left:
         print(
             f"{state.name}: its hook has begun, and no step of the new plan does this",
@@ -497,6 +502,27 @@ def add_apply(command: argparse.ArgumentParser) -> None:
     add_watching(command)
 
 
+def add_page(command: argparse.ArgumentParser) -> None:
+    """The page that `apply` shows."""
+    command.add_argument(
+        "--serve", type=int, metavar="PORT", help="shows a page at this port; 0 takes a free one"
+    )
+    command.add_argument(
+        "--listen",
+        default="127.0.0.1",
+        metavar="ADDRESS",
+        help=(
+            "the address of the page; elsewhere than on loopback it has a token (default:"
+            " %(default)s)"
+        ),
+    )
+    command.add_argument(
+        "--layout",
+        metavar="FILE",
+        help="a layout with the sizes of partitions, for the time that is left",
+    )
+
+
 def add_watching(command: argparse.ArgumentParser) -> None:
     """What `apply` asks for before it begins, when it begins copies, and what it says."""
     command.add_argument(
@@ -527,23 +553,7 @@ def add_watching(command: argparse.ArgumentParser) -> None:
         metavar="KIND=SECONDS",
         help="ends a hook that takes longer, and counts a failure",
     )
-    command.add_argument(
-        "--serve", type=int, metavar="PORT", help="shows a page at this port; 0 takes a free one"
-    )
-    command.add_argument(
-        "--listen",
-        default="127.0.0.1",
-        metavar="ADDRESS",
-        help=(
-            "the address of the page; elsewhere than on loopback it has a token (default:"
-            " %(default)s)"
-        ),
-    )
-    command.add_argument(
-        "--layout",
-        metavar="FILE",
-        help="a layout with the sizes of partitions, for the time that is left",
-    )
+    add_page(command)
 
 
 def add_limit(command: argparse.ArgumentParser) -> None:
@@ -558,60 +568,63 @@ def add_limit(command: argparse.ArgumentParser) -> None:
     )
 
 
+def add_status(command: argparse.ArgumentParser) -> None:
+    command.add_argument(
+        "--format",
+        choices=["text", "json"],
+        default="text",
+        help="how it is printed (default: %(default)s)",
+    )
+
+
+def add_retry(command: argparse.ArgumentParser) -> None:
+    command.add_argument("step", type=int, help="the step's number")
+
+
+def add_history(command: argparse.ArgumentParser) -> None:
+    command.add_argument("--bundle", action="store_true", help="the bundle too")
+
+
+Call = Callable[[argparse.Namespace], Status]
+# Each command: what it calls, what its help says, and what adds its own options.
+COMMANDS: dict[str, tuple[Call, str, Callable[[argparse.ArgumentParser], None] | None]] = {
+    "apply": (apply, "goes through the plan of a bundle, or goes on where it was left", add_apply),
+    "status": (status, "says which steps are done, and which wait", add_status),
+    "history": (history, "prints the history so far", add_history),
+    "retry": (retry, "has a step tried again that was given up, or that pauses", add_retry),
+    "judge": (see_judge, "has the history so far judged", None),
+    "bundle": (print_bundle, "prints the bundle that the board has now", None),
+    "limit": (
+        limit,
+        "sets how many steps each runner may do at once, or without a number ends the limits",
+        add_limit,
+    ),
+    "boards": (boards, "lists the boards of this folder", None),
+    "forget": (forget, "deletes a board, with what it knows", None),
+    "rest": (around, "ends the moves that have begun, and begins no others", add_rest),
+    "leave": (around, "leaves a slot with its owner, and ends its move", add_leave),
+    "around": (
+        around,
+        "puts another plan in the place of the board's: around nodes that died, at rest, or with"
+        " slots left out",
+        add_around,
+    ),
+}
+
+
 def command_line() -> argparse.ArgumentParser:
     parser = argparse.ArgumentParser(
         prog="ringplan-run", description="Goes through an approved plan by hooks.", epilog=STATUSES
     )
     parser.add_argument("--version", action="version", version=f"ringplan-run {__version__}")
     commands = parser.add_subparsers(dest="command", required=True, metavar="COMMAND")
-    calls = {
-        "apply": (apply, "goes through the plan of a bundle, or goes on where it was left"),
-        "status": (status, "says which steps are done, and which wait"),
-        "history": (history, "prints the history so far"),
-        "retry": (retry, "has a step tried again that was given up, or that pauses"),
-        "judge": (see_judge, "has the history so far judged"),
-        "bundle": (print_bundle, "prints the bundle that the board has now"),
-        "limit": (
-            limit,
-            "sets how many steps each runner may do at once, or without a number ends the limits",
-        ),
-        "boards": (boards, "lists the boards of this folder"),
-        "forget": (forget, "deletes a board, with what it knows"),
-        "rest": (around, "ends the moves that have begun, and begins no others"),
-        "leave": (around, "leaves a slot with its owner, and ends its move"),
-        "around": (
-            around,
-            (
-                "puts another plan in the place of the board's: around nodes that died, at rest, or"
-                " with slots left out"
-            ),
-        ),
-    }
-    more = {
-        "apply": add_apply,
-        "limit": add_limit,
-        "rest": add_rest,
-        "leave": add_leave,
-        "around": add_around,
-    }
-    for name, (call, what) in calls.items():
+    for name, (call, what, add) in COMMANDS.items():
         command = commands.add_parser(name, help=what, description=what)
         command.set_defaults(call=call)
         if name != "boards":
             add_board(command)
-        if name in more:
-            more[name](command)
-        if name == "status":
-            command.add_argument(
-                "--format",
-                choices=["text", "json"],
-                default="text",
-                help="how it is printed (default: %(default)s)",
-            )
-        if name == "retry":
-            command.add_argument("step", type=int, help="the step's number")
-        if name == "history":
-            command.add_argument("--bundle", action="store_true", help="the bundle too")
+        if add is not None:
+            add(command)
     return parser
 
 

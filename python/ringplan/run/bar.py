@@ -6,7 +6,7 @@ import contextlib
 import sys
 import threading
 import time
-from collections.abc import Iterator
+from collections.abc import Callable, Iterator
 
 from ringplan.run.runner import Runner
 
@@ -22,20 +22,16 @@ def shown(runner: Runner) -> Iterator[None]:
     if not sys.stderr.isatty():
         yield
         return
-    said = progress.TextColumn("steps{task.fields[pace]}")
     columns = (
         progress.BarColumn(),
         progress.MofNCompleteColumn(),
-        said,
+        progress.TextColumn("steps{task.fields[pace]}"),
         progress.TimeElapsedColumn(),
     )
     with progress.Progress(
         *columns, console=console.Console(stderr=True), redirect_stdout=sys.stdout.isatty()
     ) as bar:
-        task, over = (
-            bar.add_task("", total=len(runner.steps), completed=len(runner.done), pace=""),
-            threading.Event(),
-        )
+        task = bar.add_task("", total=len(runner.steps), completed=len(runner.done), pace="")
 
         def show() -> None:
             words = runner.pace.words(time.time())
@@ -46,15 +42,24 @@ def shown(runner: Runner) -> Iterator[None]:
                 pace=words and f"; {words}",
             )
 
-        def follow() -> None:
-            while not over.wait(0.2):
-                show()
-
-        watcher = threading.Thread(target=follow)
-        watcher.start()
-        try:
+        with repeated(show):
             yield
-        finally:
-            over.set()
-            watcher.join()
+
+
+@contextlib.contextmanager
+def repeated(show: Callable[[], None]) -> Iterator[None]:
+    """Calls `show` five times a second while the block runs, and once at its end."""
+    over = threading.Event()
+
+    def follow() -> None:
+        while not over.wait(0.2):
             show()
+
+    watcher = threading.Thread(target=follow)
+    watcher.start()
+    try:
+        yield
+    finally:
+        over.set()
+        watcher.join()
+        show()

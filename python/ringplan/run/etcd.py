@@ -148,6 +148,38 @@ class Found(NamedTuple):
         return LOOK if self.claim.created else tries.left()
 
 
+def parts_of(address: str) -> tuple[bool, tuple[str, ...], str]:
+    """Whether etcd is reached by TLS, its members, and the board's name."""
+    parts = ADDRESS.fullmatch(address)
+    members = parts[2].split(",") if parts else []
+    if parts is None or not all(0 < int(member.rsplit(":", 1)[1]) < 65536 for member in members):
+        raise Stop(
+            Status.FAULT,
+            f"{address} is not an address etcd://HOST:PORT,../NAME; the name has letters, digits,"
+            " '.', '_' and '-'",
+        )
+    return bool(parts[1]), tuple(members), parts[5]
+
+
+def begun(one: Found, since: float) -> Json:
+    """What the board keeps of a step that is claimed at that time."""
+    return step_of(one.progress()) | {"since": since}
+
+
+def claimed(one: Found, worker: str, revision: int) -> Claim:
+    """The worker's claim of the step as it was found."""
+    progress = one.progress()
+    return Claim(
+        one.name,
+        worker,
+        revision,
+        bool(one.step.created),
+        progress.is_open,
+        progress.marks,
+        one.tries.tries(),
+    )
+
+
 def step_of(progress: Progress) -> Json:
     return {**progress._asdict(), "marks": sorted(progress.marks)}
 
@@ -170,31 +202,11 @@ class EtcdBoard:
     def __init__(
         self, address: str, is_new: bool = False, lease: int = 60, access: Access = Access(())
     ) -> None:
-        parts = ADDRESS.fullmatch(address)
-        members = parts[2].split(",") if parts else []
-        if parts is None or not all(
-            0 < int(member.rsplit(":", 1)[1]) < 65536 for member in members
-        ):
-            raise Stop(
-                Status.FAULT,
-                (
-                    f"{address} is not an address etcd://HOST:PORT,../NAME; the name has letters,"
-                    " digits, '.', '_' and '-'"
-                ),
-            )
-        self.address, self.name, self.locks, self.ttl = (
-            address,
-            parts[5],
-            f"{parts[5]}.hooks",
-            lease,
-        )
+        is_tls, members, self.name = parts_of(address)
+        self.address, self.locks, self.ttl = address, f"{self.name}.hooks", lease
         self.seen = Seen(self.locks)
-        self.etcd, self.lock, self.over = (
-            Etcd(replace(access, members=tuple(members), is_tls=bool(parts[1]))),
-            threading.Lock(),
-            threading.Event(),
-        )
-        self.loading = threading.Lock()
+        self.etcd = Etcd(replace(access, members=members, is_tls=is_tls))
+        self.lock, self.over, self.loading = threading.Lock(), threading.Event(), threading.Lock()
         self.lease, self.ending, self.held = 0, -math.inf, dict[tuple[Name, str], Held]()
         self.who = f"{socket.gethostname()}:{os.getpid()}"
         # The key that is there while the lease lasts; and of `pausing` the revision at which it
@@ -376,24 +388,15 @@ class EtcdBoard:
         None if no step is given out.
         """
         lease, nonce = self.leased(), uuid.uuid4().hex
+        value, since = {"worker": f"{worker} of {self.who}", "nonce": nonce}, time.time()
         compares = [is_created(self.key("pause"), 0), is_changed(self.key("plan"), plan.changed)]
-        changes, value, since = (
-            list[Json](),
-            {"worker": f"{worker} of {self.who}", "nonce": nonce},
-            {"since": time.time()},
-        )
+        changes = list[Json]()
         for one in free:
-            here, mine, tries = (
-                self.key("claim", one.name),
-                plan.key("step", one.name),
-                plan.key("tries", one.name),
-            )
-            compares += [
-                is_created(here, 0),
-                is_changed(mine, one.step.changed),
-                is_changed(tries, one.tries.changed),
+            compares += self.as_found(plan, one)
+            changes += [
+                put(self.key("claim", one.name), value, lease),
+                put(plan.key("step", one.name), begun(one, since)),
             ]
-            changes += [put(here, value, lease), put(mine, step_of(one.progress()) | since)]
         try:
             revision, found = self.etcd.transact(
                 compares,
@@ -412,20 +415,15 @@ class EtcdBoard:
             revision = claims[0].created
         self.seen.keep(self.etcd.cluster, revision)
         for one in free:
-            self.held[one.name, worker] = Held(
-                revision, lease, plan.edition, step_of(one.progress()) | since
-            )
+            self.held[one.name, worker] = Held(revision, lease, plan.edition, begun(one, since))
+        return [claimed(one, worker, revision) for one in free]
+
+    def as_found(self, plan: Plan, one: Found) -> list[Json]:
+        """Compares that hold while nobody has claimed or changed the step since it was found."""
         return [
-            Claim(
-                one.name,
-                worker,
-                revision,
-                bool(one.step.created),
-                one.progress().is_open,
-                one.progress().marks,
-                one.tries.tries(),
-            )
-            for one in free
+            is_created(self.key("claim", one.name), 0),
+            is_changed(plan.key("step", one.name), one.step.changed),
+            is_changed(plan.key("tries", one.name), one.tries.changed),
         ]
 
     def see(self, name: Name, held: Held) -> None:

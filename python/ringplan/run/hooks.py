@@ -207,6 +207,20 @@ class Hooks:
             os.close(handle)
 
     # Hooks that run.
+    def send(
+        self, kind: str, title: str, members: dict[str, object], one: Supervisor, until: float
+    ) -> None:
+        """Has the supervisor start the hook, with the members as its line of input."""
+        one.send(
+            [one.held],
+            run=self.path(kind),
+            name=title,
+            input=WRITE(members) + "\n",
+            until=until,
+            limit=self.limits.get(kind, math.inf),
+            grace=GRACE,
+        )
+
     def run(
         self,
         kind: str,
@@ -224,21 +238,12 @@ class Hooks:
         `beat` is called while the hook runs on, with whether it has failed and waits for processes
         that it left.
         """
-        line = WRITE(members) + "\n"
         with self.lock:
             moment = until()
             if self.is_ending or moment <= now():
                 return Result(Outcome.ENDED)
             self.running.add(one)
-            one.send(
-                [one.held],
-                run=self.path(kind),
-                name=title,
-                input=line,
-                until=moment,
-                limit=self.limits.get(kind, math.inf),
-                grace=GRACE,
-            )
+            self.send(kind, title, members, one, moment)
         try:
             while (answer := one.answer(BEAT)) is None or "rest" in answer:
                 beat(answer is not None)

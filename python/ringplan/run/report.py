@@ -7,7 +7,7 @@ from __future__ import annotations
 import math
 import time
 from collections import Counter
-from collections.abc import Iterable, Mapping, Sequence
+from collections.abc import Iterable, Iterator, Mapping, Sequence
 from typing import Any, NamedTuple
 
 from ringplan.run.board import CHUNKS, Name, State
@@ -209,6 +209,64 @@ class Watched(NamedTuple):
     grew: float
 
 
+def metric(name: str, what: str, rows: Mapping[str, float], kind: str = "gauge") -> Iterator[str]:
+    """The lines of one metric. The rows are by their labels."""
+    yield f"# HELP ringplan_{name} {what}\n"
+    yield f"# TYPE ringplan_{name} {kind}\n"
+    for labels, value in rows.items():
+        yield f"ringplan_{name}{labels} {value:.15g}\n"
+
+
+def metrics_of_steps(states: Sequence[State], now: float) -> Iterator[str]:
+    """How many steps there are by state, how often they failed, and how long the oldest runs."""
+    counts = Counter(map(state_of, states))
+    yield from metric(
+        "steps",
+        "Steps of the plan by state.",
+        {
+            f'{{state="{name}"}}': counts[name]
+            for name in ("done", "running", "pausing", "given_up", "left")
+        },
+    )
+    open_ones = [state for state in states if not state.is_done]
+    yield from metric(
+        "failures",
+        "How often hooks of steps failed that are not done.",
+        {"": sum(state.tries.failures for state in open_ones)},
+    )
+    yield from metric(
+        "oldest_step_seconds",
+        "How long the oldest step runs.",
+        {"": max((now - state.since for state in open_ones if state.worker), default=0.0)},
+    )
+
+
+def metrics_of_copies(pace: Pace, now: float) -> Iterator[str]:
+    """How much is copied, how much there is to copy, and how long that still takes."""
+    unit = "size" if pace.is_sized else "copies"
+    yield from metric(
+        "copied",
+        "What copies have given, in the unit of the sizes or in copies.",
+        {f'{{unit="{unit}"}}': pace.done},
+    )
+    yield from metric("to_copy", "What copies give in all.", {f'{{unit="{unit}"}}': pace.whole})
+    if (left := pace.left(now)) is not None:
+        yield from metric("left_seconds", "How long copies still take.", {"": left})
+
+
+def metrics_of_judge(watched: Watched, now: float) -> Iterator[str]:
+    """What the judge says of the history so far."""
+    yield from metric(
+        "watch_ok", "Whether the judge says yes to the history so far.", {"": watched.is_yes}
+    )
+    yield from metric(
+        "watched_entries", "The entries to which the judge has said yes.", {"": watched.entries}
+    )
+    yield from metric(
+        "last_entry_seconds", "How long ago the history grew.", {"": now - watched.grew}
+    )
+
+
 def metrics(
     states: Sequence[State],
     pace: Pace,
@@ -217,58 +275,27 @@ def metrics(
     lease: float,
 ) -> str:
     """The whole of it for Prometheus. `hooks` counts hooks by their kind and end."""
-    now, counts, lines = time.time(), Counter(map(state_of, states)), list[str]()
-
-    def add(name: str, what: str, rows: Mapping[str, float], kind: str = "gauge") -> None:
-        lines.extend(
-            [
-                f"# HELP ringplan_{name} {what}",
-                f"# TYPE ringplan_{name} {kind}",
-                *(f"ringplan_{name}{labels} {value:.15g}" for labels, value in rows.items()),
-            ]
-        )
-
-    add(
-        "steps",
-        "Steps of the plan by state.",
-        {
-            f'{{state="{name}"}}': counts[name]
-            for name in ("done", "running", "pausing", "given_up", "left")
-        },
+    now = time.time()
+    return "".join(
+        [
+            *metrics_of_steps(states, now),
+            *metrics_of_copies(pace, now),
+            *metric(
+                "hooks_total",
+                "Hooks of this runner by kind and end.",
+                {
+                    f'{{kind="{kind}",end="{end}"}}': count
+                    for (kind, end), count in sorted(hooks.items())
+                },
+                "counter",
+            ),
+            *(
+                metric(
+                    "lease_left_seconds", "How long the lease of this runner lasts.", {"": lease}
+                )
+                if lease < math.inf
+                else []
+            ),
+            *metrics_of_judge(watched, now),
+        ]
     )
-    unit = "size" if pace.is_sized else "copies"
-    add(
-        "copied",
-        "What copies have given, in the unit of the sizes or in copies.",
-        {f'{{unit="{unit}"}}': pace.done},
-    )
-    add("to_copy", "What copies give in all.", {f'{{unit="{unit}"}}': pace.whole})
-    if (left := pace.left(now)) is not None:
-        add("left_seconds", "How long copies still take.", {"": left})
-    add(
-        "failures",
-        "How often hooks of steps failed that are not done.",
-        {"": sum(state.tries.failures for state in states if not state.is_done)},
-    )
-    add(
-        "hooks_total",
-        "Hooks of this runner by kind and end.",
-        {f'{{kind="{kind}",end="{end}"}}': count for (kind, end), count in sorted(hooks.items())},
-        "counter",
-    )
-    add(
-        "oldest_step_seconds",
-        "How long the oldest step runs.",
-        {
-            "": max(
-                (now - state.since for state in states if state.worker and not state.is_done),
-                default=0.0,
-            )
-        },
-    )
-    if lease < math.inf:
-        add("lease_left_seconds", "How long the lease of this runner lasts.", {"": lease})
-    add("watch_ok", "Whether the judge says yes to the history so far.", {"": watched.is_yes})
-    add("watched_entries", "The entries to which the judge has said yes.", {"": watched.entries})
-    add("last_entry_seconds", "How long ago the history grew.", {"": now - watched.grew})
-    return "".join(f"{line}\n" for line in lines)

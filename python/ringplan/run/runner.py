@@ -289,25 +289,27 @@ class Runner:
         if result.outcome is not Outcome.DONE:
             self.give_back(claim, result)
 
+    def pause_after(self, outcome: Outcome, tries: int) -> float:
+        """How many seconds a step pauses: twice as long each time, none if its hook was ended."""
+        if outcome is Outcome.ENDED:
+            return 0.0
+        return min(self.options.longest, self.options.pause * 2.0 ** min(tries - 1, 30))
+
+    def gives_up(self, outcome: Outcome, failures: int) -> bool:
+        most = self.options.give_up
+        return outcome is Outcome.DEAD or (
+            outcome is Outcome.FAILED and most is not None and failures >= most
+        )
+
     def give_back(self, claim: Claim, result: Result) -> None:
         """Gives a step back that is not done, to be tried again after a pause that doubles each
         time.
         """
-        outcome, is_dead = result.outcome, result.outcome is Outcome.DEAD
-        failures, waits = claim.tries.failures + (
-            outcome in (Outcome.FAILED, Outcome.DEAD)
-        ), claim.tries.waits + (outcome is Outcome.NOT_NOW)
-        pause = (
-            min(self.options.longest, self.options.pause * 2 ** min(failures + waits - 1, 30))
-            if outcome is not Outcome.ENDED
-            else 0.0
-        )
-        is_given_up = (
-            is_dead
-            or outcome is Outcome.FAILED
-            and self.options.give_up is not None
-            and failures >= self.options.give_up
-        )
+        outcome = result.outcome
+        failures = claim.tries.failures + (outcome in (Outcome.FAILED, Outcome.DEAD))
+        waits = claim.tries.waits + (outcome is Outcome.NOT_NOW)
+        pause = self.pause_after(outcome, failures + waits)
+        is_given_up = self.gives_up(outcome, failures)
         self.board.give_back(
             claim,
             replace(
@@ -320,12 +322,11 @@ class Runner:
             ),
         )
         if is_given_up:
-            nodes = sorted(self.nodes(claim.name) - {""})
             self.tell(
-                "a node is dead" if is_dead else "given up",
+                "a node is dead" if outcome is Outcome.DEAD else "given up",
                 step=self.numbers.get(claim.name),
                 name=str(claim.name),
-                nodes=nodes,
+                nodes=sorted(self.nodes(claim.name) - {""}),
                 why=result.why,
                 lines=result.lines,
             )
@@ -451,6 +452,19 @@ class Runner:
         except Exception as error:
             self.stop(Stop(Status.FAULT, f"{type(error).__name__}: {error}"))
 
+    def take_signal(self) -> None:
+        """Stops; at a second signal, ends the hooks that run."""
+        if self.is_stopping:
+            self.hooks.end()
+        else:
+            running = len(self.hooks.running)
+            print(
+                f"stops: lets {running} hooks end, and a second signal ends them",
+                file=sys.stderr,
+                flush=True,
+            )
+        self.stop()
+
     def run(self) -> Status:
         """Goes through the plan.
 
@@ -469,18 +483,7 @@ class Runner:
                 # After SIGCONT, `sigtimedwait` would return a signal that never came.
                 if signal.sigpending() & SIGNALS:
                     signal.sigwait(SIGNALS)
-                    if self.is_stopping:
-                        self.hooks.end()
-                    else:
-                        print(
-                            (
-                                f"stops: lets {len(self.hooks.running)} hooks end, and a second"
-                                " signal ends them"
-                            ),
-                            file=sys.stderr,
-                            flush=True,
-                        )
-                    self.stop()
+                    self.take_signal()
         self.hooks.close()
         try:
             if self.fault is not None:

@@ -67,6 +67,19 @@ commit;
 # How many candidates are looked at for more steps than one.
 LOOKED = 200
 NAMED = "kind=? and partition=? and slot=? and node=? and turn=?"
+STEP_OF = (
+    "select id, is_done, worker, is_begun, is_open, failures, waits, pause, until,"
+    f" is_given_up, why, lines from steps where {NAMED}"
+)
+
+
+def begin_step(it: sqlite3.Connection, step: int, worker: str) -> frozenset[int]:
+    """Notes that the worker begins the step. The chunks that are copied already."""
+    it.execute(
+        "update steps set worker=?, is_begun=1, since=? where id=?", (worker, time.time(), step)
+    )
+    rows = it.execute("select chunk from entries where step=? and word='chunk'", (step,))
+    return frozenset(chunk for (chunk,) in rows)
 
 
 class SqliteBoard:
@@ -274,44 +287,38 @@ class SqliteBoard:
     def edition(self, it: sqlite3.Connection) -> str:
         return str(it.execute("select max(rowid) from plan").fetchone()[0])
 
+    def known(self, it: sqlite3.Connection) -> tuple[str, int]:
+        """The board's identity and token, which is the one that this runner left."""
+        identity, token = it.execute("select identity, token from board").fetchone()
+        if token != self.token:
+            raise Stop(
+                Status.OTHER_PLAN,
+                f"the board {self.path} is not as this runner left it: a copy of it came back",
+            )
+        return identity, token
+
     def claim(
         self, worker: str, edition: str, candidates: Iterable[Name], brief: Container[str] = ()
     ) -> list[Claim] | float | None:
-        query = (
-            "select id, is_done, worker, is_begun, is_open, failures, waits, pause, until,"
-            f" is_given_up, why, lines from steps where {NAMED}"
-        )
         soonest, claims = math.inf, list[Claim]()
         with self.change() as it:
             if self.is_taken("pause") or self.edition(it) != edition:
                 return None
-            identity, token = it.execute("select identity, token from board").fetchone()
-            if token != self.token:
-                raise Stop(
-                    Status.OTHER_PLAN,
-                    f"the board {self.path} is not as this runner left it: a copy of it came back",
-                )
+            identity, token = self.known(it)
             for place, name in enumerate(candidates):
                 if claims and place >= LOOKED:
                     break
                 if claims and name.kind not in brief:
                     continue
-                step, is_done, other, is_begun, is_open, *tried = it.execute(query, name).fetchone()
+                step, is_done, other, is_begun, is_open, *tried = it.execute(
+                    STEP_OF, name
+                ).fetchone()
                 tries = Tries(*tried)
                 if is_done or other or tries.is_given_up or tries.left():
                     soonest = min(soonest, LOOK if other else tries.left() or math.inf)
                     continue
                 token += 1
-                marks = frozenset(
-                    chunk
-                    for (chunk,) in it.execute(
-                        "select chunk from entries where step=? and word='chunk'", (step,)
-                    )
-                )
-                it.execute(
-                    "update steps set worker=?, is_begun=1, since=? where id=?",
-                    (worker, time.time(), step),
-                )
+                marks = begin_step(it, step, worker)
                 claims.append(
                     Claim(name, worker, token, bool(is_begun), bool(is_open), marks, tries)
                 )

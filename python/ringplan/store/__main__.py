@@ -26,6 +26,23 @@ from ringplan.store.traffic import Load, Run
 from ringplan.texts import read_plan, read_steps
 
 
+def counts_of(one: Run) -> dict[str, Any]:
+    """What there is to count of a run that has ended."""
+    store, executor = one.store, one.executor
+    counts: dict[str, Any] = {
+        "puts": len(store.puts),
+        "acknowledged": sum(put.is_acknowledged for put in store.puts),
+        "gets": len(store.gets),
+        "steps": len(executor.done),
+        "of": len(executor.steps),
+        "kills": one.kills,
+        "outages": store.outages,
+        "in doubt": store.in_doubt,
+    }
+    counts |= {"watched": one.judged.end()} if one.judged else {}
+    return counts | {"dead workers": executor.died}
+
+
 def run(
     bundle: str,
     steps: str,
@@ -52,35 +69,17 @@ def run(
     one.judged = Judged(store.history, bundle) if is_watched else None
     try:
         took = one.run()
-        acknowledged = [put for put in store.puts if put.is_acknowledged]
         short = store.short()
     finally:
         for member in store.members:
             member.node.kill()
         shutil.rmtree(folder)
     lines = list(store.history.lines())
-    counts: dict[str, Any] = {
-        "entries": len(lines) - 2,
-        "seconds": round(took, 2),
-        "puts": len(store.puts),
-        "acknowledged": len(acknowledged),
-        "gets": len(store.gets),
-    }
-    counts |= {
-        "steps": len(executor.done),
-        "of": len(executor.steps),
-        "kills": one.kills,
-        "outages": store.outages,
-        "in doubt": store.in_doubt,
-    }
-    counts |= {"watched": one.judged.end()} if one.judged else {}
-    return bundle + "\n".join(lines) + "\n", counts | {
-        "dead workers": executor.died,
-        "held at too few slots": short,
-    }
+    counts = {"entries": len(lines) - 2, "seconds": round(took, 2)} | counts_of(one)
+    return bundle + "\n".join(lines) + "\n", counts | {"held at too few slots": short}
 
 
-def main() -> None:
+def command_line() -> argparse.ArgumentParser:
     parser = argparse.ArgumentParser(
         prog="python3 -m ringplan.store", description=(__doc__ or "").split("\n\n")[0]
     )
@@ -115,6 +114,11 @@ def main() -> None:
             parser.add_argument(f"--{field.name}", action="store_true")
         else:
             parser.add_argument(f"--{field.name}", type=kind, default=field.default)
+    return parser
+
+
+def main() -> None:
+    parser = command_line()
     words = parser.parse_args()
     load = Load(**{field.name: getattr(words, field.name) for field in dataclasses.fields(Load)})
     bundle, steps, out = (pathlib.Path(path) for path in (words.bundle, words.steps, words.out))

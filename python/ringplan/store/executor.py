@@ -14,7 +14,7 @@ import random
 import threading
 import time
 from collections import defaultdict
-from collections.abc import Iterator, Sequence
+from collections.abc import Container, Iterator, Sequence
 from functools import partial
 
 from ringplan.store.coordinator import CHUNKS, Store
@@ -289,26 +289,32 @@ class Executor:
             for partition in self.store.partitions:
                 stack.enter_context(partition.lock)
             stack.enter_context(self.store.counting)
-            fallen = dict[tuple[int, int], int]()
-            for slot in self.store.all_slots():
-                if slot.mirror is not None and slot not in mirrored:
-                    fallen[slot.partition, slot.index] = count = self.lowered(
-                        slot, slot.mirror, past
-                    )
-                    self.store.take_back(slot, slot.mirror, count)
+            fallen = self.take_back(mirrored, past)
             self.store.history.replace(past, recorded(history, past), fallen)
             self.store.recount()
             self.steps, self.done, self.opened, self.marks = steps, done, opened, marks
-            left = [step for step in steps if step.step not in done]
-            self.store.barred = {
-                (self.member(step), step.place()[0]) for step in left if step.do == "mirror"
-            }
-            self.store.barred |= {
-                (self.member(step), partition)
-                for step in left
-                if step.do == "retire"
-                for partition in range(len(self.store.partitions))
-            }
+            self.bar([step for step in steps if step.step not in done])
+
+    def take_back(self, mirrored: Container[Slot], past: Past) -> dict[tuple[int, int], int]:
+        """Takes back each mirror that the new plan has not set: by slot, from which entry on."""
+        fallen = dict[tuple[int, int], int]()
+        for slot in self.store.all_slots():
+            if slot.mirror is not None and slot not in mirrored:
+                fallen[slot.partition, slot.index] = count = self.lowered(slot, slot.mirror, past)
+                self.store.take_back(slot, slot.mirror, count)
+        return fallen
+
+    def bar(self, left: Sequence[StepLine]) -> None:
+        """Keeps hints from the nodes that a step will mirror or retire."""
+        self.store.barred = {
+            (self.member(step), step.place()[0]) for step in left if step.do == "mirror"
+        }
+        self.store.barred |= {
+            (self.member(step), partition)
+            for step in left
+            if step.do == "retire"
+            for partition in range(len(self.store.partitions))
+        }
 
     # Workers.
     def do(self, step: StepLine, draw: random.Random) -> None:

@@ -180,29 +180,20 @@ class Run:
             if not self.store.dead:
                 self.store.get(key, draw, self.store.slots)
 
+    def thread(self, call: Callable[..., object], *what: object) -> threading.Thread:
+        return threading.Thread(target=self.guard, args=[call, *what])
+
     def run(self) -> float:
         """Runs clients, workers, faults and handoffs to their end. How many seconds that took."""
         with ThreadPoolExecutor() as pool:
             for started in [pool.submit(member.node.start) for member in self.store.members]:
                 started.result()
         begun, self.until = time.time(), time.time() + self.load.limit
-        clients = [
-            threading.Thread(target=self.guard, args=[self.client, number])
-            for number in range(self.load.clients)
-        ]
-        others = [
-            threading.Thread(target=self.guard, args=[call])
-            for call in (self.kill_servers, self.hand_off)
-        ]
+        clients = [self.thread(self.client, number) for number in range(self.load.clients)]
+        others = [self.thread(call) for call in (self.kill_servers, self.hand_off)]
         workers = [
-            threading.Thread(
-                target=self.guard,
-                args=[
-                    self.executor.work,
-                    self.draw(f"worker {number}"),
-                    self.until,
-                    self.load.pace,
-                ],
+            self.thread(
+                self.executor.work, self.draw(f"worker {number}"), self.until, self.load.pace
             )
             for number in range(self.load.workers)
         ]
