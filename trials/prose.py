@@ -1,8 +1,11 @@
 #!/usr/bin/env python3
-"""Measures the prose of README.md and docs/: for each page its words, their budget, the mean words
-of a sentence, and how often each rule of plain English is broken. Ends with 0 only if each page
-keeps its budget, a mean of 20 words, its bounds, and lines of at most 120 columns but in tables and
-code; and README 150 lines. With --list it also prints what breaks a rule.
+"""Measures the prose of README.md and docs/, of comments, and of the words that programs print.
+
+For each page: its words, their budget, the mean words of a sentence, and how often each rule of
+plain English is broken. For comments and printed words: the same rules, and how long doc comments
+are. Ends with 0 only if each page keeps its budget, a mean of 20 words, its bounds, and lines of at
+most 120 columns but in tables and code; if README has 150 lines; and if comments and printed words
+keep their bounds. With --list it also prints what breaks a rule.
 """
 import pathlib
 import re
@@ -11,6 +14,7 @@ import sys
 TOP = pathlib.Path(__file__).resolve().parent.parent
 BUDGETS = {
     "README.md": 1300,
+    "CHANGELOG.md": 400,
     "EVIDENCE.md": 3500,
     "DEFINITIONS.md": 5500,
     "DECISIONS.md": 4000,
@@ -51,6 +55,15 @@ BOUNDS = {
     "EVIDENCE.md": [0, 1, 4, 0, 0, 1, 8, 0, 89],
     "RUNNING.md": [0, 0, 1, 0, 0, 2, 1, 2, 1],
 }
+# The same of the comments of .rt files, of definitions and proofs, and of the words that programs
+# print; how many words the comments of .rt files have; and how many doc comments have over LONG.
+# These counts can only fall.
+TEXTS = {
+    "comments of .rt": [2, 17, 16, 1, 0, 2, 25, 16, 0],
+    "comments of .antt": [13, 26, 10, 0, 0, 9, 25, 34, 0],
+    "printed words": [0, 0, 3, 0, 0, 0, 11, 4, 0],
+}
+COMMENTS, LONG, MOST_LONG = 61500, 30, 40
 # One clause a sentence: how often all pages together may have these.
 CLAUSES, MOST_CLAUSES = r"\b(?:of|by) which\b|\basks? nothing of\b|\bsays of\b", 20
 
@@ -140,9 +153,81 @@ def counts_of(name: str, text: str) -> list[int]:
     return [*(sum(column) for column in zip(*rows)), len(crowded)]
 
 
+def comments(text: str, mark: str) -> list[str]:
+    """The comments of a file, each as one line. `mark` is how a comment begins."""
+    found, last = list[str](), ""
+    for line in text.splitlines():
+        begin = re.match(rf"\s*({mark}) ?(.*)", line)
+        if begin is None or not begin[2].strip():
+            last = ""
+        elif begin[1] == last:
+            found[-1] += " " + begin[2]
+        else:
+            last = begin[1]
+            found.append(f"{last} {begin[2]}")
+    return found
+
+
+def printed(text: str) -> list[str]:
+    """The words that a file's literals print: those of at least four words."""
+    literals = re.findall(r'"((?:[^"\\]|\\.)*)"', text)
+    return [it.replace("\\n", " ") for it in literals if len(re.findall(r"[a-z]+", it)) > 3]
+
+
+def counts_in(name: str, blocks: list[str]) -> list[int]:
+    """How often these comments or words break each rule, but that of cells."""
+    plain = (re.sub(r"`[^`]*`", "`x`", block) for block in blocks)
+    sentences = [it for block in plain for it in split(block)]
+    rows = [broken(it) for it in sentences]
+    if "--list" in sys.argv:
+        for row, it in zip(rows, sentences):
+            for rule, count in zip(RULES, row):
+                if count:
+                    print(f"{name}: {rule}: {it}")
+    return [*(sum(column) for column in zip(*rows)), 0]
+
+
+def see_crates() -> list[str]:
+    """Measures the comments and literals of all crates. Which bounds are not kept."""
+    codes = [path.read_text() for path in sorted((TOP / "crates").glob("*/src/**/*.rt"))]
+    programs = [
+        path.read_text()
+        for path in sorted((TOP / "crates").glob("*/src/**/*.rt"))
+        if not path.parts[-3].startswith("tests_")
+    ]
+    logic = [
+        path.read_text()
+        for part in ("specs", "proofs")
+        for path in sorted((TOP / "crates").glob(f"*/{part}/**/*.antt"))
+    ]
+    said = [it for text in codes for it in comments(text, "//[/!]?")]
+    words = sum(len(it.split()) - 1 for it in said)  # but for the marks
+    long = sum(len(it.split()) > LONG + 1 for it in said if it.startswith("/// "))
+    found = {
+        "comments of .rt": said,
+        "comments of .antt": [it for text in logic for it in comments(text, "--")],
+        "printed words": [it for text in programs for it in printed(text)],
+    }
+    faults = []
+    for name, blocks in found.items():
+        counts = counts_in(name, blocks)
+        print(f"{name:18} breaks {counts}")
+        faults += [
+            f"{name}: {rule}: {count} of {bound}"
+            for rule, count, bound in zip(RULES, counts, TEXTS[name])
+            if count > bound
+        ]
+    print(
+        f"comments of .rt    {words:6} words of {COMMENTS}, {long} over {LONG} words of {MOST_LONG}"
+    )
+    if words > COMMENTS or long > MOST_LONG:
+        faults.append("comments of .rt")
+    return faults
+
+
 def main() -> int:
-    faults, others, clauses = [], 0, 0
-    for path in [TOP / "README.md", *sorted((TOP / "docs").glob("*.md"))]:
+    faults, others, clauses = see_crates(), 0, 0
+    for path in [TOP / "README.md", TOP / "CHANGELOG.md", *sorted((TOP / "docs").glob("*.md"))]:
         text = path.read_text()
         words, length, counts = len(text.split()), mean(prose(text)), counts_of(path.name, text)
         others += 0 if path.name in BUDGETS else words
