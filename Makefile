@@ -27,7 +27,7 @@ KIT = $(abspath $(dir $(shell readlink -f "$$(command -v rt)"))..)
 TO = $(DESTDIR)$(PREFIX)
 
 MODULES := $(shell cd python && find ringplan -name '*.py' -o -name py.typed)
-TEXTS := README.md $(shell find docs -type f ! -name '*.py' ! -name '*.pyc') $(wildcard c/*.c c/*.go c/*.py examples/*.bundle) c/jobs.h
+TEXTS := README.md CHANGELOG.md $(shell find docs -type f ! -name '*.py' ! -name '*.pyc') $(wildcard c/*.c c/*.go c/*.py examples/*.bundle) c/jobs.h
 PACKAGES := lib/python3/dist-packages
 # What says to Python's tools that the package is installed, and which commands it has.
 INFO := $(PACKAGES)/ringplan-$(VERSION).dist-info
