@@ -9,10 +9,10 @@ refused.
     edits/changed.py record     notes in edits/refused.txt that the edits that are laid were
                                 refused: after a gate that passed
 
-A crate has changed where the sum of its sources, definitions, proofs and edits is another one than
-edits/refused.txt has. At most EDITS are laid at once, since an edit costs some 50 processor seconds
-with the check of its crate, but for a crate that has more; the crates that are left out are named,
-and stay due.
+A crate has changed if the sum of its sources, definitions, proofs and edits, without comments, is
+not the one in edits/refused.txt. At most EDITS are laid at once, since an edit costs some 50
+processor seconds with the check of its crate, but for a crate that has more. The crates that are
+left out are named, and stay due.
 """
 import hashlib
 import shutil
@@ -22,6 +22,12 @@ from pathlib import Path
 TOP = Path(__file__).resolve().parent.parent
 NOTED = TOP / "edits" / "refused.txt"
 EDITS = 8
+
+
+def plain(path: Path) -> bytes:
+    """A file without the lines that are comments."""
+    lines = path.read_bytes().splitlines(keepends=True)
+    return b"".join(it for it in lines if not it.lstrip().startswith((b"//", b"--")))
 
 
 def sum_of(crate: str) -> str:
@@ -34,9 +40,7 @@ def sum_of(crate: str) -> str:
     ]
     total = hashlib.sha256()
     for path in sorted([*files, *(TOP / "edits" / crate).glob("*.edit")]):
-        total.update(
-            f"{path.relative_to(TOP)}\n".encode() + hashlib.sha256(path.read_bytes()).digest()
-        )
+        total.update(f"{path.relative_to(TOP)}\n".encode() + hashlib.sha256(plain(path)).digest())
     return total.hexdigest()[:16]
 
 
