@@ -14,7 +14,7 @@ from ringplan import library
 def approved_plan(ring: bytes, change: bytes) -> bytes:
     """Returns the ring with a plan and a certificate, to which the checker said yes.
 
-    Raises RuntimeError where there is none.
+    Raises RuntimeError if there is none.
     """
     planned = library.plan(ring + change)
     if planned.status is not library.Status.DONE:

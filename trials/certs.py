@@ -320,7 +320,7 @@ class Ordered:
 
 
 def verdict(plan: Drawn) -> str | tuple[str, int, int] | None:
-    """None where there is a certificate; else why there is none: "plan", or the node that has too
+    """None if there is a certificate, otherwise why there is none: "plan", or the node that has too
     many copies at once with the two numbers.
     """
     order = Ordered(plan)

@@ -1,13 +1,13 @@
 #!/usr/bin/env python3
 """Refuses each growth of memory in turn, one to a run, and each start of a thread:
 trials/growths.py, once `rt ci` or `rt run` has built crates/ringplan and crates/tests_growths. It
-needs a C compiler, for what it preloads; where there is none it says so and ends with 0.
+needs a C compiler, for what it preloads. Without one it says so and ends with 0.
 
 Of each case of `tests_cases` the program prints what it prints with memory and all its threads, or
 `no 60` with status 3; the checks are also done by three workers. Of a drive by several workers, in
 which the threads' turns are not the same in two runs, the first line alone is compared. The stores
 of `tests_growths`, which run through all kinds of event, print the same, for an event that was
-refused memory is applied once more; or they end with status 1 and print nothing, where the growth
+refused memory is applied again; or they end with status 1 and print nothing, where the growth
 was not an event's.
 """
 import collections

@@ -88,7 +88,7 @@ class Cut:
         self.out.append((number, " ".join(event) + " = " + " ".join(reply)))
 
     def keeps(self, number: int, event: list[str]) -> bool:
-        """Whether the part has the entry. Numbers a put or a get that the event names anew."""
+        """Whether the part has the entry. A put or a get of the event gets its new number."""
         if event[0] in ("put", "get"):
             return self.keeps_key(event)
         if event[0] == "handoff":

@@ -55,9 +55,9 @@ BOUNDS = {
     "EVIDENCE.md": [0, 1, 4, 0, 0, 1, 8, 0, 89],
     "RUNNING.md": [0, 0, 1, 0, 0, 2, 1, 2, 1],
 }
-# The same of the comments of .rt files, of definitions and proofs, and of the words that programs
-# print; how many words the comments of .rt files have; and how many doc comments have over LONG.
-# These counts can only fall.
+# How often comments of .rt files, comments of definitions and proofs, and printed words break each
+# rule at most; how many words the comments of .rt files have; and how many doc comments have over
+# LONG. These counts can only fall.
 TEXTS = {
     "comments of .rt": [2, 17, 16, 1, 0, 2, 25, 16, 0],
     "comments of .antt": [13, 26, 10, 0, 0, 9, 25, 34, 0],

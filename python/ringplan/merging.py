@@ -96,7 +96,7 @@ OTHERS = {it.encode(): shape_of(it) for it in texts.EVENTS if it not in ("put", 
 @dataclass(slots=True)
 class Counter:
     """The names of one prefix whose digits count up: by the digits less `base` the name's number
-    plus one, or 0 where there is no such name.
+    plus one, or 0 without such a name.
     """
 
     base: int

@@ -1,8 +1,8 @@
 """A page that shows how far a plan is: the picture of `ringplan draw` with the history so far, and
 the steps that run or wait; also as JSON, and for Prometheus.
 
-The page needs nothing from outside. A script asks for it anew each second; without scripts the
-browser loads it anew.
+The page needs nothing from outside. A script asks for it again each second; without scripts the
+browser loads it again.
 """
 
 from __future__ import annotations

@@ -381,7 +381,7 @@ class Store:
     def short(self) -> int:
         """How many acknowledged puts are at so few slots that a get may miss them.
 
-        The disks of servers that are dead for good count: these run once more for it.
+        The disks of servers that are dead for good count: these run again for it.
         """
         for member in self.dead:
             member.node.start()

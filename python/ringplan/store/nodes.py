@@ -148,7 +148,7 @@ class ServerNode(Node, abc.ABC, Generic[Link]):
     def ask(self, call: Callable[[Link], Answer]) -> Answer:
         """What the call returns.
 
-        A connection to a process that is dead by now is made anew once; a broken one is `Gone`.
+        A connection to a process that is dead by now is made again once; a broken one is `Gone`.
         """
         known: tuple[int, Link] | None = getattr(self.local, "connection", None)
         try:
