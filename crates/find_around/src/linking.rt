@@ -56,7 +56,7 @@ impl Search<'_> {
         Ok(())
     }
 
-    // The same for one step. Returns how many looks are left.
+    // Looks at one step. Returns how many looks are left.
     fn keep_of(
         &self,
         needs: &mut Needs,

@@ -71,7 +71,7 @@ impl Search<'_> {
         }
     }
 
-    // The same for one slot. The drop of a node's last move ends its hold.
+    // Looks at one slot. The drop of a node's last move ends its hold.
     fn find_held_of(&self, held: &mut [Option<Slot>], slot: Slot) {
         hold(held, first_owner(self.task.ring, slot), slot);
         let mut next = self.moves.first(slot);

@@ -23,7 +23,7 @@ fn numbered(alloc: Global, nodes: &[NodeId]) -> Result<Vec<u32>, Refusal> {
 /// It moves only the slots of leaving nodes, and as many more as give each joining node its share of all slots,
 /// rounded down.
 ///
-/// The same input gives the same plan.
+/// Equal inputs give equal plans.
 ///
 /// Fails with `NoPlan` if a joining node is a member, a leaving node is not, or fewer members than slots
 /// remain; and with `OutOfMemory`.

@@ -20,7 +20,7 @@ pub const RING: &[u8] =
 pub const FOUR: &[u8] =
     b"ring 1\nspace 4\nquorum 3 2 2\nnode a 4 in\nnode b 4 in\nnode c 4 in\nnode d 4 in\nslots 0 a b c\nslots 1 a b c\nslots 2 a b c\nslots 3 a b c\nend\n";
 
-/// The same with another member, e.
+/// A ring with another member, e.
 pub const FIVE: &[u8] =
     b"ring 1\nspace 4\nquorum 3 2 2\nnode a 4 in\nnode b 4 in\nnode c 4 in\nnode d 4 in\nnode e 4 in\nslots 0 a b c\nslots 1 a b c\nslots 2 a b c\n\
     slots 3 a b c\nend\n";
