@@ -22,7 +22,7 @@ fn add_plain_fact<'a>(facts: &mut Rows, text: &'a [u8], steps: &mut Vec<u32>) ->
     ensures none { IfNone result (facts.new ≡ facts.old) }
 {
     let rest = after_word(text, b"fact")?;
-    let rest = plain_numbers(rest, steps)?;
+    let rest = plain_numbers(rest, 1024, steps)?;
     let rest = after_word(rest, b"\n")?;
     if facts.len() >= 262144 || steps.len() < 2 || steps.len() > 1024 {
         return None;
@@ -67,7 +67,7 @@ fn add_plain_chain<'a>(
     let rest = after_word(text, b"chain ")?;
     let (name, rest) = plain_word(rest);
     let node = ring.number_of(name)?;
-    let rest = plain_numbers(rest, steps)?;
+    let rest = plain_numbers(rest, 131072, steps)?;
     let rest = after_word(rest, b"\n")?;
     let of = NodeSide {
         node,

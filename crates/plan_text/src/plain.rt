@@ -101,7 +101,7 @@ fn plain_after<'a>(plan: &Plan, text: &'a [u8], after: &mut Vec<u32>) -> Option<
         after.clear();
         return after_word(text, b"\n");
     };
-    let rest = plain_numbers(rest, after)?;
+    let rest = plain_numbers(rest, 4096, after)?;
     let rest = after_word(rest, b"\n")?;
     if after.is_empty() || after.len() > 4096 || !ascend_below(after.as_slice(), plan.len()) {
         return None;

@@ -56,16 +56,16 @@ pub fn plain_number(text: &[u8]) -> Option<(u32, &[u8])>
     None
 }
 
-/// Takes numbers, each after a space, into `out`, and returns the text after them.
+/// Takes numbers, each after a space, into `out`, and returns the text after them. None if there are more than `most`.
 #[inline(always)]
-pub fn plain_numbers<'a>(text: &'a [u8], out: &mut Vec<u32>) -> Option<&'a [u8]>
+pub fn plain_numbers<'a>(text: &'a [u8], most: usize, out: &mut Vec<u32>) -> Option<&'a [u8]>
     ensures { IfSome result (λ rest. text.now ≡ spaced (map decimal out.new.items) ++ rest.now) }
 {
     out.clear();
     let mut rest = text;
     'numbers: while let Some(digits) = after_word(rest, b" ") {
         let (number, behind) = plain_number(digits)?;
-        if out.push(number).is_err() {
+        if out.len() >= most || out.push(number).is_err() {
             return None;
         }
         rest = behind;
