@@ -28,7 +28,7 @@ fn source_bits(source: &Source) -> u32 {
             let mut bits = 256u32;
             for index in indices.as_slice() {
                 if *index < 8 {
-                    bits |= 1 << *index;
+                    bits |= 1 << u32::from(*index);
                 }
             }
             bits

@@ -282,7 +282,7 @@ impl Search<'_> {
         };
         let partition = it.slot.partition;
         for index in from.as_slice() {
-            let index = *index;
+            let index = u32::from(*index);
             let owner = self.owner_at(Slot { partition, index }, copy);
             self.push_giver(groups, owner)?;
         }

@@ -143,7 +143,7 @@ impl Search<'_> {
         };
         let partition = it.slot.partition;
         for index in from.as_slice() {
-            let index = *index;
+            let index = u32::from(*index);
             if self.is_unreadable(Slot { partition, index }, copy) {
                 return true;
             }

@@ -5,8 +5,8 @@ use crate::needs::Needs;
 use crate::sources::Listing;
 use find_rounds::add;
 use helpers::{at, lower, raise, set, small};
-use plan_text::{Plan, Source, Step};
-use ring_names::{Listed, NodeId, Refusal, Slot};
+use plan_text::{Indexes, Plan, Source, Step};
+use ring_names::{NodeId, Refusal, Slot};
 use std::alloc::Global;
 use std::collections::BinaryHeap;
 
@@ -68,17 +68,10 @@ fn listed(alloc: Global, slot: Slot, listing: &Listing) -> Result<Step, Refusal>
             slots.push(index)?;
         }
     }
-    Ok(Step::Copy(slot, Source::Slots(Listed::from_vec(slots))))
-}
-
-fn same_source(alloc: Global, source: &Source) -> Result<Source, Refusal> {
-    Ok(match source {
-        Source::Owner => Source::Owner,
-        Source::Slots(from) => {
-            let slots = Vec::from_slice(alloc, from.as_slice())?;
-            Source::Slots(Listed::from_vec(slots))
-        }
-    })
+    match Indexes::of(&slots) {
+        Some(indexes) => Ok(Step::Copy(slot, Source::Slots(indexes))),
+        None => Err(Refusal::NoPlan),
+    }
 }
 
 impl Search<'_> {
@@ -183,7 +176,7 @@ impl Search<'_> {
             ),
             Step::Copy(slot, source) => match self.listings.get(&number) {
                 Some(listing) => listed(alloc, *slot, listing)?,
-                None => Step::Copy(*slot, same_source(alloc, source)?),
+                None => Step::Copy(*slot, source.copy()),
             },
             Step::Switch(slot) => Step::Switch(*slot),
             Step::Drop(slot, node) => match it {

@@ -125,7 +125,7 @@ impl<'a> Needs<'a> {
             Source::Slots(from) => {
                 for index in from.as_slice() {
                     let partition = slot.partition;
-                    let index = *index;
+                    let index = u32::from(*index);
                     self.switches(paths, Slot { partition, index }, number)?;
                 }
                 Ok(())

@@ -61,7 +61,7 @@ impl Sides {
             Source::Slots(from) => {
                 for index in from.as_slice() {
                     let partition = slot.partition;
-                    let index = *index;
+                    let index = u32::from(*index);
                     self.give(stays, Slot { partition, index }, number)?;
                 }
                 Ok(())

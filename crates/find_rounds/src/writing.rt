@@ -6,8 +6,8 @@ use crate::steps::add;
 use crate::task::Task;
 use helpers::{at, row, small};
 use plan_cert::{Cert, Chains};
-use plan_text::{Plan, Source, Step};
-use ring_names::{Listed, Lists, NodeId, Refusal, Rows, Slot};
+use plan_text::{Indexes, Plan, Source, Step};
+use ring_names::{Lists, NodeId, Refusal, Rows, Slot};
 use std::alloc::Global;
 
 /// The nodes that join, and those that retire, by number.
@@ -29,12 +29,14 @@ struct Writer<'a> {
     readers: Lists<u32, u32>,
 }
 
-fn source(alloc: Global, listed: &[u32]) -> Result<Source, Refusal> {
+fn source(listed: &[u32]) -> Result<Source, Refusal> {
     if listed.is_empty() {
         return Ok(Source::Owner);
     }
-    let slots = Vec::from_slice(alloc, listed)?;
-    Ok(Source::Slots(Listed::from_vec(slots)))
+    match Indexes::of(listed) {
+        Some(indexes) => Ok(Source::Slots(indexes)),
+        None => Err(Refusal::NoPlan),
+    }
 }
 
 impl<'a> Writer<'a> {
@@ -84,7 +86,7 @@ impl<'a> Writer<'a> {
         let mut after = self.links(parties)?;
         let mirror = self.mirror(step, &after)?;
         after.push(mirror)?;
-        let source = source(self.task.alloc, listed)?;
+        let source = source(listed)?;
         add(&mut self.plan, Step::Copy(step.slot, source), &after)
     }
 

@@ -55,10 +55,11 @@ fn has_at_owner(store: &World, put: u32, slot: Slot) -> bool {
 fn gives(store: &World, it: &Mirrored, source: &Source, put: u32) -> bool {
     match source {
         Source::Owner => has_put(store, it.owner, put, it.slot.index),
-        Source::Slots(indices) => indices
-            .as_slice()
-            .iter()
-            .any(|index| has_at_owner(store, put, it.sibling(*index))),
+        Source::Slots(indices) => indices.as_slice().iter().any(|index| has_at_owner(
+            store,
+            put,
+            it.sibling(u32::from(*index)),
+        )),
     }
 }
 

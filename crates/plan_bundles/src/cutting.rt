@@ -4,8 +4,8 @@ use crate::groups::Groups;
 use crate::pieces::{Pieces, Place, waits_in};
 use find_rounds::add;
 use helpers::{at, set, small};
-use plan_text::{Plan, Source, Step};
-use ring_names::{Listed, Refusal};
+use plan_text::{Plan, Step};
+use ring_names::Refusal;
 use ring_table::Ring;
 use std::alloc::Global;
 
@@ -85,21 +85,6 @@ impl<'a> Windows<'a> {
     }
 }
 
-fn again(alloc: Global, step: &Step) -> Result<Step, Refusal> {
-    Ok(match step {
-        Step::Join(node) => Step::Join(*node),
-        Step::Mirror(slot, node) => Step::Mirror(*slot, *node),
-        Step::Copy(slot, Source::Owner) => Step::Copy(*slot, Source::Owner),
-        Step::Copy(slot, Source::Slots(from)) => {
-            let from = Vec::from_slice(alloc, from.as_slice())?;
-            Step::Copy(*slot, Source::Slots(Listed::from_vec(from)))
-        }
-        Step::Switch(slot) => Step::Switch(*slot),
-        Step::Drop(slot, node) => Step::Drop(*slot, *node),
-        Step::Retire(node) => Step::Retire(*node),
-    })
-}
-
 #[derive(Drop)]
 struct Cutting {
     alloc: Global,
@@ -120,7 +105,6 @@ impl Cutting {
             window,
             dependencies,
         )?;
-        let step = again(self.alloc, step)?;
         let (Some(plan), Some(steps)) = (
             self.pieces.plans.get_mut(window as usize),
             self.pieces.steps.get_mut(window as usize),
@@ -129,7 +113,7 @@ impl Cutting {
         };
         let place = Place {
             window,
-            number: add(plan, step, &after)?,
+            number: add(plan, step.copy(), &after)?,
         };
         steps.push(number)?;
         self.pieces.places.push(place)?;

@@ -137,7 +137,7 @@ fn add_owners(
     copies: &mut Lists<NodeSide, u32>,
     served: &Served,
     partition: u32,
-    from: &[u32],
+    from: &[u8],
     number: u32,
 ) -> Result<(), Refusal>
     requires partition { partition < served.now.ring.now.q }
@@ -151,7 +151,7 @@ fn add_owners(
     'slots: while let Some((first, later)) = rest.split_first() {
         let slot = Slot {
             partition,
-            index: *first,
+            index: u32::from(*first),
         };
         let owner = served.present.at(served.ring, slot).owner;
         add_copy(copies, served.ring, owner, Side::Give, number)?;

@@ -42,7 +42,7 @@ fn are_owners_spared(
     ring: &Ring,
     present: &Present,
     partition: u32,
-    from: &[u32],
+    from: &[u8],
 ) -> bool
     requires partition { partition < ring.now.q }
     requires indexes { list_all (λ i. nat_lt i ring.now.n) from.now ≡ true }
@@ -54,7 +54,7 @@ fn are_owners_spared(
     };
     let slot = Slot {
         partition,
-        index: *index,
+        index: u32::from(*index),
     };
     is_spared(dead, present.at(ring, slot).owner)
         && are_owners_spared(dead, ring, present, partition, others)

@@ -26,7 +26,7 @@ fn listed_owners(
     ring: &Ring,
     present: &Present,
     partition: u32,
-    from: &[u32],
+    from: &[u8],
 ) -> Result<Vec<Value>, Refusal>
     requires partition { partition < ring.now.q }
     requires indexes { list_all (λ i. nat_lt i ring.now.n) from.now ≡ true }
@@ -39,7 +39,7 @@ fn listed_owners(
     for index in from {
         let slot = Slot {
             partition,
-            index: *index,
+            index: u32::from(*index),
         };
         out.push(name_value(alloc, ring, present.at(ring, slot).owner)?)?;
     }

@@ -22,14 +22,14 @@ use plan_order::Context;
 use plan_text::{Plan, Source, Step};
 use ring_names::{NodeId, Refusal, Slot};
 
-fn is_among(number: u32, numbers: &[u32]) -> bool
+fn is_among(number: u8, numbers: &[u8]) -> bool
     ensures { result ≡ list_any (λ x. number == x) numbers.now }
 {
     numbers.iter().any(|other| number == *other)
 }
 
 #[tactic(auto, using(crate::proofs::Slots::any_has))]
-fn are_different(numbers: &[u32]) -> bool
+fn are_different(numbers: &[u8]) -> bool
     ensures { result ≡ all_different numbers.now }
 {
     let Some((first, others)) = numbers.split_first() else {
@@ -77,13 +77,13 @@ fn is_settled_slot(context: &Context, number: u32, slot: Slot) -> bool
     are_settled(context, number, context.plan.slot_steps(slot))
 }
 
-fn is_settled(context: &Context, number: u32, slot: Slot, from: &[u32]) -> bool
+fn is_settled(context: &Context, number: u32, slot: Slot, from: &[u8]) -> bool
     ensures { result ≡ is_settled context.now.plan.now (order context.now) number slot from.now }
 {
     from.iter().all(|index| {
         let listed = Slot {
             partition: slot.partition,
-            index: *index,
+            index: u32::from(*index),
         };
         is_settled_slot(context, number, listed)
     })
@@ -227,7 +227,7 @@ fn check_mirror(
     Ok(())
 }
 
-fn check_listed(context: &Context, number: u32, slot: Slot, from: &[u32]) -> Result<(), Refusal>
+fn check_listed(context: &Context, number: u32, slot: Slot, from: &[u8]) -> Result<(), Refusal>
     ensures { Gives result
         (copy_clauses context.now.ring.now context.now.plan.now (order context.now) number slot from.now) }
 {

@@ -142,7 +142,7 @@ fn owners_before(before: &Before, slot: Slot, source: &Source) -> Result<BTreeSe
     }
 }
 
-fn listed_owners(before: &Before, partition: u32, from: &[u32]) -> Result<BTreeSet<NodeId>, Refusal>
+fn listed_owners(before: &Before, partition: u32, from: &[u8]) -> Result<BTreeSet<NodeId>, Refusal>
     requires partition { partition < before.now.ring.now.q }
     requires indexes { list_all (λ i. nat_lt i before.now.ring.now.n) from.now ≡ true }
     ensures ok { IfOk result
@@ -154,7 +154,7 @@ fn listed_owners(before: &Before, partition: u32, from: &[u32]) -> Result<BTreeS
     for k in (0..from.len()).rev() {
         let slot = Slot {
             partition,
-            index: from[k],
+            index: u32::from(from[k]),
         };
         add_owner(before, slot, &mut party)?;
     }

@@ -3,11 +3,12 @@ use Rattle.std.proofs.Common.{◌≡◌, ℕ, ◌+◌, ◌<◌, Bool, true, fals
 use Rattle.std.proofs.Common.{append-nil}
 use Rattle.std.specs.Option.{option_or}
 use Rattle.plan_text.proofs.Terms.{Slot, NodeId, Step, Join, Mirror, Copy, Switch, Drop, Retire, Source, Planned, is_on, steps_of, joins, retires}
-use Rattle.ring_names.specs.declared.lists.Lists.{Lists}
 use Rattle.ring_names.proofs.InLists.{has_push, different_push}
 use Rattle.plan_text.specs.declared.index.NodeIndex.{NodeIndex}
 use Rattle.plan_text.specs.declared.index.Index.{Index}
-use Rattle.plan_text.specs.Held.{numbers_at, first_of, holds, HoldsNodes, HoldsSteps}
+use Rattle.plan_text.specs.declared.slot_steps.SlotSteps.{SlotSteps}
+use Rattle.plan_text.specs.Held.{first_of, holds, HoldsNodes, HoldsSteps}
+use Rattle.plan_text.specs.SlotSteps.{numbers_at}
 use Rattle.plan_text.specs.Steps.{is_slot, is_join_of, is_retire_of, first_step}
 use Rattle.plan_text.proofs.Pushed.{steps_of-push, named-push}
 
@@ -87,7 +88,7 @@ on_slot slot t (inr (inr (inr (x, e)))) = subst (OnSlot slot) (sym e) (λ s. ref
 
 -- ---- the index with one more step, which is the slot's, joins a node or retires one
 
-pub HoldsSteps-slot : (a : Index) (b : Lists Slot ℕ) (plan : List Planned) (x : Planned) (slot : Slot) (number : ℕ) → length plan ≡ number → OnSlot slot x.step → ((s : Slot) → numbers_at b s ≡ cond (is_slot s slot) (numbers_at a.slots s ++ number ∷ []) (numbers_at a.slots s)) → HoldsSteps a plan → HoldsSteps (record { slots = b; joins = a.joins; retirements = a.retirements }) (plan ++ x ∷ [])
+pub HoldsSteps-slot : (a : Index) (b : SlotSteps) (plan : List Planned) (x : Planned) (slot : Slot) (number : ℕ) → length plan ≡ number → OnSlot slot x.step → ((s : Slot) → numbers_at b s ≡ cond (is_slot s slot) (numbers_at a.slots s ++ number ∷ []) (numbers_at a.slots s)) → HoldsSteps a plan → HoldsSteps (record { slots = b; joins = a.joins; retirements = a.retirements }) (plan ++ x ∷ [])
 HoldsSteps-slot a b plan x slot number n on more h = record {
   slots = λ s. more s ∙ rw (h.slots s, ← on.0 s, ← n) (sym (steps_of-push plan x s));
   joins = holds-none joins is_join_of a.joins plan x on.1 h.joins;
@@ -95,7 +96,7 @@ HoldsSteps-slot a b plan x slot number n on more h = record {
 }
 
 -- a step that is no slot's
-off_slot : (a : Lists Slot ℕ) (plan : List Planned) (x : Planned) (t : Step) → x.step ≡ t → ((s : Slot) → is_on s t ≡ false) → ((s : Slot) → numbers_at a s ≡ steps_of plan s) → (s : Slot) → numbers_at a s ≡ steps_of (plan ++ x ∷ []) s
+off_slot : (a : SlotSteps) (plan : List Planned) (x : Planned) (t : Step) → x.step ≡ t → ((s : Slot) → is_on s t ≡ false) → ((s : Slot) → numbers_at a s ≡ steps_of plan s) → (s : Slot) → numbers_at a s ≡ steps_of (plan ++ x ∷ []) s
 off_slot a plan x t e off h s =
     h s ∙ sym (steps_of-push plan x s ∙ ap (λ (b : Bool). cond b (steps_of plan s ++ length plan ∷ []) (steps_of plan s)) (ap (is_on s) e ∙ off s))
 

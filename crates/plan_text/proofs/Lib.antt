@@ -1,5 +1,6 @@
 pub mod Terms
 pub mod Pushed
+pub mod SlotLists
 pub mod Indexed
 pub mod Searched
 pub mod Below

@@ -2,16 +2,13 @@
 use Rattle.std.proofs.Common.{◌≡◌, ℕ, ◌≤◌, Bool, true, false, not, nat_lt, nat_le, ◌||◌, List, [], ◌∷◌, ◌++◌, length, codes, refl, ap, ◌∙◌, ◌-◌, arith, rules, ◌==◌}
 use Rattle.std.specs.List.{list_all}
 use Rattle.std.proofs.lemmas.Bool.{eqb-false, not-false}
-use Rattle.plan_text.proofs.Terms.{has, NodeId, Slot, RingValue, names_of, is_member, IsRing, name_at, Said, Step, Join, Mirror, Copy, Switch, Drop, Retire, Source, Owner, Slots, Planned, source_of, step_of, planned_of, dependencies}
+use Rattle.plan_text.proofs.Terms.{has, NodeId, Slot, RingValue, names_of, is_member, IsRing, name_at, Step, Join, Mirror, Copy, Switch, Drop, Retire, Source, Owner, Slots, Planned, planned_of, dependencies}
 use Rattle.plan_text.proofs.Terms.{joined, retired, kind_fields, after_fields, step_fields}
 use Rattle.texts.proofs.Forms.{IsPlain, Any, Always, Last, Free, Passes, Steps, pushed, Begins, begins_so, is_word, has_field, Form, LineForm, Section, Case, Chosen, case_of, choice_at, choice, optional_at, optional, anywhere, pair, both}
 use Rattle.texts.proofs.Forms.{mapped, room, judged, free_row, row, line, line_as, until, no-line, goes_on, turned, then, made, header, ending, Refusal, BadLine, TooLarge, Repeated, ascending, are_small}
 use Rattle.ring_names.specs.declared.refusal.Refusal.TheVariants.{LaterDependency}
 use Rattle.ring_table.proofs.LineLaws.{space-le}
 use Rattle.ring_table.proofs.NodesLaws.{node_form}
-use Rattle.plan_text.specs.declared.said.Said.TheVariants as said
-use Rattle.plan_text.specs.declared.said.SaidSource.{SaidSource}
-use Rattle.plan_text.specs.declared.said.SaidSource.TheVariants as said_source
 use Rattle.plan_text.specs.Spelling.{slot_fields, source_fields}
 use Rattle.plan_text.specs.Reading.{slot_at, slot_node_at, joining_at, retiring_at, source_at, copy_at, kind_at, after_at, said_at, steps_from}
 use Rattle.plan_text.proofs.Below.{below, below_all}
@@ -20,18 +17,8 @@ pub words-plain : IsPlain (codes "plan") × IsPlain (codes "1") × IsPlain (code
     × IsPlain (codes "switch") × IsPlain (codes "drop") × IsPlain (codes "retire") × IsPlain (codes "owner") × IsPlain (codes "slots") × IsPlain (codes "after")
 words-plain = (search rules)
 
--- what is said of a step, with what is kept of it
-pub said-step : (s : Step) → (v : Said) × (step_of v ≡ s)
-said-step (Join x) = (said.Join x, refl)
-said-step (Mirror s x) = (said.Mirror s x, refl)
-said-step (Copy s Owner) = (said.Copy s said_source.Owner, refl)
-said-step (Copy s (Slots from)) = (said.Copy s (said_source.Slots from), refl)
-said-step (Switch s) = (said.Switch s, refl)
-said-step (Drop s x) = (said.Drop s x, refl)
-said-step (Retire x) = (said.Retire x, refl)
-
-pub said-planned : (x : Planned) → (v : Said × List ℕ) × (planned_of v ≡ x)
-said-planned x = (let s = said-step x.step in ((s.0, x.after), ap (λ (t : Step). record { step = t; after = x.after }) s.1))
+pub said-planned : (x : Planned) → (v : Step × List ℕ) × (planned_of v ≡ x)
+said-planned x = ((x.step, x.after), refl)
 
 -- a step begins with a word that is not `end`
 pub step-word : (names : List (List ℕ)) (s : Step) → (w : List ℕ) × (fs : List (List ℕ)) × (kind_fields names s ≡ w ∷ fs) × (is_word (codes "end") w ≡ false)
@@ -77,17 +64,17 @@ module _ (ring : RingValue) where
 
   -- where a copy reads, after its word
   abbrev SourceCase : Type 1
-  SourceCase = Case (IsRing ring) Free SaidSource (λ v. source_fields (source_of v)) (λ v. SourceFits (source_of v))
+  SourceCase = Case (IsRing ring) Free Source source_fields SourceFits
 
   -- the slot's owner
   abbrev pub owner_case : SourceCase
-  owner_case = case_of (codes "owner") words-plain.8 (anywhere Free (room true)) (λ _. said_source.Owner) (λ x. refl) (λ x p. tt) (λ x p. refl)
+  owner_case = case_of (codes "owner") words-plain.8 (anywhere Free (room true)) (λ _. Owner) (λ x. refl) (λ x p. tt) (λ x p. refl)
 
   -- listed slots
   abbrev pub slots_case : SourceCase
   slots_case = case_of (codes "slots") words-plain.9 (free_row index_tests (λ k m xs p. p)
       (λ r xs p. below_all 4294967296 ring.n xs (small r).1 (not-false _ p.1.1.0)) (λ k xs. (refl, (refl, (refl, tt)))))
-      said_source.Slots (λ x. refl) (λ x p. p) (λ x p. p)
+      Slots (λ x. refl) (λ x p. p) (λ x p. p)
 
   -- in the order in which a reader tries them
   abbrev pub source_cases : List SourceCase
@@ -98,12 +85,12 @@ module _ (ring : RingValue) where
   source-same k [] = refl
   source-same k (w ∷ fields) = refl
 
-  pub source-case : (v : SaidSource) → Chosen source_cases v
-  source-case said_source.Owner = record { case = owner_case; part = tt; is = refl; first = λ k fields. refl }
-  source-case (said_source.Slots xs) = record { case = slots_case; part = xs; is = refl; first = λ k fields. refl }
+  pub source-case : (v : Source) → Chosen source_cases v
+  source-case Owner = record { case = owner_case; part = tt; is = refl; first = λ k fields. refl }
+  source-case (Slots xs) = record { case = slots_case; part = xs; is = refl; first = λ k fields. refl }
 
   -- where a copy reads
-  abbrev pub source_form : Form (IsRing ring) Free SaidSource
+  abbrev pub source_form : Form (IsRing ring) Free Source
   source_form = choice source_cases (source_at ring.n) source-same source-case
 
   module _ (seen : List Planned) where
@@ -128,17 +115,17 @@ module _ (ring : RingValue) where
 
     -- a step, after its word
     abbrev StepCase : Type 1
-    StepCase = Case (IsRing ring) Free Said (λ v. kind_fields (names_of ring) (step_of v)) (λ v. StepFits (step_of v))
+    StepCase = Case (IsRing ring) Free Step (kind_fields (names_of ring)) StepFits
 
     -- the six of them
     abbrev pub step_kinds : StepCase × StepCase × StepCase × StepCase × StepCase × StepCase
     step_kinds = (
-      case_of (codes "join") words-plain.2 (anywhere Free join_form) said.Join (λ x. refl) (λ x p. p) (λ x p. p),
-      case_of (codes "mirror") words-plain.3 (anywhere Free slot_node_form) (λ x. said.Mirror x.0 x.1) (λ x. refl) (λ x p. p) (λ x p. p),
-      case_of (codes "copy") words-plain.4 (both Free slot_form source_form) (λ x. said.Copy x.0 x.1) (λ x. refl) (λ x p. p) (λ x p. p),
-      case_of (codes "switch") words-plain.5 (anywhere Free slot_form) said.Switch (λ x. refl) (λ x p. p) (λ x p. p),
-      case_of (codes "drop") words-plain.6 (anywhere Free slot_node_form) (λ x. said.Drop x.0 x.1) (λ x. refl) (λ x p. p) (λ x p. p),
-      case_of (codes "retire") words-plain.7 (anywhere Free retire_form) said.Retire (λ x. refl) (λ x p. p) (λ x p. p),
+      case_of (codes "join") words-plain.2 (anywhere Free join_form) Join (λ x. refl) (λ x p. p) (λ x p. p),
+      case_of (codes "mirror") words-plain.3 (anywhere Free slot_node_form) (λ x. Mirror x.0 x.1) (λ x. refl) (λ x p. p) (λ x p. p),
+      case_of (codes "copy") words-plain.4 (both Free slot_form source_form) (λ x. Copy x.0 x.1) (λ x. refl) (λ x p. p) (λ x p. p),
+      case_of (codes "switch") words-plain.5 (anywhere Free slot_form) Switch (λ x. refl) (λ x p. p) (λ x p. p),
+      case_of (codes "drop") words-plain.6 (anywhere Free slot_node_form) (λ x. Drop x.0 x.1) (λ x. refl) (λ x p. p) (λ x p. p),
+      case_of (codes "retire") words-plain.7 (anywhere Free retire_form) Retire (λ x. refl) (λ x p. p) (λ x p. p),
     )
 
     -- in the order in which a reader tries them
@@ -150,16 +137,16 @@ module _ (ring : RingValue) where
     step-same k [] = refl
     step-same k (w ∷ fields) = refl
 
-    pub step-case : (v : Said) → Chosen step_cases v
-    step-case (said.Join x) = record { case = step_kinds.0; part = x; is = refl; first = λ k fields. refl }
-    step-case (said.Mirror s x) = record { case = step_kinds.1; part = (s, x); is = refl; first = λ k fields. refl }
-    step-case (said.Copy s from) = record { case = step_kinds.2; part = (s, from); is = refl; first = λ k fields. refl }
-    step-case (said.Switch s) = record { case = step_kinds.3; part = s; is = refl; first = λ k fields. refl }
-    step-case (said.Drop s x) = record { case = step_kinds.4; part = (s, x); is = refl; first = λ k fields. refl }
-    step-case (said.Retire x) = record { case = step_kinds.5; part = x; is = refl; first = λ k fields. refl }
+    pub step-case : (v : Step) → Chosen step_cases v
+    step-case (Join x) = record { case = step_kinds.0; part = x; is = refl; first = λ k fields. refl }
+    step-case (Mirror s x) = record { case = step_kinds.1; part = (s, x); is = refl; first = λ k fields. refl }
+    step-case (Copy s from) = record { case = step_kinds.2; part = (s, from); is = refl; first = λ k fields. refl }
+    step-case (Switch s) = record { case = step_kinds.3; part = s; is = refl; first = λ k fields. refl }
+    step-case (Drop s x) = record { case = step_kinds.4; part = (s, x); is = refl; first = λ k fields. refl }
+    step-case (Retire x) = record { case = step_kinds.5; part = x; is = refl; first = λ k fields. refl }
 
     -- what a step is
-    abbrev pub kind_form : Form (IsRing ring) Free Said
+    abbrev pub kind_form : Form (IsRing ring) Free Step
     kind_form = choice step_cases (kind_at ring seen) step-same step-case
 
     -- ---- what it waits for
@@ -190,10 +177,10 @@ module _ (ring : RingValue) where
     IsNextStep x = ((nat_lt (length seen) 131072 ≡ true) × StepFits x.step) × after_form.allowed x.after
 
     -- what a line says
-    abbrev pub said_line : LineForm (IsRing ring) (Said × List ℕ)
+    abbrev pub said_line : LineForm (IsRing ring) (Step × List ℕ)
     said_line = line Last refl (λ x. (x.0.1, x.1)) (λ y. ((tt {0}, y.0), y.1)) (λ x. refl) (λ y. refl)
         (pair Free Last (both Free (room (nat_lt (length seen) 131072)) kind_form) after_form after-free)
-        (λ x. ap (λ (l : List (List ℕ)). has_field (l ++ after_fields x.1)) (step-word (names_of ring) (step_of x.0.1)).2)
+        (λ x. ap (λ (l : List (List ℕ)). has_field (l ++ after_fields x.1)) (step-word (names_of ring) x.0.1).2)
 
     -- the step that it says
     abbrev pub step_line : LineForm (IsRing ring) Planned

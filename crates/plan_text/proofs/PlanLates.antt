@@ -1,7 +1,7 @@
 -- Reading a plan does not go back, and each of its faults is at a line that was reached.
 use Rattle.std.proofs.Common.{◌≡◌, ℕ, ◌≤◌, false, not, List, [], codes, Result, Ok, refl, ap}
 use Rattle.texts.proofs.Forms.{Left, begins_with, next_line, pushed, loop-late, is_word, next_number, header_at, one_line, ReadsTo, At, Advances, ending, goes_on, no-line, to-first, to-after, past, Refusal}
-use Rattle.plan_text.proofs.Terms.{RingValue, IsRing, Said, Planned, planned_of}
+use Rattle.plan_text.proofs.Terms.{RingValue, IsRing, Step, Planned, planned_of}
 use Rattle.plan_text.specs.Reading.{said_at, steps_from, steps_at, plan_at}
 use Rattle.plan_text.proofs.PlanForm.{said_line, step_line, steps-loop, plan_form}
 
@@ -15,7 +15,7 @@ module _ (ring : RingValue) where
   steps-at s = refl
 
   -- memory that is asked for after a line that was taken
-  pub steps-late : (seen : List Planned) (start s t : Left) (fields : List (List ℕ)) (x : Said × List ℕ) (total : Result (List Planned × Left) Refusal)
+  pub steps-late : (seen : List Planned) (start s t : Left) (fields : List (List ℕ)) (x : Step × List ℕ) (total : Result (List Planned × Left) Refusal)
       → begins_with (codes "end") s.lines ≡ false → next_line s ≡ Ok (fields, t) → said_at ring seen s.line fields ≡ Ok x
       → start.line ≤ s.line → steps_from ring seen s.line s.lines ≡ total → (next_number start.line ≤ t.line) × ReadsTo t.line total
   unfolding said_at

@@ -6,7 +6,7 @@ use Rattle.std.proofs.lemmas.Grind.{flat_map-append}
 use Rattle.std.proofs.lemmas.List.Concat.{flat_map-cons}
 use Rattle.std.proofs.lemmas.List.Folds.{list_all-append}
 use Rattle.std.proofs.lemmas.List.Sums.{sum_by-append}
-use Rattle.plan_text.proofs.Terms.{has, all_different, NodeId, RingValue, names_of, is_member, IsRing, Said, Step, Join, Mirror, Copy, Switch, Drop, Retire, Owner, Slots, Planned, planned_of, dependencies, joins, retires, joined, retired}
+use Rattle.plan_text.proofs.Terms.{has, all_different, NodeId, RingValue, names_of, is_member, IsRing, Step, Join, Mirror, Copy, Switch, Drop, Retire, Owner, Slots, Planned, planned_of, dependencies, joins, retires, joined, retired}
 use Rattle.plan_text.proofs.Terms.{IsPlanned, EachPlanned, IsPlan}
 use Rattle.texts.proofs.Forms.{IsPart, Any, Left, header_at, each-grows, all-each, text-found, text-given, some-first, Refusal, ascending, are_small}
 use Rattle.ring_names.proofs.InLists.{different_more, different_apart}
@@ -156,7 +156,7 @@ module _ (ring : RingValue) where
       (tt, (all-each (IsNextStep ring) (λ x. step_suits ring x.step) (λ l. IsPlan l × Suits ring l) next-fits [] v suits.steps (is, suits), tt))
 
 -- what was returned of a line can be the next step
-pub next-if : (ring : RingValue) → IsRing ring → (seen : List Planned) (k : ℕ) (fields : List (List ℕ)) (r : Result (Said × List ℕ) Refusal)
+pub next-if : (ring : RingValue) → IsRing ring → (seen : List Planned) (k : ℕ) (fields : List (List ℕ)) (r : Result (Step × List ℕ) Refusal)
     → dependencies seen ≤ 524288 → r ≡ said_at ring seen k fields → IfOk r (λ x. IsNext seen (planned_of x))
 unfolding said_at
 next-if ring valid seen k fields (Ok x) few e =

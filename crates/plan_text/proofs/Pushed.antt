@@ -1,12 +1,12 @@
 -- A plan with one more step.
-use Rattle.std.proofs.Common.{get_or, suc, zero, ◌≡◌, ℕ, ◌+◌, ◌<◌, ◌≤◌, Bool, true, false, cond, List, [], ◌∷◌, ◌++◌, length, refl, sym, ap, ◌∙◌, arith, add-zero, length-append, Ok, Err, map, Result, OnOk, flat_map}
-use Rattle.std.proofs.lemmas.List.{flat_map_more, length-append, map_push}
-use Rattle.std.proofs.lemmas.List.Sums.{sum_by_push}
+use Rattle.std.proofs.Common.{get_or, suc, zero, ◌≡◌, ℕ, ◌+◌, ◌<◌, ◌≤◌, Bool, true, false, cond, List, [], ◌∷◌, ◌++◌, length, refl, sym, ap, ◌∙◌, arith, add-zero, length-append, Ok, Err, Result, OnOk, flat_map}
+use Rattle.std.proofs.lemmas.List.{flat_map_more, length-append}
+use Rattle.std.specs.Prelude.{option_map, slice_get, sum_by}
+use Rattle.std.specs.List.{list_all}
+use Rattle.std.proofs.lemmas.List.Sums.{sum_by_push, sum_by-cons}
 use Rattle.plan_text.proofs.Terms.{Slot, Planned, Step, is_on, steps_of, dependencies, IsPlanned, EachPlanned, IsPlan}
 use Rattle.plan_text.specs.Steps.{steps_from}
-use Rattle.ring_names.proofs.InLists.{get_front, get_last}
-use Rattle.plan_text.specs.declared.plan.Kept.{Kept}
-use Rattle.plan_text.specs.Kept.{planned_in, AreRows}
+use Rattle.plan_text.specs.Kept.{planned_with}
 
 one_more : (b c : Bool) (k n : ℕ) (t u : List ℕ) → u ≡ cond c (t ++ n ∷ []) t → cond b (k ∷ u) u ≡ cond c (cond b (k ∷ t) t ++ n ∷ []) (cond b (k ∷ t) t)
 one_more true true k n t u e = ap (λ l. k ∷ l) e
@@ -60,19 +60,42 @@ pub on_both : {T E P S Q : Type 0} (r : Result T E) → (P → S → Q) → OnOk
 on_both (Ok x) f p s = f p s
 on_both (Err e) f p s = tt
 
--- the steps stay where rows come after theirs
-pub steps-stay : (rows more : List (List ℕ)) (ks : List Kept) → AreRows rows ks → map (planned_in (rows ++ more)) ks ≡ map (planned_in rows) ks
-steps-stay rows more [] h = refl
-steps-stay rows more (k ∷ ks) h = rw (get_front rows more k.row h.0, steps-stay rows more ks h.1) refl
+-- ---- steps, each with its row
 
-pub rows-stay : (rows more : List (List ℕ)) (ks : List Kept) → AreRows rows ks → AreRows (rows ++ more) ks
-rows-stay rows more [] h = tt
-rows-stay rows more (k ∷ ks) h = (omega (arith, h.0, length-append rows more), rows-stay rows more ks h.1)
+pub with-push : (steps : List Step) (rows : List (List ℕ)) (s : Step) (r : List ℕ) → length rows ≡ length steps
+    → planned_with (steps ++ s ∷ []) (rows ++ r ∷ []) ≡ planned_with steps rows ++ record { step = s; after = r } ∷ []
+with-push [] [] s r e = refl
+with-push [] (x ∷ rows) s r e = absurd (omega arith)
+with-push (t ∷ steps) [] s r e = absurd (omega arith)
+with-push (t ∷ steps) (x ∷ rows) s r e = ap (λ (l : List Planned). record { step = t; after = x } ∷ l) (with-push steps rows s r (omega arith))
 
-pub rows-more : (rows : List (List ℕ)) (ks : List Kept) (k : Kept) → AreRows rows ks → k.row < length rows → AreRows rows (ks ++ k ∷ [])
-rows-more rows [] k h less = (less, tt)
-rows-more rows (x ∷ xs) k h less = (h.0, rows-more rows xs k h.1 less)
+pub with-length : (steps : List Step) (rows : List (List ℕ)) → length rows ≡ length steps → length (planned_with steps rows) ≡ length steps
+with-length [] rows e = refl
+with-length (t ∷ steps) [] e = e
+with-length (t ∷ steps) (x ∷ rows) e = ap (λ n. suc n) (with-length steps rows (omega arith))
 
-pub one-step-more : (rows : List (List ℕ)) (r : List ℕ) (ks : List Kept) (k : Kept) → AreRows rows ks → k.row ≡ length rows → map (planned_in (rows ++ r ∷ [])) (ks ++ k ∷ []) ≡ map (planned_in rows) ks ++ record { step = k.step; after = r } ∷ []
-one-step-more rows r ks k h last =
-    map_push (planned_in (rows ++ r ∷ [])) ks k ∙ rw (steps-stay rows (r ∷ []) ks h, last, get_last rows r) refl
+pub with-step : (steps : List Step) (rows : List (List ℕ)) (k : ℕ) → length rows ≡ length steps → option_map (λ (x : Planned). x.step) (slice_get (planned_with steps rows) k) ≡ slice_get steps k
+with-step [] rows k e = refl
+with-step (t ∷ steps) [] k e = absurd (omega arith)
+with-step (t ∷ steps) (x ∷ rows) zero e = refl
+with-step (t ∷ steps) (x ∷ rows) (suc k) e = with-step steps rows k (omega arith)
+
+pub with-after : (steps : List Step) (rows : List (List ℕ)) (k : ℕ) → length rows ≡ length steps → option_map (λ (x : Planned). x.after) (slice_get (planned_with steps rows) k) ≡ slice_get rows k
+with-after [] [] k e = refl
+with-after [] (x ∷ rows) k e = absurd (omega arith)
+with-after (t ∷ steps) [] k e = absurd (omega arith)
+with-after (t ∷ steps) (x ∷ rows) zero e = refl
+with-after (t ∷ steps) (x ∷ rows) (suc k) e = with-after steps rows k (omega arith)
+
+pub with-all : (test : Step → Bool) (steps : List Step) (rows : List (List ℕ)) → length rows ≡ length steps → list_all (λ (x : Planned). test x.step) (planned_with steps rows) ≡ list_all test steps
+with-all test [] rows e = refl
+with-all test (t ∷ steps) [] e = absurd (omega arith)
+with-all test (t ∷ steps) (x ∷ rows) e = rw (with-all test steps rows (omega arith)) refl
+
+pub with-total : (steps : List Step) (rows : List (List ℕ)) → length rows ≡ length steps → dependencies (planned_with steps rows) ≡ sum_by (λ (row : List ℕ). length row) rows
+with-total [] [] e = refl
+with-total [] (x ∷ rows) e = absurd (omega arith)
+with-total (t ∷ steps) [] e = absurd (omega arith)
+with-total (t ∷ steps) (x ∷ rows) e =
+    sum_by-cons (λ (y : Planned). length y.after) (record { step = t; after = x }) (planned_with steps rows) ∙ ap (λ n. length x + n) (with-total steps rows (omega arith))
+    ∙ sym (sum_by-cons (λ (row : List ℕ). length row) x rows)

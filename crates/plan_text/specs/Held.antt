@@ -2,19 +2,13 @@
 use Rattle.std.specs.Prelude.{◌≡◌, ℕ, Bool, List, Option, is_some}
 use Rattle.std.specs.HashMap as map
 use Rattle.ring_names.specs.Lists.{has, all_different}
-use Rattle.ring_names.specs.ByKey.{list_at}
 use Rattle.ring_names.specs.declared.ids.Slot.{Slot}
-use Rattle.ring_names.specs.declared.lists.Lists.{Lists}
 use Rattle.ring_names.specs.contracts.ids.NodeIdPartialEq.TheImpl as node_eq
-use Rattle.ring_names.specs.contracts.ids.SlotPartialEq.TheImpl as slot_eq
 use Rattle.plan_text.specs.declared.step.Planned.{Planned}
 use Rattle.plan_text.specs.declared.index.NodeIndex.{NodeIndex}
 use Rattle.plan_text.specs.declared.index.Index.{Index}
+use Rattle.plan_text.specs.SlotSteps.{numbers_at}
 use Rattle.plan_text.specs.Steps.{steps_of, joined, retired, join_of, retirement_of}
-
--- the numbers that the index has for a slot
-abbrev pub numbers_at : Lists Slot ℕ → Slot → List ℕ
-numbers_at a s = list_at ((slot_eq.ghosts).eq) a s
 
 -- the number of the first step that met the node
 abbrev pub first_of : NodeIndex → ℕ → Option ℕ

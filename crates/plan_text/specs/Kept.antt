@@ -1,28 +1,23 @@
 -- What holds of a plan's fields.
-use Rattle.std.specs.Prelude.{◌≡◌, ℕ, ◌<◌, List, [], length, map, slice_get, unwrap_or}
-use Rattle.std.specs.List.{AllByRecursion}
+use Rattle.std.specs.Prelude.{◌≡◌, ℕ, List, [], ◌∷◌, length}
+use Rattle.plan_text.specs.declared.step.Step.{Step}
 use Rattle.plan_text.specs.declared.step.Planned.{Planned}
-use Rattle.plan_text.specs.declared.plan.Kept.{Kept}
 use Rattle.plan_text.specs.declared.plan.Plan.TheInside.{Inside}
-use Rattle.plan_text.specs.Steps.{dependencies}
 use Rattle.plan_text.specs.Valid.{IsPlan}
 use Rattle.plan_text.specs.Held.{HoldsSteps}
 
--- the step that is kept so, its dependencies in one of the rows
-abbrev pub planned_in : List (List ℕ) → Kept → Planned
-planned_in rows k = record { step = k.step; after = unwrap_or (slice_get rows k.row) [] }
+-- each step with the row of its dependencies
+abbrev pub planned_with : List Step → List (List ℕ) → List Planned
+planned_with [] rows = []
+planned_with (s ∷ steps) [] = []
+planned_with (s ∷ steps) (r ∷ rows) = record { step = s; after = r } ∷ planned_with steps rows
 
 -- the steps of the plan
 abbrev pub plan_of : Inside → List Planned
-plan_of a = map (planned_in a.rows) a.steps.items
-
--- each step's row is there
-abbrev pub AreRows : List (List ℕ) → List Kept → Type 0
-AreRows rows steps = AllByRecursion (λ k. k.row < length rows) steps
+plan_of a = planned_with a.steps.items a.rows
 
 -- what holds of the fields together
 pub record HoldsPlan (a : Inside) : Type 0 where
   pub plan : IsPlan (plan_of a)
-  pub rows : AreRows a.rows a.steps.items
-  pub total : a.dependencies ≡ dependencies (plan_of a)
+  pub rows : length a.rows ≡ length a.steps.items
   pub index : HoldsSteps a.index (plan_of a)

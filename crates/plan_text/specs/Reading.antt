@@ -14,12 +14,11 @@ use Rattle.texts.specs.Left.{Left, ◌>>=◌, next_number, begins_with, first_li
 use Rattle.texts.specs.Frames.{header_at, end_line_at}
 use Rattle.ring_table.specs.Value.{RingValue, is_member}
 use Rattle.ring_table.specs.Reading.{declared_at}
-use Rattle.plan_text.specs.declared.said.Said.{Said}
-use Rattle.plan_text.specs.declared.said.Said.TheVariants.{Join, Mirror, Copy, Switch, Drop, Retire}
-use Rattle.plan_text.specs.declared.said.SaidSource.{SaidSource}
-use Rattle.plan_text.specs.declared.said.SaidSource.TheVariants.{Owner, Slots}
+use Rattle.plan_text.specs.declared.step.Step.{Step}
+use Rattle.plan_text.specs.declared.step.Step.TheVariants.{Join, Mirror, Copy, Switch, Drop, Retire}
+use Rattle.plan_text.specs.declared.step.Source.{Source}
+use Rattle.plan_text.specs.declared.step.Source.TheVariants.{Owner, Slots}
 use Rattle.plan_text.specs.declared.step.Planned.{Planned}
-use Rattle.plan_text.specs.Said.{planned_of}
 use Rattle.plan_text.specs.Steps.{dependencies, joined, retired}
 
 -- a number below a limit
@@ -54,7 +53,7 @@ judge_indexes n k xs = unless (
     ∷ []) xs
 
 -- `owner`, or `slots` and the numbers behind it
-unfoldable pub source_at : ℕ → ℕ → Item SaidSource
+unfoldable pub source_at : ℕ → ℕ → Item Source
 source_at n k [] = (Err (BadLine k), [])
 source_at n k (word ∷ fields) =
     if bytes_eq word (codes "owner") then (Ok Owner, fields)
@@ -62,11 +61,11 @@ source_at n k (word ∷ fields) =
     else (Err (BadLine k), fields)
 
 -- a slot, and where its copy reads
-unfoldable pub copy_at : RingValue → ℕ → Item (Slot × SaidSource)
+unfoldable pub copy_at : RingValue → ℕ → Item (Slot × Source)
 copy_at ring k = slot_at ring k ⊗ source_at ring.n k
 
 -- what the step is, behind the steps of a plan
-unfoldable pub kind_at : RingValue → List Planned → ℕ → Item Said
+unfoldable pub kind_at : RingValue → List Planned → ℕ → Item Step
 kind_at ring plan k [] = (Err (BadLine k), [])
 kind_at ring plan k (word ∷ fields) =
     if bytes_eq word (codes "join") then map_item Join (joining_at ring plan k) fields
@@ -96,8 +95,12 @@ after_at plan k (word ∷ fields) =
     else (Err (BadLine k), fields)
 
 -- the next step of a plan, and the steps that it waits for
-unfoldable pub said_at : RingValue → List Planned → ℕ → List (List ℕ) → Result (Said × List ℕ) Refusal
+unfoldable pub said_at : RingValue → List Planned → ℕ → List (List ℕ) → Result (Step × List ℕ) Refusal
 said_at ring plan k fields = map_ok (λ x. (x.0.1, x.1)) (whole k (need_at k (nat_lt (length plan) 131072) ⊗ kind_at ring plan k ⊗ after_at plan k) fields)
+
+-- a step with the steps that it waits for
+abbrev pub planned_of : Step × List ℕ → Planned
+planned_of x = record { step = x.0; after = x.1 }
 
 -- the same as a step of a plan
 abbrev pub step_at : RingValue → List Planned → ℕ → List (List ℕ) → Result Planned Refusal

@@ -5,7 +5,6 @@ ghost use Rattle.std.specs.List.{list_all, list_any};
 ghost use Rattle.ring_names.specs.Lists.{has};
 ghost use Rattle.plan_text.specs.Changes.{numbers, step_names};
 
-use crate::plan::Kept;
 use crate::step::Step;
 use ring_names::NodeId;
 
@@ -35,8 +34,8 @@ fn names_only(joins: &[NodeId], leaves: &[NodeId], step: &Step) -> bool
 }
 
 /// Whether the steps join none but these nodes, and retire none but those.
-pub fn all_name_only(joins: &[NodeId], leaves: &[NodeId], steps: &[Kept]) -> bool
-    ensures { result ≡ list_all (λ x. step_names joins.now leaves.now x.step) steps.now }
+pub fn all_name_only(joins: &[NodeId], leaves: &[NodeId], steps: &[Step]) -> bool
+    ensures { result ≡ list_all (step_names joins.now leaves.now) steps.now }
 {
-    steps.iter().all(|x| names_only(joins, leaves, &x.step))
+    steps.iter().all(|x| names_only(joins, leaves, x))
 }

@@ -2,15 +2,15 @@
 
 ghost use Rattle.std.specs.Prelude.{◌≡◌, ℕ, length, ◌++◌, ◌∷◌, [], ◌==◌, ◌&&◌, not, List, Some, None, IfErr, OnOk};
 ghost use Rattle.std.specs.Prelude.{OnErr, if◌then◌else◌, true};
-ghost use Rattle.ring_names.specs.declared.ids.Slot.{Slot};
 ghost use Rattle.ring_names.specs.declared.refusal.Refusal.TheVariants.{OutOfMemory};
-ghost use Rattle.plan_text.specs.Steps.{is_slot};
 ghost use Rattle.plan_text.specs.declared.step.Planned.{Planned};
 ghost use Rattle.std.specs.Option.{option_or};
-ghost use Rattle.plan_text.specs.Held.{first_of, holds, numbers_at, HoldsSteps};
+ghost use Rattle.plan_text.specs.Held.{first_of, holds, HoldsSteps};
+ghost use Rattle.plan_text.specs.SlotSteps.{numbers_at};
 
+use crate::slot_steps::SlotSteps;
 use crate::step::Step;
-use ring_names::{Lists, NodeId, Refusal, Slot};
+use ring_names::{NodeId, Refusal, Slot};
 use std::alloc::Global;
 use std::collections::HashMap;
 
@@ -74,7 +74,7 @@ impl NodeIndex {
 
 /// The index of a plan.
 pub struct Index {
-    slots: Lists<Slot, u32>,
+    slots: SlotSteps,
     joins: NodeIndex,
     retirements: NodeIndex,
 }
@@ -99,7 +99,7 @@ impl Index {
         ensures { HoldsSteps result [] }
     {
         Index {
-            slots: Lists::new(alloc),
+            slots: SlotSteps::new(alloc),
             joins: NodeIndex::new(alloc),
             retirements: NodeIndex::new(alloc),
         }
@@ -128,7 +128,7 @@ impl Index {
     pub fn slot_numbers(&self, slot: Slot) -> &[u32]
         ensures { result.now ≡ numbers_at self.now.slots slot }
     {
-        self.slots.items(&slot)
+        self.slots.items(slot)
     }
 
     /// The first step that joins the node.

@@ -1,18 +1,15 @@
 //! A few slots of a partition, by index.
 
-ghost use Rattle.std.specs.Prelude.{◌≡◌, ◌≤◌, true, length, nat_lt, IfOk, IfErr};
+ghost use Rattle.std.specs.Prelude.{◌≡◌, ◌≤◌, true, length, nat_lt, IfSome, IfNone};
 ghost use Rattle.std.specs.List.{list_all};
-ghost use Rattle.ring_names.specs.declared.refusal.Refusal.TheVariants.{OutOfMemory};
 
-use ring_names::Refusal;
-use std::alloc::Global;
 use std::marker::Model;
 
 /// Up to 7 slots of a partition by index, in the order written.
-#[derive(Drop)]
+#[derive(Debug, Drop)]
 pub struct Indexes {
     first: [u8; 7],
-    count: usize,
+    count: u8,
 }
 
 impl Model for Indexes {
@@ -25,9 +22,25 @@ impl Model for Indexes {
     ghost invariant = { λ a. a.count ≤ 7 };
 }
 
+fn are_small(numbers: &[u32]) -> bool
+    ensures { result ≡ list_all (λ i. nat_lt i 256) numbers.now }
+{
+    numbers.iter().all(|i| *i < 256)
+}
+
 impl Indexes {
-    /// These indexes.
-    pub fn from_numbers(numbers: &[u32]) -> Indexes
+    /// Keeps these indexes, if there are at most 7 and each is below 256.
+    pub fn of(numbers: &[u32]) -> Option<Indexes>
+        ensures some { IfSome result (λ x. x ≡ numbers.now) }
+        ensures none { IfNone result (length numbers.now ≤ 7 → list_all (λ i. nat_lt i 256) numbers.now ≡ true → ⊥) }
+    {
+        if numbers.len() > 7 || !are_small(numbers) {
+            return None;
+        }
+        Some(Indexes::from_numbers(numbers))
+    }
+
+    fn from_numbers(numbers: &[u32]) -> Indexes
         requires few { length numbers.now ≤ 7 }
         requires small { list_all (λ i. nat_lt i 256) numbers.now ≡ true }
         ensures { result ≡ numbers.now }
@@ -38,19 +51,24 @@ impl Indexes {
         }
         Indexes {
             first,
-            count: numbers.len(),
+            count: numbers.len() as u8,
         }
     }
 
-    /// The indexes in a vector.
-    pub fn to_vec(&self, alloc: Global) -> Result<Vec<u32>, Refusal>
-        ensures ok { IfOk result (λ out. out.items ≡ self.now) }
-        ensures memory { IfErr result (λ e. e ≡ OutOfMemory) }
+    /// Returns the same indexes.
+    pub(crate) fn copy(&self) -> Indexes
+        ensures { result ≡ self.now }
     {
-        let mut out = Vec::new(alloc);
-        for k in 0..self.count {
-            out.push(u32::from(self.first[k]))?;
+        Indexes {
+            first: self.first,
+            count: self.count,
         }
-        Ok(out)
+    }
+
+    /// Returns the indexes.
+    pub fn as_slice(&self) -> &[u8]
+        ensures { result.now ≡ self.now }
+    {
+        &self.first[..self.count as usize]
     }
 }

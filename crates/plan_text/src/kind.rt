@@ -7,7 +7,7 @@ ghost use Rattle.plan_text.specs.Reading.{judge_indexes, source_at, copy_at, kin
 use crate::indexes::Indexes;
 use crate::place::{joining, retiring, slot, slot_node};
 use crate::plan::Plan;
-use crate::said::{Said, SaidSource};
+use crate::step::{Source, Step};
 use ring_names::{Refusal, Slot};
 use ring_table::Ring;
 use texts::{Fields, NumberRow, both};
@@ -27,25 +27,28 @@ fn indexes(n: u32, fields: &Fields, row: &NumberRow) -> Result<Indexes, Refusal>
     if !row.are_below(u64::from(n)) {
         return Err(Refusal::TooLarge(line));
     }
-    match row.kept() {
-        Some(kept) => Ok(Indexes::from_numbers(kept)),
+    let Some(kept) = row.kept() else {
+        unreachable!();
+    };
+    match Indexes::of(kept) {
+        Some(indexes) => Ok(indexes),
         None => unreachable!(),
     }
 }
 
 // `owner`, or `slots` and the numbers behind it.
 #[tactic(auto, unfolding(crate::specs::Reading::source_at))]
-fn source(n: u32, fields: &mut Fields) -> Result<SaidSource, Refusal>
+fn source(n: u32, fields: &mut Fields) -> Result<Source, Refusal>
     requires { n ≤ 7 }
     ensures { Does (source_at n) fields.old result fields.new }
 {
     if fields.takes(b"owner") {
-        return Ok(SaidSource::Owner);
+        return Ok(Source::Owner);
     }
     if fields.takes(b"slots") {
         let row = fields.numbers();
         let indexes = indexes(n, fields, &row)?;
-        return Ok(SaidSource::Slots(indexes));
+        return Ok(Source::Slots(indexes));
     }
     let _ = fields.next();
     Err(Refusal::BadLine(fields.line()))
@@ -53,7 +56,7 @@ fn source(n: u32, fields: &mut Fields) -> Result<SaidSource, Refusal>
 
 // A slot, and where its copy reads.
 #[tactic(auto, unfolding(crate::specs::Reading::copy_at))]
-fn copy(ring: &Ring, fields: &mut Fields) -> Result<(Slot, SaidSource), Refusal>
+fn copy(ring: &Ring, fields: &mut Fields) -> Result<(Slot, Source), Refusal>
     ensures { Does (copy_at ring.now) fields.old result fields.new }
 {
     let slot = slot(ring, fields);
@@ -63,22 +66,22 @@ fn copy(ring: &Ring, fields: &mut Fields) -> Result<(Slot, SaidSource), Refusal>
 
 /// What the step is, behind the steps of a plan. Takes no memory.
 #[tactic(auto, unfolding(crate::specs::Reading::kind_at))]
-pub fn kind(ring: &Ring, plan: &Plan, fields: &mut Fields) -> Result<Said, Refusal>
+pub fn kind(ring: &Ring, plan: &Plan, fields: &mut Fields) -> Result<Step, Refusal>
     ensures { Does (kind_at ring.now plan.now) fields.old result fields.new }
 {
     if fields.takes(b"mirror") {
-        slot_node(ring, fields).map(|(slot, node)| Said::Mirror(slot, node))
+        slot_node(ring, fields).map(|(slot, node)| Step::Mirror(slot, node))
     } else if fields.takes(b"copy") {
         let (slot, source) = copy(ring, fields)?;
-        Ok(Said::Copy(slot, source))
+        Ok(Step::Copy(slot, source))
     } else if fields.takes(b"switch") {
-        slot(ring, fields).map(|slot| Said::Switch(slot))
+        slot(ring, fields).map(|slot| Step::Switch(slot))
     } else if fields.takes(b"drop") {
-        slot_node(ring, fields).map(|(slot, node)| Said::Drop(slot, node))
+        slot_node(ring, fields).map(|(slot, node)| Step::Drop(slot, node))
     } else if fields.takes(b"join") {
-        joining(ring, plan, fields).map(|node| Said::Join(node))
+        joining(ring, plan, fields).map(|node| Step::Join(node))
     } else if fields.takes(b"retire") {
-        retiring(ring, plan, fields).map(|node| Said::Retire(node))
+        retiring(ring, plan, fields).map(|node| Step::Retire(node))
     } else {
         let _ = fields.next();
         Err(Refusal::BadLine(fields.line()))

@@ -10,11 +10,12 @@ mod place;
 mod plain;
 mod plan;
 mod reading;
-mod said;
+mod slot_steps;
 mod step;
 mod suits;
 mod writing;
 
+pub use indexes::Indexes;
 pub use plan::Plan;
 pub use reading::{read_plan, read_plan_section};
 pub use ring_table::Ring;

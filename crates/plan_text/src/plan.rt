@@ -15,32 +15,18 @@ use ring_table::Ring;
 use std::alloc::Global;
 use std::marker::Model;
 
-/// A step, and the row that has its dependencies.
-#[derive(Drop)]
-pub(crate) struct Kept {
-    pub(crate) step: Step,
-    row: usize,
-}
-
 /// A plan. Its steps have numbers from 0, in the order written.
 pub struct Plan {
-    steps: Vec<Kept>,
-    // the dependencies of the steps
+    steps: Vec<Step>,
+    // by step, the steps that it waits for
     rows: Rows,
-    // how many they are together
-    dependencies: u32,
     index: Index,
 }
 
 // Dropped by a call, so that no crate above goes through its parts wherever a plan ends.
 impl Drop for Plan {
     fn drop(self) {
-        let Plan {
-            steps,
-            rows,
-            dependencies: _,
-            index,
-        } = self;
+        let Plan { steps, rows, index } = self;
         drop(steps);
         drop(rows);
         drop(index);
@@ -72,7 +58,6 @@ impl Plan {
         Plan {
             steps: Vec::new(alloc),
             rows: Rows::new(alloc),
-            dependencies: 0,
             index: Index::new(alloc),
         }
     }
@@ -88,12 +73,13 @@ impl Plan {
         ensures memory { IfErr result (λ e. e ≡ OutOfMemory) }
     {
         let number = self.len();
-        let row = self.rows.len();
         self.steps.reserve(1)?;
         self.rows.push(after)?;
-        self.index.add(&step, number)?;
-        self.dependencies += after.len() as u32;
-        self.steps.push_reserved(Kept { step, row });
+        if let Err(refusal) = self.index.add(&step, number) {
+            self.rows.pop();
+            return Err(refusal);
+        }
+        self.steps.push_reserved(step);
         Ok(())
     }
 
@@ -111,7 +97,7 @@ impl Plan {
         ensures value { option_map (λ x. x.step) (slice_get self.now n) ≡ Some result.now }
         ensures valid { IsPlan self.now }
     {
-        &self.steps[n as usize].step
+        &self.steps[n as usize]
     }
 
     /// The direct dependencies of the step of that number, strictly ascending.
@@ -120,7 +106,7 @@ impl Plan {
         ensures value { option_map (λ x. x.after) (slice_get self.now n) ≡ Some result.now }
         ensures valid { IsPlan self.now }
     {
-        self.rows.row(self.steps[n as usize].row)
+        self.rows.row(n as usize)
     }
 
     /// The numbers of the slot's steps, ascending.
@@ -138,7 +124,7 @@ impl Plan {
         ensures value { result ≡ dependencies self.now }
         ensures valid { IsPlan self.now }
     {
-        self.dependencies
+        self.rows.total() as u32
     }
 
     /// Whether step `a` is a direct dependency of step `b`.

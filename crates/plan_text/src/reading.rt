@@ -5,9 +5,8 @@ ghost use Rattle.ring_names.specs.declared.refusal.Refusal.TheVariants.{OutOfMem
 ghost use Rattle.texts.specs.Left.{Reads};
 ghost use Rattle.texts.specs.Late.{IsAt, Late, NoFaultBefore};
 ghost use Rattle.texts.specs.Judging.{Gives, map_ok};
-ghost use Rattle.plan_text.specs.Said.{planned_of};
 ghost use Rattle.plan_text.specs.Fits.{IsNext};
-ghost use Rattle.plan_text.specs.Reading.{said_at, steps_from, steps_at, plan_at, plan_reading};
+ghost use Rattle.plan_text.specs.Reading.{planned_of, said_at, steps_from, steps_at, plan_at, plan_reading};
 ghost use Rattle.plan_text.specs.Spelling.{plan_text};
 ghost use Rattle.plan_text.specs.Valid.{IsPlan, Suits};
 ghost use Rattle.plan_text.specs.declared.step.Planned.{Planned};
@@ -16,7 +15,7 @@ use crate::after::after;
 use crate::kind::kind;
 use crate::plain::take_plain;
 use crate::plan::Plan;
-use crate::said::{Said, to_step};
+use crate::step::Step;
 use ring_names::Refusal;
 use ring_table::Ring;
 use std::alloc::Global;
@@ -28,7 +27,7 @@ fn step_line<'a>(
     ring: &Ring,
     plan: &Plan,
     mut fields: Fields<'a>,
-) -> Result<(Said, NumberRow<'a>), Refusal>
+) -> Result<(Step, NumberRow<'a>), Refusal>
     ensures value { result ≡ said_at ring.now plan.now fields.entry.number fields.entry.fields }
     ensures next { IfOk result (λ x. IsNext plan.now (planned_of x)) }
     ensures at { IfErr result (λ e. IsAt fields.entry.number e) }
@@ -37,18 +36,17 @@ fn step_line<'a>(
     let slots = ring.n();
     prove!(slots <= 7);
     let room = need(plan.len() < 131072, &fields);
-    let said = kind(ring, plan, &mut fields);
+    let step = kind(ring, plan, &mut fields);
     let after = after(plan, &mut fields);
-    finish_both(room, said, after, fields)
+    finish_both(room, step, after, fields)
 }
 
 // Adds the step of a line that was judged behind the steps of the plan.
-fn add(alloc: Global, plan: &mut Plan, said: Said, after: NumberRow) -> Result<(), Refusal>
-    requires { IsNext plan.old (planned_of (said, after)) }
-    ensures ok { OnOk result (plan.new ≡ plan.old ++ planned_of (said, after.entry) ∷ []) }
+fn add(alloc: Global, plan: &mut Plan, step: Step, after: NumberRow) -> Result<(), Refusal>
+    requires { IsNext plan.old (planned_of (step, after)) }
+    ensures ok { OnOk result (plan.new ≡ plan.old ++ planned_of (step, after.entry) ∷ []) }
     ensures memory { IfErr result (λ e. e ≡ OutOfMemory) }
 {
-    let step = to_step(alloc, said)?;
     if let Some(few) = after.kept() {
         return plan.push(step, few);
     }
@@ -70,8 +68,8 @@ fn read_into(alloc: Global, ring: &Ring, plan: &mut Plan, lines: &mut Lines) -> 
             continue 'steps;
         }
         let fields = lines.next()?;
-        let (said, after) = step_line(ring, plan, fields)?;
-        add(alloc, plan, said, after)?;
+        let (step, after) = step_line(ring, plan, fields)?;
+        add(alloc, plan, step, after)?;
     }
     Ok(())
 }

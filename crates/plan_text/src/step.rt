@@ -1,5 +1,8 @@
 //! The steps of a plan.
 
+ghost use Rattle.std.specs.Prelude.{◌≡◌};
+
+use crate::indexes::Indexes;
 use ring_names::{Listed, NodeId, Slot};
 
 /// One step of a plan.
@@ -15,8 +18,24 @@ pub enum Step {
     Switch(Slot),
     /// The node drops what it still has of a slot that it owned.
     Drop(Slot, NodeId),
-    /// The node is no member any more.
+    /// The node is not a member any more.
     Retire(NodeId),
+}
+
+impl Step {
+    /// Returns the same step.
+    pub fn copy(&self) -> Step
+        ensures { result ≡ self.now }
+    {
+        match self {
+            Step::Join(node) => Step::Join(*node),
+            Step::Mirror(slot, node) => Step::Mirror(*slot, *node),
+            Step::Copy(slot, source) => Step::Copy(*slot, source.copy()),
+            Step::Switch(slot) => Step::Switch(*slot),
+            Step::Drop(slot, node) => Step::Drop(*slot, *node),
+            Step::Retire(node) => Step::Retire(*node),
+        }
+    }
 }
 
 /// Where a copy reads.
@@ -25,7 +44,19 @@ pub enum Source {
     /// The owner of the slot itself.
     Owner,
     /// Slots of the same partition by index, 1 to 7 of them, in the order written.
-    Slots(Listed<u32>),
+    Slots(Indexes),
+}
+
+impl Source {
+    /// Returns the same source.
+    pub fn copy(&self) -> Source
+        ensures { result ≡ self.now }
+    {
+        match self {
+            Source::Owner => Source::Owner,
+            Source::Slots(indexes) => Source::Slots(indexes.copy()),
+        }
+    }
 }
 
 /// A step, and the numbers of the steps that must be done before it.

@@ -4,16 +4,15 @@ ghost use Rattle.std.specs.Prelude.{◌≡◌, ◌&&◌, not, length, nat_lt};
 ghost use Rattle.std.specs.List.{list_all};
 ghost use Rattle.plan_text.specs.Valid.{step_suits, source_suits, is_ring_slot, is_declared};
 
-use crate::plan::Kept;
 use crate::step::{Source, Step};
 use ring_names::{NodeId, Slot};
 use ring_table::Ring;
 
 /// Whether each step suits the ring.
-pub fn all_suit(ring: &Ring, steps: &[Kept]) -> bool
-    ensures { result ≡ list_all (λ x. step_suits ring.now x.step) steps.now }
+pub fn all_suit(ring: &Ring, steps: &[Step]) -> bool
+    ensures { result ≡ list_all (step_suits ring.now) steps.now }
 {
-    steps.iter().all(|x| step_suits(ring, &x.step))
+    steps.iter().all(|x| step_suits(ring, x))
 }
 
 /// Whether the nodes and slots of the step are the ring's, and it joins no member.
@@ -42,10 +41,10 @@ fn source_suits(ring: &Ring, source: &Source) -> bool
 }
 
 // Whether each number is below the limit.
-fn are_below(numbers: &[u32], limit: u32) -> bool
+fn are_below(numbers: &[u8], limit: u32) -> bool
     ensures { result ≡ list_all (λ i. nat_lt i limit) numbers.now }
 {
-    numbers.iter().all(|i| *i < limit)
+    numbers.iter().all(|i| u32::from(*i) < limit)
 }
 
 fn is_ring_slot(ring: &Ring, slot: Slot) -> bool

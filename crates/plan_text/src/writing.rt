@@ -1,6 +1,7 @@
 //! Writing a plan.
 
 ghost use Rattle.std.specs.Prelude.{◌≡◌, ◌++◌, ◌∷◌, [], map, IfOk, IfErr, OnOk};
+ghost use Rattle.std.specs.Fmt.{decimal};
 ghost use Rattle.std.specs.List.{join_with_byte};
 ghost use Rattle.ring_names.specs.declared.refusal.Refusal.TheVariants.{OutOfMemory};
 ghost use Rattle.texts.specs.Parts.{line_text, text_of, spaced};
@@ -23,7 +24,17 @@ fn push_slot(out: &mut Vec<u8>, slot: Slot) -> Result<(), AllocError>
     push_numbers(out, &[slot.partition, slot.index])
 }
 
-// Where a copy reads, behind a space.
+// The indexes, each after a space.
+fn push_indexes(out: &mut Vec<u8>, indexes: &[u8]) -> Result<(), AllocError>
+    ensures { OnOk result (out.new.items ≡ out.old.items ++ spaced (map decimal indexes.now)) }
+{
+    for index in indexes {
+        push_numbers(out, &[u32::from(*index)])?;
+    }
+    Ok(())
+}
+
+// Where a copy reads, after a space.
 fn push_source(out: &mut Vec<u8>, source: &Source) -> Result<(), AllocError>
     ensures { OnOk result (out.new.items ≡ out.old.items ++ spaced (source_fields source.now)) }
 {
@@ -31,7 +42,7 @@ fn push_source(out: &mut Vec<u8>, source: &Source) -> Result<(), AllocError>
         Source::Owner => out.extend_from_slice(b" owner"),
         Source::Slots(from) => {
             out.extend_from_slice(b" slots")?;
-            push_numbers(out, from.as_slice())
+            push_indexes(out, from.as_slice())
         }
     }
 }

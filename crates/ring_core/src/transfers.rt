@@ -40,14 +40,14 @@ impl<'a> World<'a> {
     }
 
     // Whether the node owns one of these slots of a partition.
-    fn owns_some(&self, partition: u32, indexes: &[u32], node: NodeId) -> bool
+    fn owns_some(&self, partition: u32, indexes: &[u8], node: NodeId) -> bool
         ensures { result ≡ list_any (λ i. owns_kept self.now.parts.slots node.0 (slot_at partition i)) indexes.now }
     {
         indexes.iter().any(|index| {
             self.owns(
                 Slot {
                     partition,
-                    index: *index,
+                    index: u32::from(*index),
                 },
                 node,
             )

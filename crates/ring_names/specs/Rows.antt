@@ -1,22 +1,22 @@
--- Rows of numbers that stand in one list, one behind the other.
-use Rattle.std.specs.Prelude.{◌≡◌, ℕ, ◌≤◌, List, length, map, sum_by}
-use Rattle.std.specs.List.{AllByRecursion, slice_range}
-use Rattle.ring_names.specs.declared.rows.Span.{Span}
+-- Rows of numbers that stand in one list, one after the other.
+use Rattle.std.specs.Prelude.{◌≡◌, ℕ, ◌≤◌, List, [], ◌∷◌, length}
+use Rattle.std.specs.List.{slice_range}
 use Rattle.ring_names.specs.declared.rows.Rows.TheInside.{Inside}
 
--- the numbers of these places
-abbrev pub row_in : List ℕ → Span → List ℕ
-row_in numbers s = slice_range numbers s.from s.to
+-- the rows that end at these places, the first of which begins at a place
+abbrev pub rows_from : List ℕ → ℕ → List ℕ → List (List ℕ)
+rows_from numbers from [] = []
+rows_from numbers from (to ∷ ends) = slice_range numbers from to ∷ rows_from numbers to ends
 
 -- the rows that are kept so
 abbrev pub rows_of : Inside → List (List ℕ)
-rows_of a = map (row_in a.numbers.items) a.spans.items
+rows_of a = rows_from a.numbers.items 0 a.ends.items
 
--- the places are some of the list
-abbrev pub IsSpan : List ℕ → Span → Type 0
-IsSpan numbers s = (s.from ≤ s.to) × (s.to ≤ length numbers)
+-- the places do not descend, from the first place up to the last
+abbrev pub AreEnds : ℕ → List ℕ → ℕ → Type 0
+AreEnds from [] last = from ≡ last
+AreEnds from (to ∷ ends) last = (from ≤ to) × AreEnds to ends last
 
 -- what holds of the fields together
-pub record HoldsRows (a : Inside) : Type 0 where
-  pub within : AllByRecursion (IsSpan a.numbers.items) a.spans.items
-  pub total : sum_by (λ row. length row) (rows_of a) ≡ length a.numbers.items
+abbrev pub HoldsRows : Inside → Type 0
+HoldsRows a = AreEnds 0 a.ends.items (length a.numbers.items)

@@ -1,7 +1,9 @@
 //! A vector that contracts see as a list.
 
-ghost use Rattle.std.specs.Prelude.{◌≡◌};
+ghost use Rattle.std.specs.Prelude.{◌≡◌, ◌++◌, ◌∷◌, [], OnOk, OnErr, IfErr};
+ghost use Rattle.ring_names.specs.declared.refusal.Refusal.TheVariants.{OutOfMemory};
 
+use crate::refusal::Refusal;
 use std::marker::Model;
 
 /// Items in order. Contracts see only the list, so two are equal if their items are.
@@ -38,5 +40,17 @@ impl<T> Listed<T> {
         ensures { result.now ≡ self.now }
     {
         self.items.as_slice()
+    }
+}
+
+impl<T: Drop> Listed<T> {
+    /// Adds the item. Fails only if memory runs out, and then nothing changes.
+    pub fn push(&mut self, item: T) -> Result<(), Refusal>
+        ensures ok { OnOk result (self.new ≡ self.old ++ item ∷ []) }
+        ensures err { OnErr result (self.new ≡ self.old) }
+        ensures memory { IfErr result (λ e. e ≡ OutOfMemory) }
+    {
+        self.items.push(item)?;
+        Ok(())
     }
 }

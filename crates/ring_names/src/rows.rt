@@ -1,33 +1,46 @@
 //! Rows of numbers in one vector.
 
-ghost use Rattle.std.specs.Prelude.{◌≡◌, ◌<◌, ◌++◌, ◌∷◌, [], Some, length, slice_get, sum_by, OnOk, OnErr, IfErr};
+ghost use Rattle.std.specs.Prelude.{◌≡◌, ◌<◌, ◌≤◌, ◌-◌, ◌++◌, ◌∷◌, [], Some, length, slice_get, slice_index, take, sum_by, OnOk, OnErr, IfErr};
+ghost use Rattle.std.specs.List.{slice_range};
 ghost use Rattle.ring_names.specs.declared.refusal.Refusal.TheVariants.{OutOfMemory};
 
 use crate::refusal::Refusal;
 use std::alloc::Global;
 use std::marker::Model;
 
-/// A row: its numbers from place `from` up to place `to`.
-#[derive(Clone, Copy, Debug)]
-pub(crate) struct Span {
-    pub(crate) from: usize,
-    pub(crate) to: usize,
-}
-
 /// Rows of numbers in one vector, so that a row needs no allocation.
 #[derive(Debug)]
 pub struct Rows {
-    spans: Vec<Span>,
+    // where each row ends, which is where the next begins
+    ends: Vec<usize>,
     numbers: Vec<u32>,
 }
 
 // Dropping is a call, so crates above need not check the parts.
 impl Drop for Rows {
     fn drop(self) {
-        let Rows { spans, numbers } = self;
-        drop(spans);
+        let Rows { ends, numbers } = self;
+        drop(ends);
         drop(numbers);
     }
+}
+
+// Where the row at that place begins.
+fn start_of(ends: &[usize], place: usize) -> usize
+    requires { place ≤ length ends.now }
+    ensures { result ≡ slice_index (0 ∷ ends.now) place }
+{
+    if place == 0 { 0 } else { ends[place - 1] }
+}
+
+// The numbers of the row at that place.
+fn row_at<'a>(ends: &[usize], numbers: &'a [u32], place: usize) -> &'a [u32]
+    requires there { place < length ends.now }
+    requires from { slice_index (0 ∷ ends.now) place ≤ slice_index ends.now place }
+    requires to { slice_index ends.now place ≤ length numbers.now }
+    ensures { result.now ≡ slice_range numbers.now (slice_index (0 ∷ ends.now) place) (slice_index ends.now place) }
+{
+    &numbers[start_of(ends, place)..ends[place]]
 }
 
 impl Model for Rows {
@@ -47,7 +60,7 @@ impl Rows {
         ensures { result ≡ [] }
     {
         Rows {
-            spans: Vec::new(alloc),
+            ends: Vec::new(alloc),
             numbers: Vec::new(alloc),
         }
     }
@@ -56,7 +69,7 @@ impl Rows {
     pub fn len(&self) -> usize
         ensures { result ≡ length self.now }
     {
-        self.spans.len()
+        self.ends.len()
     }
 
     /// Counts the numbers of all rows.
@@ -71,8 +84,7 @@ impl Rows {
         requires { place < length self.now }
         ensures { slice_get self.now place ≡ Some result.now }
     {
-        let Span { from, to } = self.spans[place];
-        &self.numbers[from..to]
+        row_at(self.ends.as_slice(), self.numbers.as_slice(), place)
     }
 
     /// Adds a row. Fails only if memory runs out, and then nothing changes.
@@ -81,11 +93,19 @@ impl Rows {
         ensures err { OnErr result (self.new ≡ self.old) }
         ensures memory { IfErr result (λ e. e ≡ OutOfMemory) }
     {
-        let from = self.numbers.len();
-        self.spans.reserve(1)?;
+        self.ends.reserve(1)?;
         self.numbers.extend_from_slice(row)?;
-        let to = self.numbers.len();
-        self.spans.push_reserved(Span { from, to });
+        self.ends.push_reserved(self.numbers.len());
         Ok(())
+    }
+
+    /// Removes the last row, if there is one.
+    pub fn pop(&mut self)
+        ensures { self.new ≡ take (length self.old - 1) self.old }
+    {
+        if let Some(end) = self.ends.pop() {
+            let ends = self.ends.as_slice();
+            self.numbers.truncate(start_of(ends, ends.len()));
+        }
     }
 }

@@ -156,7 +156,7 @@ fn read_nodes(
         Source::Owner => push_owner(&mut nodes, stays, slot)?,
         Source::Slots(from) => {
             for index in from.as_slice() {
-                let (partition, index) = (slot.partition, *index);
+                let (partition, index) = (slot.partition, u32::from(*index));
                 push_owner(&mut nodes, stays, Slot { partition, index })?;
             }
         }

@@ -12,9 +12,9 @@ pub enum Role {
     Gives,
 }
 
-fn is_read(stays: &Stays, node: NodeId, partition: u32, listed: &[u32]) -> bool {
+fn is_read(stays: &Stays, node: NodeId, partition: u32, listed: &[u8]) -> bool {
     for index in listed {
-        let index = *index;
+        let index = u32::from(*index);
         if stays.owner(Slot { partition, index }) == Some(node.0) {
             return true;
         }

@@ -5,7 +5,7 @@ use plan_text::{Source, Step};
 use ring_names::Slot;
 use show_why::Said;
 
-fn different(indexes: &[u32]) -> u32 {
+fn different(indexes: &[u8]) -> u32 {
     let mut count = 0u32;
     for place in 0..indexes.len() {
         if !indexes[..place].contains(&indexes[place]) {
@@ -32,16 +32,16 @@ pub fn bad_source(case: Case, said: &mut Said, number: u32) {
 }
 
 // The first switch of a listed slot that comes neither before nor after the copy.
-fn moving(case: Case, slot: Slot, from: &[u32], number: u32) -> Option<(u32, u32)> {
+fn moving(case: Case, slot: Slot, from: &[u8], number: u32) -> Option<(u32, u32)> {
     for index in from {
         let listed = Slot {
             partition: slot.partition,
-            index: *index,
+            index: u32::from(*index),
         };
         for other in case.plan.slot_steps(listed) {
             if let Some(Step::Switch(_)) = case.step(*other) {
                 if !case.is_ordered(*other, number) && !case.is_ordered(number, *other) {
-                    return Some((*other, *index));
+                    return Some((*other, listed.index));
                 }
             }
         }

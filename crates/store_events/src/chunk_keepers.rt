@@ -72,7 +72,7 @@ fn with_slot(parts: &Parts, found: Option<NodeId>, slot: Slot, chunk: u32) -> Op
     }
 }
 
-fn with_slots(parts: &Parts, partition: u32, from: &[u32], chunk: u32) -> Option<NodeId>
+fn with_slots(parts: &Parts, partition: u32, from: &[u8], chunk: u32) -> Option<NodeId>
     requires chunk { chunk < 16 }
     requires sized { IsSized parts.now }
     ensures { Lessens parts.now None result
@@ -83,7 +83,7 @@ fn with_slots(parts: &Parts, partition: u32, from: &[u32], chunk: u32) -> Option
     'slots: while let Some((index, later)) = rest.split_first() {
         let slot = Slot {
             partition,
-            index: *index,
+            index: u32::from(*index),
         };
         least = with_slot(parts, least, slot, chunk);
         rest = later;

@@ -44,7 +44,7 @@ fn least_party(parts: &Parts, slot: Slot, source: &Source) -> Option<NodeId>
     }
 }
 
-fn least_owner(parts: &Parts, partition: u32, from: &[u32]) -> Option<NodeId>
+fn least_owner(parts: &Parts, partition: u32, from: &[u8]) -> Option<NodeId>
     ensures { result ≡ least_down (is_up_at parts.now.nodes)
         (map (owner_kept parts.now.slots) (map (slot_at partition) from.now)) }
 {
@@ -52,7 +52,7 @@ fn least_owner(parts: &Parts, partition: u32, from: &[u32]) -> Option<NodeId>
     for k in (0..from.len()).rev() {
         let slot = Slot {
             partition,
-            index: from[k],
+            index: u32::from(from[k]),
         };
         least = with_down(parts, parts.slots.owner(slot), least);
     }

@@ -85,7 +85,7 @@ fn add_slots(
     parts: &Parts,
     read: &mut SlotMap,
     partition: u32,
-    from: &[u32],
+    from: &[u8],
     chunk: u32,
 ) -> Result<(), Refusal>
     requires chunk { chunk < 16 }
@@ -101,7 +101,7 @@ fn add_slots(
     'slots: while let Some((index, later)) = rest.split_first() {
         let slot = Slot {
             partition,
-            index: *index,
+            index: u32::from(*index),
         };
         add_owner(parts, read, slot, chunk)?;
         add_hints(parts, read, slot, chunk)?;
@@ -111,7 +111,7 @@ fn add_slots(
 }
 
 // Reads the chunk for a copy of these slots, merged aside.
-fn read_slots(parts: &Parts, slot: Slot, from: &[u32], chunk: u32) -> Result<SlotMap, Refusal>
+fn read_slots(parts: &Parts, slot: Slot, from: &[u8], chunk: u32) -> Result<SlotMap, Refusal>
     requires chunk { chunk < 16 }
     requires sized { IsSized parts.now }
     requires kept { are_kept parts.now.slots slot.partition from.now ≡ true }
@@ -130,7 +130,7 @@ fn give_slots(
     parts: &mut Parts,
     mirror: NodeId,
     slot: Slot,
-    from: &[u32],
+    from: &[u8],
     chunk: u32,
 ) -> Result<(), Refusal>
     requires chunk { chunk < 16 }

@@ -1,4 +1,4 @@
-use Rattle.std.proofs.Common.{◌≡◌, ◌+◌, inl, inr, ℕ, Some, subst, length, arith}
+use Rattle.std.proofs.Common.{◌≡◌, ◌+◌, inl, inr, ℕ, Some, subst, arith}
 use Rattle.ring_names.specs.Noted.{noted_at}
 use Rattle.ring_names.proofs.Finding.{below_next}
 use Rattle.ring_names.proofs.noted.find.Goals as goal

@@ -1,15 +1,14 @@
 use Rattle.std.proofs.Common.{List, sym, ap, ◌∙◌}
 use Rattle.std.specs.List.{list_all}
-use Rattle.std.proofs.lemmas.List.Folds.{list_all-map}
-use Rattle.plan_text.specs.declared.step.Planned.{Planned}
-use Rattle.plan_text.specs.declared.plan.Kept.{Kept}
-use Rattle.plan_text.specs.Kept.{planned_in}
+use Rattle.plan_text.proofs.Terms.{Step, Planned}
+use Rattle.plan_text.proofs.Pushed.{with-all}
 use Rattle.plan_text.specs.Valid.{step_suits}
 use Rattle.plan_text.proofs.plan.Plan.all_suit.Goals as goal
 
 pub returns : goal.returns
 returns c =
+    let test = step_suits c.args.ring.now in
     c.all_suit.ensures
-    ∙ ap (λ (l : List Kept). list_all (λ (k : Kept). step_suits c.args.ring.now k.step) l) c.as_slice.ensures.value
-    ∙ sym (list_all-map (λ (x : Planned). step_suits c.args.ring.now x.step) (planned_in c.self.inside.rows) c.self.inside.steps.items)
-    ∙ ap (λ (l : List Planned). list_all (λ (x : Planned). step_suits c.args.ring.now x.step) l) c.self.view_is
+    ∙ ap (λ (l : List Step). list_all test l) c.as_slice.ensures.value
+    ∙ sym (with-all test c.self.inside.steps.items c.self.inside.rows c.self.invariant.rows)
+    ∙ ap (λ (l : List Planned). list_all (λ (x : Planned). test x.step) l) c.self.view_is
