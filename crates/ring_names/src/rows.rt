@@ -103,7 +103,7 @@ impl Rows {
     pub fn pop(&mut self)
         ensures { self.new ≡ take (length self.old - 1) self.old }
     {
-        if let Some(end) = self.ends.pop() {
+        if let Some(_end) = self.ends.pop() {
             let ends = self.ends.as_slice();
             self.numbers.truncate(start_of(ends, ends.len()));
         }

@@ -31,17 +31,35 @@ use ring_script::{Bundle, Kind, play_whole, read_bundle};
 use ring_table::{Ring, write_ring};
 use ringplan_job::Job;
 use std::alloc::Global;
+use std::mem::forget;
 use std::sync::Wait;
 use std::thread::Threads;
 
-fn check_plan(alloc: Global, ring: Ring, plan: Plan, cert: &Cert) -> Result<(), Refusal>
+// Checks a plan. If the program `ends` then, the memory of an accepted plan is left to the system.
+fn check_plan(alloc: Global, ring: Ring, plan: Plan, cert: &Cert, ends: bool) -> Result<(), Refusal>
     requires { Suits ring plan }
     ensures answer { Gives result (judged (first_refusal ring plan cert.now)) }
     ensures keeps { OnOk result (KeepsPromises ring plan) }
 {
     match check(alloc, ring, plan, cert) {
-        Ok(_) => Ok(()),
+        Ok(approved) => {
+            if ends {
+                forget(approved);
+            }
+            Ok(())
+        }
         Err(Turned { refusal, .. }) => Err(refusal),
+    }
+}
+
+fn check_read(alloc: Global, bytes: &[u8], ends: bool) -> Result<(), Refusal>
+    ensures read { Gives result (verdict bytes.now) }
+    ensures keeps { OnOk result (TextsKeepPromises bytes.now) }
+    ensures late { IfErr result (λ e. e ≡ OutOfMemory → NoFaultBefore 5 (whole_text (bundle_at Check) bytes.now)) }
+{
+    match read_bundle(alloc, Kind::Check, bytes) {
+        Ok(bundle) => check_plan(alloc, bundle.ring, bundle.plan, &bundle.cert, ends),
+        Err(e) => Err(e),
     }
 }
 
@@ -56,10 +74,7 @@ pub fn check_bundle(alloc: Global, bytes: &[u8]) -> Result<(), Refusal>
     ensures keeps { OnOk result (TextsKeepPromises bytes.now) }
     ensures late { IfErr result (λ e. e ≡ OutOfMemory → NoFaultBefore 5 (whole_text (bundle_at Check) bytes.now)) }
 {
-    match read_bundle(alloc, Kind::Check, bytes) {
-        Ok(bundle) => check_plan(alloc, bundle.ring, bundle.plan, &bundle.cert),
-        Err(e) => Err(e),
-    }
+    check_read(alloc, bytes, false)
 }
 
 fn check_plan_by<RT: Threads + Wait + Sync>(
@@ -236,14 +251,18 @@ pub fn make(alloc: Global, job: Job, bytes: &[u8]) -> Result<Vec<u8>, Refusal>
 
 /// Does a job with a bundle, and may drop the bytes early.
 ///
-/// For a program that ends then: the store of a play or a replay is left to the system.
+/// For a program that ends then: an accepted plan and the store of a play or a replay are left to the system.
 pub fn answer_bytes(alloc: Global, job: Job, bytes: Vec<u8>) -> Result<Vec<u8>, Refusal>
     ensures { MakesIf job bytes.items (texts_of result) }
 {
     match job {
         Job::Replay => replay_whole(alloc, bytes),
         Job::Play => play_given(alloc, bytes),
-        Job::Check | Job::Migrate | Job::Plan => make(alloc, job, bytes.as_slice()),
+        Job::Check => {
+            check_read(alloc, bytes.as_slice(), true)?;
+            yes(alloc)
+        }
+        Job::Migrate | Job::Plan => make(alloc, job, bytes.as_slice()),
     }
 }
 

@@ -3,7 +3,7 @@ use Rattle.std.proofs.lemmas.Result.{on_ok_weaker}
 use Rattle.plan_check.specs.Headline.{KeepsPromises}
 use Rattle.texts.specs.Judging.{Gives}
 use Rattle.ringplan_jobs.proofs.Verdicts.{verdict-bad, verdict-good}
-use Rattle.ringplan_jobs.proofs.bundle.check_bundle.Goals as goal
+use Rattle.ringplan_jobs.proofs.bundle.check_read.Goals as goal
 
 pub returns-in-Ok-clause-read : goal.returns-in-Ok-clause-read
 returns-in-Ok-clause-read c = subst (λ v. Gives c.check_plan.result v) (sym (verdict-good c.args.bytes.now c.in-Ok.bundle c.in-Ok.ensures.read)) c.check_plan.ensures.answer
