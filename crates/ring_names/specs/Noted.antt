@@ -1,15 +1,21 @@
 -- Numbers that are found by a sum of the bytes that they are of.
-use Rattle.std.specs.Prelude.{◌≡◌, ℕ, ◌+◌, ◌*◌, ◌/◌, ◌%◌, ◌<◌, ◌==◌, ◌&&◌, ◌-◌, nat_lt, List, length, Option, Some, None, if◌then◌else◌, slice_get}
+use Rattle.std.specs.Prelude.{◌≡◌, ℕ, ◌+◌, ◌*◌, ◌/◌, ◌%◌, ◌<◌, ◌==◌, ◌&&◌, ◌-◌, nat_lt, List, [], ◌∷◌, ◌^◌, length, drop, bit_xor, Option, Some, None, if◌then◌else◌, slice_get}
 use Rattle.std.specs.List.{fold}
+use Rattle.std.specs.Int.{w64, from_le_bytes}
 use Rattle.ring_names.specs.declared.noted.Noted.{Noted}
 
--- the sum once one more byte came
+-- the sum once one more word came
 abbrev pub next_sum : ℕ → ℕ → ℕ
-next_sum sum byte = (sum + byte) * 16777619 % 4294967296
+next_sum sum word = let product = bit_xor sum word * 11400714819323198485 % 2 ^ 64 in bit_xor product (product / 2 ^ 32)
 
--- the sum of bytes
+-- the sum once all whole words of eight bytes came
+abbrev pub sum_of_words : ℕ → List ℕ → ℕ
+sum_of_words sum (a ∷ b ∷ c ∷ d ∷ e ∷ f ∷ g ∷ h ∷ rest) = sum_of_words (next_sum sum (from_le_bytes w64 (a ∷ b ∷ c ∷ d ∷ e ∷ f ∷ g ∷ h ∷ []))) rest
+sum_of_words sum bytes = sum
+
+-- the sum of bytes: of their words and the last word, or of few bytes
 abbrev pub sum_of : List ℕ → ℕ
-sum_of bytes = fold next_sum 2166136261 bytes
+sum_of bytes = (if nat_lt (length bytes) 8 then fold next_sum 0 bytes else next_sum (sum_of_words 0 bytes) (from_le_bytes w64 (drop (length bytes - 8) bytes))) / 2 ^ 32
 
 -- the first place of a sum in a table of so many
 abbrev pub first_place : ℕ → ℕ → ℕ

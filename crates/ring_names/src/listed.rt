@@ -44,12 +44,15 @@ impl<T> Listed<T> {
 }
 
 impl<T: Drop> Listed<T> {
-    /// Adds the item. Fails only if memory runs out, and then nothing changes.
+    /// Adds the item. Fails only if memory runs out, and then nothing changes. A first item makes room for 12.
     pub fn push(&mut self, item: T) -> Result<(), Refusal>
         ensures ok { OnOk result (self.new ≡ self.old ++ item ∷ []) }
         ensures err { OnErr result (self.new ≡ self.old) }
         ensures memory { IfErr result (λ e. e ≡ OutOfMemory) }
     {
+        if self.items.is_empty() {
+            self.items.reserve(12)?;
+        }
         self.items.push(item)?;
         Ok(())
     }

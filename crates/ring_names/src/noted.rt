@@ -1,7 +1,8 @@
 //! A hash table from bytes to numbers.
 
 ghost use Rattle.std.specs.Prelude.{◌≡◌, ℕ, List, Some, true, false, length, map, option_map, slice_get, IfSome, IfNone};
-ghost use Rattle.ring_names.specs.Noted.{IsNoted, first_place, noted_at, sum_of};
+ghost use Rattle.std.specs.List.{fold};
+ghost use Rattle.ring_names.specs.Noted.{IsNoted, first_place, next_sum, noted_at, sum_of, sum_of_words};
 
 /// An entry of the table: a checksum of some bytes, and 1 plus their number, or 0 if free.
 #[derive(Clone, Copy)]
@@ -16,15 +17,45 @@ pub const FREE: Noted = Noted { sum: 0, next: 0 };
 // How many successive places may have a number.
 const NEAR: usize = 8;
 
+// A sum with one more word: Fibonacci hashing (Knuth, The Art of Computer Programming, volume 3, section 6.4).
+fn next_sum(sum: u64, word: u64) -> u64
+    ensures { result ≡ next_sum sum word }
+{
+    let product = (sum ^ word).wrapping_mul(11_400_714_819_323_198_485);
+    product ^ (product >> 32)
+}
+
+// The sum of fewer than 8 bytes.
+fn sum_of_few(bytes: &[u8]) -> u64
+    ensures { result ≡ fold next_sum 0 bytes.now }
+{
+    bytes
+        .iter()
+        .fold(0, |sum, byte| next_sum(sum, u64::from(*byte)))
+}
+
+// The sum of all whole words.
+fn sum_of_words(bytes: &[u8]) -> u64
+    ensures { result ≡ sum_of_words 0 bytes.now }
+{
+    let mut sum = 0;
+    let mut rest = bytes;
+    'words: while let Some((word, more)) = rest.split_first_chunk::<8>() {
+        sum = next_sum(sum, u64::from_le_bytes(*word));
+        rest = more;
+    }
+    sum
+}
+
 // A checksum that depends on the bytes and their order.
 fn sum_of(bytes: &[u8]) -> u32
     ensures { result ≡ sum_of bytes.now }
 {
-    let mut sum = 2_166_136_261u64;
-    for byte in bytes {
-        sum = (sum + *byte as u64) * 16_777_619 % 4_294_967_296;
-    }
-    sum as u32
+    let sum = match bytes.last_chunk::<8>() {
+        Some(last) => next_sum(sum_of_words(bytes), u64::from_le_bytes(*last)),
+        None => sum_of_few(bytes),
+    };
+    (sum >> 32) as u32
 }
 
 // The first place of a checksum in a table. A product and a shift are much faster than a division.
