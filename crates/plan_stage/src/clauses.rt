@@ -77,16 +77,18 @@ fn is_settled_slot(context: &Context, number: u32, slot: Slot) -> bool
     are_settled(context, number, context.plan.slot_steps(slot))
 }
 
+fn is_settled_at(context: &Context, number: u32, partition: u32, index: u8) -> bool
+    ensures { result ≡ each_step (λ m s. not (is_switch_of (record { partition = partition; index = index }) s) ||
+        (order context.now m number || order context.now number m)) 0 context.now.plan.now }
+{
+    let index = u32::from(index);
+    is_settled_slot(context, number, Slot { partition, index })
+}
+
 fn is_settled(context: &Context, number: u32, slot: Slot, from: &[u8]) -> bool
     ensures { result ≡ is_settled context.now.plan.now (order context.now) number slot from.now }
 {
-    from.iter().all(|index| {
-        let listed = Slot {
-            partition: slot.partition,
-            index: u32::from(*index),
-        };
-        is_settled_slot(context, number, listed)
-    })
+    from.iter().all(|index| is_settled_at(context, number, slot.partition, *index))
 }
 
 fn begins_before(holding: &Holding, number: u32) -> bool

@@ -39,19 +39,20 @@ impl<'a> World<'a> {
         }
     }
 
+    fn owns_at(&self, partition: u32, index: u8, node: NodeId) -> bool
+        ensures { result ≡ owns_kept self.now.parts.slots node.0 (slot_at partition index) }
+    {
+        let index = u32::from(index);
+        self.owns(Slot { partition, index }, node)
+    }
+
     // Whether the node owns one of these slots of a partition.
     fn owns_some(&self, partition: u32, indexes: &[u8], node: NodeId) -> bool
         ensures { result ≡ list_any (λ i. owns_kept self.now.parts.slots node.0 (slot_at partition i)) indexes.now }
     {
-        indexes.iter().any(|index| {
-            self.owns(
-                Slot {
-                    partition,
-                    index: u32::from(*index),
-                },
-                node,
-            )
-        })
+        indexes
+            .iter()
+            .any(|index| self.owns_at(partition, *index, node))
     }
 
     // Whether the node owns a slot that the copy reads.

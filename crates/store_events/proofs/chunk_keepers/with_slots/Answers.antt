@@ -13,7 +13,7 @@ pub slots-preserved : goal.slots-preserved
 slots-preserved c =
     let a = c.args.parts.now in
     lessening_more a (λ (w : World) (i : ℕ). keeps_part (ring_of a) w (slot_at c.args.partition i) c.args.chunk) c.args.from.now None c.slots.least c.with_slot-least.result c.slots.rest.now c.in-Some.later.now
-    c.in-Some.index.now (c.in-Some.ensures).cases.0 c.with_slot-least.ensures c.slots.invariant
+    c.in-Some.index.now (c.in-Some.ensures).cases.0 (rw c.from.ensures at c.with_slot-least.ensures) c.slots.invariant
 
 pub returns : goal.returns
 returns c =

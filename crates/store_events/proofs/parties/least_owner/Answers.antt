@@ -8,4 +8,4 @@ loop-k-preserved c =
     let a = c.args.parts.now in
     let some : 0 < c.loop-k.k = omega arith in
     let within : c.loop-k.k ≤ length c.args.from.now = omega arith in
-    owners_next (is_up_at a.nodes) a.slots c.args.partition c.args.from.now c.loop-k.k c.owner.result c.loop-k.least c.with_down-least.result some within c.owner.ensures c.with_down-least.ensures c.loop-k.invariant
+    owners_next (is_up_at a.nodes) a.slots c.args.partition c.args.from.now c.loop-k.k c.owner.result c.loop-k.least c.with_down-least.result some within (rw c.from.ensures at c.owner.ensures) c.with_down-least.ensures c.loop-k.invariant

@@ -24,7 +24,7 @@ slots-preserved c =
       (c.in_ok-add_hints.ensures).space ∙ (c.in_ok-add_owner.ensures).space ∙ c.slots.invariant.0,
       kept_later a.slots c.args.partition c.slots.rest.now c.in-Some.later.now i (c.in-Some.ensures).cases.0 c.slots.invariant.1,
       visits_more a c.args.chunk (λ (w : World) (j : ℕ). slot_has (ring_of a) (plan_of a) w (slot_at c.args.partition j)) c.args.from.now (held_for c.args.read.now) (held_for c.slots.read) new c.slots.rest.now c.in-Some.later.now i (c.in-Some.ensures).cases.0
-          (gathers_both a c.args.chunk (held_for c.slots.read) mid new (λ w. w.stored (stage_now (ring_of a) (plan_of a) w slot).owner.0 slot) (λ w. some_hinted (ring_of a) w slot) (c.in_ok-add_owner.ensures).ok (c.in_ok-add_hints.ensures).ok)
+          (gathers_both a c.args.chunk (held_for c.slots.read) mid new (λ w. w.stored (stage_now (ring_of a) (plan_of a) w slot).owner.0 slot) (λ w. some_hinted (ring_of a) w slot) (rw c.from.ensures at (c.in_ok-add_owner.ensures).ok) (rw c.from.ensures at (c.in_ok-add_hints.ensures).ok))
           c.slots.invariant.2,
     )
 
