@@ -7,6 +7,8 @@ mod copies;
 mod cover;
 mod covered;
 mod linked;
+mod marks;
+mod places;
 mod present;
 
 pub use check::{check_node, check_nodes};

@@ -1,6 +1,5 @@
 -- How the checker looks at a clause: the clauses of a node over what a cover keeps of it.
 use Rattle.std.specs.Prelude.{ℕ, Bool, true, ◌&&◌, List, [], ◌∷◌, length, map, min, Option, Some, None, slice_get, if◌then◌else◌}
-use Rattle.ring_names.specs.Lists.{has}
 use Rattle.ring_names.specs.declared.ids.NodeId.{NodeId}
 use Rattle.ring_names.specs.declared.lists.Lists.{Lists}
 use Rattle.ring_names.specs.declared.refusal.Refusal.TheVariants.{NotJoined, CoverMissing, ChainBroken, TooManyChains}
@@ -23,10 +22,6 @@ retirement_guards ring plan O x o = elim o [ Some n ↦ (has_joined ring plan O 
 abbrev pub leads_on : Test → ℕ → List ℕ → Bool
 leads_on O a rest = elim (slice_get rest 0) [ Some b ↦ O a b | None ↦ true ]
 
--- each step is one of the copies, and comes before the next
-abbrev pub is_linked_in : List ℕ → Test → List ℕ → Bool
-is_linked_in copies O steps = is_linked (λ n. has n copies) O steps
-
 -- the steps of the chain of that number
 abbrev pub steps_at : List Chain → ℕ → List ℕ
 steps_at chains k = elim (slice_get chains k) [ Some c ↦ c.steps | None ↦ [] ]
@@ -41,10 +36,10 @@ chains_at chains side [] = []
 chains_at chains side (k ∷ ks) =
     if is_side side (side_at chains k) then steps_at chains k ∷ chains_at chains side ks else chains_at chains side ks
 
--- the chain of that number is of a side that the node has, and is linked in the copies of that side
-abbrev pub chain_guard : RingValue → NodeId → (Side → List ℕ) → Test → List Chain → ℕ → Guard
-chain_guard ring x copies O chains k = (
-  has_side ring x (side_at chains k) && is_linked_in (copies (side_at chains k)) O (steps_at chains k),
+-- the chain of that number is of a side that the node has, and its steps are linked and marked on that side
+abbrev pub chain_guard : RingValue → NodeId → (Side → ℕ → Bool) → Test → List Chain → ℕ → Guard
+chain_guard ring x marked O chains k = (
+  has_side ring x (side_at chains k) && is_linked (marked (side_at chains k)) O (steps_at chains k),
   ChainBroken (min k 4294967295),
 )
 

@@ -5,7 +5,7 @@ use Rattle.ring_names.specs.contracts.ids.NodeIdPartialEq.TheImpl as node_eq
 use Rattle.ring_table.specs.contracts.allowance.NodeSidePartialEq.TheImpl as side_eq
 use Rattle.ring_table.specs.declared.allowance.NodeSide.{NodeSide}
 use Rattle.ring_table.specs.declared.allowance.Side.{Side}
-use Rattle.texts.specs.Numbers.{ascending}
+use Rattle.ring_names.specs.Lists.{has}
 use Rattle.ring_names.specs.declared.ids.NodeId.{NodeId}
 use Rattle.ring_names.specs.declared.lists.Lists.{Lists}
 use Rattle.ring_table.specs.Value.{RingValue}
@@ -16,7 +16,9 @@ use Rattle.plan_stage.specs.Occupancy.{is_node}
 use Rattle.plan_stage.specs.Stage.{is_among}
 use Rattle.plan_stage.specs.Parties.{parties_on}
 use Rattle.plan_cover.specs.Clauses.{has_side}
+use Rattle.plan_cover.specs.Looking.Marked.{is_within}
 use Rattle.plan_cover.specs.declared.cover.Cover.{Cover}
+use Rattle.plan_cover.specs.declared.marks.Marks.{Marks}
 
 -- the numbers of the entries that pass the test, ascending, where the first has number k
 abbrev pub numbers_from : {A : Type 0} → (ℕ → A → Bool) → ℕ → List A → List ℕ
@@ -51,9 +53,9 @@ copies_kept a y = list_at ((side_eq.ghosts).eq) a y
 abbrev pub sides_kept : Lists NodeSide ℕ → NodeId → Side → List ℕ
 sides_kept a x side = copies_kept a (record { node = x; side = side })
 
--- those of each side ascend
-abbrev pub AreAscending : Lists NodeSide ℕ → Type 0
-AreAscending a = (y : NodeSide) → ascending (copies_kept a y) ≡ true
+-- those of the node can be marked
+abbrev pub AreWithin : Marks → Lists NodeSide ℕ → NodeId → Type 0
+AreWithin marks a x = (side : Side) (n : ℕ) → has n (sides_kept a x side) ≡ true → is_within marks side n ≡ true
 
 -- whether the last number is n
 abbrev pub is_last : ℕ → List ℕ → Bool
