@@ -10,7 +10,6 @@ use Rattle.ring_names.specs.Lists.{has, all_different}
 use Rattle.ring_names.specs.declared.ids.NodeId.{NodeId}
 use Rattle.ring_names.specs.declared.refusal.Refusal.{Refusal}
 use Rattle.ring_names.specs.declared.refusal.Refusal.TheVariants.{ChainBroken, CoverMissing, TooManyChains}
-use Rattle.ring_names.specs.declared.lists.Lists.{Lists}
 use Rattle.ring_table.specs.declared.allowance.NodeSide.{NodeSide}
 use Rattle.ring_table.specs.declared.allowance.Side.{Side}
 use Rattle.ring_table.specs.declared.allowance.Side.TheVariants.{Both, Take, Give}
@@ -28,6 +27,7 @@ use Rattle.plan_cover.specs.Clauses.{in_some, chains_from, retire_clauses, is_li
 use Rattle.plan_cover.specs.Looking.Numbers.{numbers_from, is_chain_of, copies_of, chain_numbers, copies_kept, sides_kept, AreWithin}
 use Rattle.plan_cover.specs.Looking.Marked.{place_count, HasPlaces}
 use Rattle.plan_cover.specs.Looking.Places.{place_at}
+use Rattle.plan_cover.specs.declared.by_place.ByPlace.{ByPlace}
 use Rattle.plan_cover.specs.declared.marks.Marks.{Marks}
 use Rattle.plan_cover.specs.Looking.Guards.{retirement_guards, steps_at, side_at, chains_at, chain_guard, copy_guard, side_guards, count_guards}
 use Rattle.plan_cover.proofs.Counting.{AreBetween, numbers-between}
@@ -166,7 +166,7 @@ copies-guarded ring plan x side chains false k (p ∷ ps) = copies-guarded ring 
 -- ---- the clauses of a node
 
 -- what is tested, in its order
-abbrev pub tested : RingValue → List Planned → Test → NodeId → List Chain → List ℕ → (Side → ℕ → Bool) → Lists NodeSide ℕ → Option Refusal
+abbrev pub tested : RingValue → List Planned → Test → NodeId → List Chain → List ℕ → (Side → ℕ → Bool) → ByPlace ℕ → Option Refusal
 tested ring plan O x chains numbers marked copies = option_or (first_failing (retirement_guards ring plan O x (retirement_of plan x.0)))
     (option_or (first_failing (map (chain_guard ring x marked O chains) numbers))
     (option_or (first_failing (each_side (side_guards copies chains numbers x)))
@@ -176,7 +176,7 @@ tested ring plan O x chains numbers marked copies = option_or (first_failing (re
 each-same : (f g : Side → List Guard) → ((side : Side) → f side ≡ g side) → each_side f ≡ each_side g
 each-same f g same = rw (same Both, same Take, same Give) refl
 
-module _ (ring : RingValue) (plan : List Planned) (cert : Cert) (O : Test) (x : NodeId) (numbers : List ℕ) (copies : Lists NodeSide ℕ)
+module _ (ring : RingValue) (plan : List Planned) (cert : Cert) (O : Test) (x : NodeId) (numbers : List ℕ) (copies : ByPlace ℕ)
     (marked : Side → ℕ → Bool)
     (ns : numbers ≡ chain_numbers cert.chains x) (cs : (y : NodeSide) → copies_kept copies y ≡ copies_of ring plan y) (ms : (side : Side) (n : ℕ) → marked side n ≡ has n (sides_kept copies x side)) where
   chains_of : (side : Side) → chains_from x.0 side cert.chains ≡ chains_at cert.chains side numbers
@@ -223,7 +223,7 @@ count-chains chains side ks = sym (is_count_by (λ ls. length (chains_at chains 
     by false steps ls = refl
 
 -- the copies that are kept can be marked
-pub kept-within : (ring : RingValue) (plan : List Planned) (copies : Lists NodeSide ℕ) (marks : Marks) → ((y : NodeSide) → copies_kept copies y ≡ copies_of ring plan y) → HasPlaces (length plan) marks → (x : NodeId) → AreWithin marks copies x
+pub kept-within : (ring : RingValue) (plan : List Planned) (copies : ByPlace ℕ) (marks : Marks) → ((y : NodeSide) → copies_kept copies y ≡ copies_of ring plan y) → HasPlaces (length plan) marks → (x : NodeId) → AreWithin marks copies x
 kept-within ring plan copies marks cs places x side n h = elim (cases_lt n (length plan)) [
   | inl low ↦ lt-ltb (place_at n side) (place_count marks) (below side low)
   | inr high ↦ absurd (let e = sym h ∙ ap (has n) (cs (record { node = x; side = side })) ∙ has-copies ring plan (record { node = x; side = side }) n ∙ no_party ring plan (record { node = x; side = side }) n high in cc)

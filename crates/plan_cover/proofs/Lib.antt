@@ -5,3 +5,4 @@ pub mod Retiring
 pub mod Guarded
 pub mod Alike
 pub mod Placed
+pub mod Sided

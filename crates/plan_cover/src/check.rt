@@ -8,20 +8,22 @@ ghost use Rattle.plan_text.specs.Valid.{Suits};
 ghost use Rattle.plan_order.specs.Facts.{is_ordered, AreFactsOf};
 ghost use Rattle.plan_order.specs.Order.{order};
 ghost use Rattle.plan_stage.specs.Clauses.{Gives, below};
-ghost use Rattle.plan_cover.specs.Clauses.{is_few, each_side, node_clauses};
+ghost use Rattle.plan_cover.specs.Clauses.{each_side, node_clauses};
 ghost use Rattle.plan_cover.specs.Looking.Marked.{is_marked, place_count, is_within, HasPlaces};
 ghost use Rattle.plan_cover.specs.Looking.Numbers.{sides_kept, AreWithin, IsCover};
 ghost use Rattle.plan_cover.specs.Looking.Guards.{retirement_guards, chains_at, side_guards, count_guards};
 
+use crate::by_place::ByPlace;
 use crate::cover::Cover;
 use crate::covered::{check_copies, is_side};
 use crate::linked::{check_chains, side_at};
 use crate::marks::Marks;
+use crate::places::place_at;
 use plan_cert::{Cert, Chains};
 use plan_order::{Context, Facts};
 use plan_stage::has_joined_by;
 use plan_text::Plan;
-use ring_names::{Lists, NodeId, Refusal};
+use ring_names::{NodeId, Refusal};
 use ring_table::{NodeSide, Ring, Side};
 use std::alloc::Global;
 
@@ -91,12 +93,13 @@ fn check_with(
     cert: &Cert,
     node: NodeId,
 ) -> Result<(), Refusal>
+    requires node { node.0 < length context.now.ring.now.nodes }
     requires cover { IsCover context.now.ring.now context.now.plan.now cert.now cover.now }
     requires places { HasPlaces (length context.now.plan.now) marks.old }
     ensures first { Gives result (node_clauses context.now.ring.now context.now.plan.now cert.now (order context.now) node) }
     ensures places { HasPlaces (length context.now.plan.now) marks.new }
 {
-    let numbers = cover.chains.items(&node);
+    let numbers = cover.chains.items(node.0 as usize);
     mark_copies(marks, &cover.copies, node);
     check_retirement(context, node)?;
     check_chains(context, marks, &cert.chains, numbers, node)?;
@@ -105,24 +108,24 @@ fn check_with(
 }
 
 // Marks the copies of the node, and nothing else.
-fn mark_copies(marks: &mut Marks, copies: &Lists<NodeSide, u32>, node: NodeId)
+fn mark_copies(marks: &mut Marks, copies: &ByPlace<u32>, node: NodeId)
     requires { AreWithin marks.old copies.now node }
     ensures marked { (s : TheSide) (n : ℕ) → is_marked marks.new s n ≡ has n (sides_kept copies.now node s) }
     ensures places { place_count marks.new ≡ place_count marks.old }
 {
     marks.begin();
     let side = Side::Both;
-    marks.mark_all(side, copies.items(&NodeSide { node, side }));
+    marks.mark_all(side, copies.items(place_at(node.0, side)));
     let side = Side::Take;
-    marks.mark_all(side, copies.items(&NodeSide { node, side }));
+    marks.mark_all(side, copies.items(place_at(node.0, side)));
     let side = Side::Give;
-    marks.mark_all(side, copies.items(&NodeSide { node, side }));
+    marks.mark_all(side, copies.items(place_at(node.0, side)));
 }
 
 // Tests the copies of a side of the node.
 fn check_side(
     marks: &mut Marks,
-    copies: &Lists<NodeSide, u32>,
+    copies: &ByPlace<u32>,
     chains: &Chains,
     numbers: &[usize],
     of: NodeSide,
@@ -131,13 +134,19 @@ fn check_side(
     ensures first { Gives result (side_guards copies.now chains.now numbers.now of.node of.side) }
     ensures places { place_count marks.new ≡ place_count marks.old }
 {
-    check_copies(marks, chains, numbers, copies.items(&of), of)
+    check_copies(
+        marks,
+        chains,
+        numbers,
+        copies.items(place_at(of.node.0, of.side)),
+        of,
+    )
 }
 
 // Tests the copies of the node, side by side.
 fn check_covers(
     marks: &mut Marks,
-    copies: &Lists<NodeSide, u32>,
+    copies: &ByPlace<u32>,
     chains: &Chains,
     numbers: &[usize],
     node: NodeId,
@@ -201,22 +210,10 @@ fn check_count(
 ) -> Result<(), Refusal>
     ensures { Gives result (count_guards ring.now chains.now numbers.now node side) }
 {
-    if is_few(
-        ring,
-        NodeSide { node, side },
-        count_of(chains, side, numbers),
-    ) {
-        Ok(())
-    } else {
-        Err(Refusal::TooManyChains(node.0))
+    if let Some(most) = ring.allowance(NodeSide { node, side }) {
+        if count_of(chains, side, numbers) > most as usize {
+            return Err(Refusal::TooManyChains(node.0));
+        }
     }
-}
-
-fn is_few(ring: &Ring, of: NodeSide, count: usize) -> bool
-    ensures { result ≡ is_few ring.now of.node of.side count }
-{
-    match ring.allowance(of) {
-        Some(most) => count <= most as usize,
-        None => true,
-    }
+    Ok(())
 }

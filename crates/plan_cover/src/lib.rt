@@ -1,6 +1,7 @@
 //! The clauses of a node: its retirement, its transfers, and the chains of a certificate that cover them.
 #![tactic(auto)]
 
+mod by_place;
 mod chains;
 mod check;
 mod copies;

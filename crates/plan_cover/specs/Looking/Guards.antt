@@ -1,9 +1,7 @@
 -- How the checker looks at a clause: the clauses of a node over what a cover keeps of it.
 use Rattle.std.specs.Prelude.{ℕ, Bool, true, ◌&&◌, List, [], ◌∷◌, length, map, min, Option, Some, None, slice_get, if◌then◌else◌}
 use Rattle.ring_names.specs.declared.ids.NodeId.{NodeId}
-use Rattle.ring_names.specs.declared.lists.Lists.{Lists}
 use Rattle.ring_names.specs.declared.refusal.Refusal.TheVariants.{NotJoined, CoverMissing, ChainBroken, TooManyChains}
-use Rattle.ring_table.specs.declared.allowance.NodeSide.{NodeSide}
 use Rattle.ring_table.specs.declared.allowance.Side.{Side}
 use Rattle.ring_table.specs.declared.allowance.Side.TheVariants.{Both}
 use Rattle.ring_table.specs.Value.{RingValue, is_side}
@@ -13,6 +11,7 @@ use Rattle.plan_stage.specs.Clauses.{Guard}
 use Rattle.plan_stage.specs.Partition.{Test, has_joined}
 use Rattle.plan_cover.specs.Clauses.{is_linked, in_some, has_side, is_few}
 use Rattle.plan_cover.specs.Looking.Numbers.{sides_kept}
+use Rattle.plan_cover.specs.declared.by_place.ByPlace.{ByPlace}
 
 -- where step n retires the node, the node is on the ring before it
 abbrev pub retirement_guards : RingValue → List Planned → Test → NodeId → Option ℕ → List Guard
@@ -48,7 +47,7 @@ abbrev pub copy_guard : List (List ℕ) → NodeId → ℕ → Guard
 copy_guard chains x n = (in_some n chains, CoverMissing x.0 n)
 
 -- the node's copies on that side are in its chains on that side
-abbrev pub side_guards : Lists NodeSide ℕ → List Chain → List ℕ → NodeId → Side → List Guard
+abbrev pub side_guards : ByPlace ℕ → List Chain → List ℕ → NodeId → Side → List Guard
 side_guards copies chains numbers x side = map (copy_guard (chains_at chains side numbers) x) (sides_kept copies x side)
 
 -- there are not too many chains of that side

@@ -7,10 +7,10 @@ use Rattle.plan_cover.proofs.Chained.{chains-take}
 use Rattle.plan_cover.proofs.chains.chains_of.Goals as goal
 
 pub loop-k-preserved : goal.loop-k-preserved
-loop-k-preserved c = λ x.
-    c.in_ok-add.ensures.ok x ∙ ap (λ (l : List ℕ). cond (is_node x c.of.result.node) (l ++ c.loop-k.k ∷ []) l) (c.loop-k.invariant x) ∙ sym (chains-take c.args.chains.now c.loop-k.k c.of.result x c.of.ensures)
+loop-k-preserved c = λ x l.
+    c.in_ok-add_chain.ensures.ok x l ∙ ap (λ (l : List ℕ). cond (is_node x c.of.result.node) (l ++ c.loop-k.k ∷ []) l) (c.loop-k.invariant x l) ∙ sym (chains-take c.args.chains.now c.loop-k.k c.of.result x c.of.ensures)
 
 pub returns-clause-ok : goal.returns-clause-ok
-returns-clause-ok c = λ x.
+returns-clause-ok c = λ x l.
     let end : c.loop-k.k ≡ length c.args.chains.now = omega arith in
-    c.loop-k.invariant x ∙ ap (λ (cs : List Chain). chain_numbers cs x) (take-all c.args.chains.now c.loop-k.k end)
+    c.loop-k.invariant x l ∙ ap (λ (cs : List Chain). chain_numbers cs x) (take-all c.args.chains.now c.loop-k.k end)
