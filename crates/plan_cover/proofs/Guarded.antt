@@ -25,8 +25,7 @@ use Rattle.plan_stage.specs.Clauses.{Guard, first_failing, Gives}
 use Rattle.plan_stage.specs.Partition.{Test, steps_clauses}
 use Rattle.plan_cover.specs.Clauses.{in_some, chains_from, retire_clauses, is_linked, has_side, is_good_chain, chains_clauses, cover_clauses, side_covers, is_few, side_count, each_side, node_clauses}
 use Rattle.plan_cover.specs.Looking.Numbers.{numbers_from, is_chain_of, copies_of, chain_numbers, copies_kept, sides_kept, AreWithin}
-use Rattle.plan_cover.specs.Looking.Marked.{place_count, HasPlaces}
-use Rattle.plan_cover.specs.Looking.Places.{place_at}
+use Rattle.plan_cover.specs.Looking.Places.{place_count, HasPlaces, place_at}
 use Rattle.plan_cover.specs.declared.by_place.ByPlace.{ByPlace}
 use Rattle.plan_cover.specs.declared.marks.Marks.{Marks}
 use Rattle.plan_cover.specs.Looking.Guards.{retirement_guards, steps_at, side_at, chains_at, chain_guard, copy_guard, side_guards, count_guards}

@@ -2,10 +2,26 @@
 
 ghost use Rattle.std.specs.Prelude.{◌≡◌, ◌++◌, ◌∷◌, [], ◌<◌, ◌==◌, ℕ, length, IfErr, OnOk, if◌then◌else◌};
 ghost use Rattle.ring_names.specs.declared.refusal.Refusal.TheVariants.{OutOfMemory};
-ghost use Rattle.plan_cover.specs.Looking.Listed.{listed_at};
+ghost use Rattle.plan_cover.specs.Looking.Places.{listed_at, place_at};
 
 use ring_names::Refusal;
+use ring_table::Side;
 use std::alloc::Global;
+
+// Room that a list's first value takes.
+const FIRST: usize = 16;
+
+/// The place of a number on a side, such as of a node or of a step.
+pub fn place_at(number: u32, side: Side) -> usize
+    ensures { result ≡ place_at number side }
+{
+    let of_side = match side {
+        Side::Both => 0,
+        Side::Take => 1,
+        Side::Give => 2,
+    };
+    3 * number as usize + of_side
+}
 
 /// A list of values at each place, empty by default. Takes memory up to the last place with values.
 #[derive(Drop)]
@@ -54,7 +70,11 @@ impl<V: Drop> ByPlace<V> {
         ensures memory { IfErr result (λ e. e ≡ OutOfMemory) }
     {
         self.reach(place)?;
-        self.lists[place].push(value)?;
+        let list = &mut self.lists[place];
+        if list.is_empty() {
+            list.reserve(FIRST)?;
+        }
+        list.push(value)?;
         Ok(())
     }
 }

@@ -1,14 +1,13 @@
 //! The chains of each node.
 
-ghost use Rattle.std.specs.Prelude.{◌≡◌, ◌<◌, ◌++◌, ◌∷◌, [], IfErr, IfOk, OnOk, if◌then◌else◌};
+ghost use Rattle.std.specs.Prelude.{◌≡◌, ◌<◌, IfErr, IfOk};
 ghost use Rattle.ring_names.specs.declared.ids.NodeId.{NodeId as TheNode};
 ghost use Rattle.ring_names.specs.declared.refusal.Refusal.TheVariants.{OutOfMemory};
-ghost use Rattle.plan_stage.specs.Occupancy.{is_node};
 ghost use Rattle.plan_cover.specs.Looking.Numbers.{kept_of, chain_numbers};
 
 use crate::by_place::ByPlace;
 use plan_cert::Chains;
-use ring_names::{NodeId, Refusal};
+use ring_names::Refusal;
 use std::alloc::Global;
 
 /// The places of the chains of each node below the count, in their certificate. Costs one pass over the chains.
@@ -18,25 +17,11 @@ pub fn chains_of(alloc: Global, chains: &Chains, nodes: usize) -> Result<ByPlace
 {
     let mut index = ByPlace::new(alloc);
     for k in 0..chains.len() {
-        add_chain(&mut index, nodes, chains.of(k).node, k)?;
+        // A certificate may name any node.
+        let place = chains.of(k).node.0 as usize;
+        if place < nodes {
+            index.add(place, k)?;
+        }
     }
     Ok(index)
-}
-
-// Adds a chain to those of its node, unless the node is not below the count: a certificate may name any node.
-fn add_chain(
-    index: &mut ByPlace<usize>,
-    nodes: usize,
-    node: NodeId,
-    number: usize,
-) -> Result<(), Refusal>
-    ensures ok { OnOk result ((x : TheNode) → x.0 < nodes → kept_of index.new x
-        ≡ (if is_node x node then kept_of index.old x ++ number ∷ [] else kept_of index.old x)) }
-    ensures memory { IfErr result (λ e. e ≡ OutOfMemory) }
-{
-    let place = node.0 as usize;
-    if place < nodes {
-        index.add(place, number)?;
-    }
-    Ok(())
 }

@@ -9,16 +9,15 @@ ghost use Rattle.plan_order.specs.Facts.{is_ordered, AreFactsOf};
 ghost use Rattle.plan_order.specs.Order.{order};
 ghost use Rattle.plan_stage.specs.Clauses.{Gives, below};
 ghost use Rattle.plan_cover.specs.Clauses.{each_side, node_clauses};
-ghost use Rattle.plan_cover.specs.Looking.Marked.{is_marked, place_count, is_within, HasPlaces};
+ghost use Rattle.plan_cover.specs.Looking.Places.{is_marked, place_count, is_within, HasPlaces};
 ghost use Rattle.plan_cover.specs.Looking.Numbers.{sides_kept, AreWithin, IsCover};
 ghost use Rattle.plan_cover.specs.Looking.Guards.{retirement_guards, chains_at, side_guards, count_guards};
 
-use crate::by_place::ByPlace;
+use crate::by_place::{ByPlace, place_at};
 use crate::cover::Cover;
 use crate::covered::{check_copies, is_side};
 use crate::linked::{check_chains, side_at};
 use crate::marks::Marks;
-use crate::places::place_at;
 use plan_cert::{Cert, Chains};
 use plan_order::{Context, Facts};
 use plan_stage::has_joined_by;
@@ -122,27 +121,6 @@ fn mark_copies(marks: &mut Marks, copies: &ByPlace<u32>, node: NodeId)
     marks.mark_all(side, copies.items(place_at(node.0, side)));
 }
 
-// Tests the copies of a side of the node.
-fn check_side(
-    marks: &mut Marks,
-    copies: &ByPlace<u32>,
-    chains: &Chains,
-    numbers: &[usize],
-    of: NodeSide,
-) -> Result<(), Refusal>
-    requires { AreWithin marks.old copies.now of.node }
-    ensures first { Gives result (side_guards copies.now chains.now numbers.now of.node of.side) }
-    ensures places { place_count marks.new ≡ place_count marks.old }
-{
-    check_copies(
-        marks,
-        chains,
-        numbers,
-        copies.items(place_at(of.node.0, of.side)),
-        of,
-    )
-}
-
 // Tests the copies of the node, side by side.
 fn check_covers(
     marks: &mut Marks,
@@ -156,11 +134,11 @@ fn check_covers(
     ensures places { place_count marks.new ≡ place_count marks.old }
 {
     let side = Side::Both;
-    check_side(marks, copies, chains, numbers, NodeSide { node, side })?;
+    check_copies(marks, copies, chains, numbers, NodeSide { node, side })?;
     let side = Side::Take;
-    check_side(marks, copies, chains, numbers, NodeSide { node, side })?;
+    check_copies(marks, copies, chains, numbers, NodeSide { node, side })?;
     let side = Side::Give;
-    check_side(marks, copies, chains, numbers, NodeSide { node, side })
+    check_copies(marks, copies, chains, numbers, NodeSide { node, side })
 }
 
 // How many of the numbered chains are on the side.

@@ -10,12 +10,12 @@ ghost use Rattle.plan_cover.specs.Clauses.{has_side};
 ghost use Rattle.plan_cover.specs.Looking.Numbers.{copies_kept, is_last, with_last_if};
 ghost use Rattle.plan_cover.specs.Looking.Serving.{counts, is_some_side, counts_at};
 
-use crate::by_place::ByPlace;
-use crate::places::place_at;
+use crate::by_place::{ByPlace, place_at};
 use ring_names::{NodeId, Refusal};
 use ring_table::{NodeSide, Ring, Side};
 
 /// Adds a copy to those of the side on which the node counts this part, unless it was added last already.
+#[inline(always)]
 pub fn add_copy(
     copies: &mut ByPlace<u32>,
     ring: &Ring,

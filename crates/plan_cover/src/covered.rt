@@ -1,13 +1,15 @@
 //! Whether the chains of a node cover its copies.
 
-ghost use Rattle.std.specs.Prelude.{◌≡◌, ◌∷◌, [], ◌&&◌, ◌||◌, ℕ, true, map};
+ghost use Rattle.std.specs.Prelude.{◌≡◌, ◌∷◌, [], ◌&&◌, ◌||◌, ℕ};
 ghost use Rattle.ring_names.specs.Lists.{has};
 ghost use Rattle.plan_stage.specs.Clauses.{Gives};
 ghost use Rattle.plan_cover.specs.Clauses.{in_some};
-ghost use Rattle.plan_cover.specs.Looking.Guards.{chains_at, copy_guard};
-ghost use Rattle.plan_cover.specs.Looking.Marked.{is_marked, place_count, is_within};
+ghost use Rattle.plan_cover.specs.Looking.Guards.{chains_at, side_guards};
+ghost use Rattle.plan_cover.specs.Looking.Numbers.{AreWithin};
+ghost use Rattle.plan_cover.specs.Looking.Places.{is_marked, place_count, is_within};
 ghost use Rattle.ring_table.specs.Value.{is_side};
 
+use crate::by_place::{ByPlace, place_at};
 use crate::linked::side_at;
 use crate::marks::Marks;
 use plan_cert::Chains;
@@ -21,22 +23,22 @@ use ring_table::{NodeSide, Side};
 /// author of a certificate could choose steps that collide.
 pub fn check_copies(
     marks: &mut Marks,
+    copies: &ByPlace<u32>,
     chains: &Chains,
     numbers: &[usize],
-    copies: &[u32],
     of: NodeSide,
 ) -> Result<(), Refusal>
-    requires { (n : ℕ) → has n copies.now ≡ true → is_within marks.old of.side n ≡ true }
-    ensures first { Gives result (map (copy_guard (chains_at chains.now of.side numbers.now) of.node) copies.now) }
+    requires { AreWithin marks.old copies.now of.node }
+    ensures first { Gives result (side_guards copies.now chains.now numbers.now of.node of.side) }
     ensures places { place_count marks.new ≡ place_count marks.old }
 {
-    if copies.is_empty() {
+    let NodeSide { node, side } = of;
+    let mut rest = copies.items(place_at(node.0, side));
+    if rest.is_empty() {
         return Ok(());
     }
-    let NodeSide { node, side } = of;
     marks.begin();
     mark_chains(marks, chains, side, numbers);
-    let mut rest = copies;
     'copies: while let Some((first, later)) = rest.split_first() {
         if !marks.has(side, *first) {
             return Err(Refusal::CoverMissing(node.0, *first));

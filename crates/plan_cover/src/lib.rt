@@ -9,7 +9,6 @@ mod cover;
 mod covered;
 mod linked;
 mod marks;
-mod places;
 mod present;
 
 pub use check::{check_node, check_nodes};

@@ -4,8 +4,8 @@ ghost use Rattle.std.specs.Prelude.{◌≡◌, map, min};
 ghost use Rattle.plan_order.specs.Order.{order};
 ghost use Rattle.plan_stage.specs.Clauses.{Gives};
 ghost use Rattle.plan_cover.specs.Clauses.{is_linked};
-ghost use Rattle.plan_cover.specs.Looking.Guards.{leads_on, steps_at, side_at, chain_guard};
-ghost use Rattle.plan_cover.specs.Looking.Marked.{is_marked};
+ghost use Rattle.plan_cover.specs.Looking.Guards.{leads_on, side_at, chain_guard};
+ghost use Rattle.plan_cover.specs.Looking.Places.{is_marked};
 
 use crate::marks::Marks;
 use plan_cert::Chains;
@@ -66,19 +66,7 @@ fn is_good_at(
 {
     let side = side_at(chains, number);
     context.ring.allowance(NodeSide { node, side }).is_some()
-        && is_linked_at(context, marks, side, chains, number)
-}
-
-fn is_linked_at(
-    context: &Context,
-    marks: &Marks,
-    side: Side,
-    chains: &Chains,
-    number: usize,
-) -> bool
-    ensures { result ≡ is_linked (is_marked marks.now side) (order context.now) (steps_at chains.now number) }
-{
-    number >= chains.len() || is_linked(context, marks, side, chains.steps(number))
+        && (number >= chains.len() || is_linked(context, marks, side, chains.steps(number)))
 }
 
 fn is_linked(context: &Context, marks: &Marks, side: Side, steps: &[u32]) -> bool

@@ -2,7 +2,7 @@
 
 ghost use Rattle.std.specs.Prelude.{◌≡◌, ℕ, ◌<◌, ◌≤◌, slice_index};
 
-use crate::places::place_at;
+use crate::by_place::place_at;
 use ring_names::Refusal;
 use ring_table::Side;
 use std::alloc::Global;
@@ -25,7 +25,7 @@ impl Marks {
     ghost use Rattle.ring_names.specs.Lists.{has};
     ghost use Rattle.ring_table.specs.Value.{is_side};
     ghost use Rattle.ring_table.specs.declared.allowance.Side.{Side as TheSide};
-    ghost use Rattle.plan_cover.specs.Looking.Marked.{is_marked, place_count, is_within, HasPlaces};
+    ghost use Rattle.plan_cover.specs.Looking.Places.{is_marked, place_count, is_within, HasPlaces};
 
     /// Takes marks of the numbers below the count.
     pub fn new(alloc: Global, count: u32) -> Result<Marks, Refusal>

@@ -12,9 +12,7 @@ use Rattle.plan_stage.specs.Occupancy.{is_node}
 use Rattle.plan_stage.specs.Stage.{is_among}
 use Rattle.plan_stage.specs.Parties.{parties_on}
 use Rattle.plan_cover.specs.Clauses.{has_side}
-use Rattle.plan_cover.specs.Looking.Listed.{listed_at}
-use Rattle.plan_cover.specs.Looking.Marked.{is_within}
-use Rattle.plan_cover.specs.Looking.Places.{place_at}
+use Rattle.plan_cover.specs.Looking.Places.{listed_at, is_within, place_at}
 use Rattle.plan_cover.specs.declared.by_place.ByPlace.{ByPlace}
 use Rattle.plan_cover.specs.declared.cover.Cover.{Cover}
 use Rattle.plan_cover.specs.declared.marks.Marks.{Marks}

@@ -2,7 +2,7 @@ use Rattle.std.proofs.Common.{◌≡◌, None, length}
 use Rattle.plan_order.specs.Order.{order}
 use Rattle.plan_stage.specs.Clauses.{first_failing, below}
 use Rattle.plan_cover.specs.Clauses.{node_clauses}
-use Rattle.plan_cover.specs.Looking.Marked.{HasPlaces}
+use Rattle.plan_cover.specs.Looking.Places.{HasPlaces}
 use Rattle.plan_cover.proofs.check.check_each.Given as goal
 
 abbrev pub invariant-loop-x : goal.invariant-loop-x

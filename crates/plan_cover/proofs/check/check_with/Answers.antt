@@ -4,7 +4,7 @@ use Rattle.plan_cover.proofs.Guarded.{node-tested, kept-within, fails, passes, g
 use Rattle.std.proofs.lemmas.Result.{err_from_is_err_and}
 use Rattle.plan_cover.specs.Clauses.{each_side, node_clauses}
 use Rattle.plan_cover.specs.Looking.Guards.{count_guards}
-use Rattle.plan_cover.specs.Looking.Marked.{is_marked}
+use Rattle.plan_cover.specs.Looking.Places.{is_marked}
 use Rattle.plan_cover.proofs.check.check_with.Goals as goal
 
 pub mark_copies-requires : goal.mark_copies-requires

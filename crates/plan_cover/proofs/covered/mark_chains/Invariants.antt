@@ -2,7 +2,7 @@ use Rattle.std.proofs.Common.{◌≡◌, ℕ, length}
 use Rattle.std.specs.Prelude.{◌&&◌, ◌||◌}
 use Rattle.plan_cover.specs.Clauses.{in_some}
 use Rattle.plan_cover.specs.Looking.Guards.{chains_at}
-use Rattle.plan_cover.specs.Looking.Marked.{is_marked, place_count, is_within}
+use Rattle.plan_cover.specs.Looking.Places.{is_marked, place_count, is_within}
 use Rattle.plan_cover.proofs.covered.mark_chains.Given as goal
 
 abbrev pub invariant-chains : goal.invariant-chains

@@ -2,7 +2,7 @@ use Rattle.std.proofs.Common.{◌≡◌, length, map}
 use Rattle.plan_order.specs.Order.{order}
 use Rattle.plan_stage.specs.Clauses.{first_failing}
 use Rattle.plan_cover.specs.Looking.Guards.{chain_guard}
-use Rattle.plan_cover.specs.Looking.Marked.{is_marked}
+use Rattle.plan_cover.specs.Looking.Places.{is_marked}
 use Rattle.plan_cover.proofs.linked.check_chains.Given as goal
 
 abbrev pub invariant-chains : goal.invariant-chains

@@ -1,7 +1,7 @@
 use Rattle.std.proofs.Common.{◌≡◌, length}
 use Rattle.plan_order.specs.Order.{order}
 use Rattle.plan_cover.specs.Clauses.{is_linked}
-use Rattle.plan_cover.specs.Looking.Marked.{is_marked}
+use Rattle.plan_cover.specs.Looking.Places.{is_marked}
 use Rattle.plan_cover.proofs.linked.is_linked.Given as goal
 
 abbrev pub invariant-links : goal.invariant-links

@@ -1,5 +1,5 @@
 use Rattle.std.proofs.Common.{◌≡◌, ℕ, ◌+◌, ◌-◌, length}
-use Rattle.plan_cover.specs.Looking.Listed.{listed_at}
+use Rattle.plan_cover.specs.Looking.Places.{listed_at}
 use Rattle.plan_cover.proofs.by_place.ByPlace.reach.Given as goal
 
 abbrev pub invariant-loop-self : goal.invariant-loop-self

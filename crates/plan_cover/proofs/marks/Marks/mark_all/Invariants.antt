@@ -3,7 +3,7 @@ use Rattle.std.specs.Prelude.{◌||◌, ◌&&◌}
 use Rattle.ring_names.specs.Lists.{has}
 use Rattle.ring_table.specs.Value.{is_side}
 use Rattle.ring_table.specs.declared.allowance.Side.{Side}
-use Rattle.plan_cover.specs.Looking.Marked.{is_marked, place_count, is_within}
+use Rattle.plan_cover.specs.Looking.Places.{is_marked, place_count, is_within}
 use Rattle.plan_cover.proofs.marks.Marks.mark_all.Given as goal
 
 abbrev pub invariant-numbers : goal.invariant-numbers
