@@ -5,4 +5,3 @@ pub mod Retiring
 pub mod Guarded
 pub mod Alike
 pub mod Placed
-pub mod Sided

@@ -50,7 +50,7 @@ fn side_of(ring: &Ring, node: NodeId, part: Side) -> Option<Side>
 }
 
 // Adds a copy to those of the side of a node, unless it is their last already.
-#[tactic(auto, using(crate::proofs::Sided::place_same))]
+#[tactic(auto, using(crate::proofs::Placed::place_same))]
 fn add_at(copies: &mut ByPlace<u32>, of: NodeSide, number: u32) -> Result<(), Refusal>
     ensures ok { OnOk result ((y : TheSide) → copies_kept copies.new y
         ≡ with_last_if (is_node y.node of.node && is_side y.side of.side) number (copies_kept copies.old y)) }
