@@ -1,6 +1,6 @@
 //! The check of each node.
 
-ghost use Rattle.std.specs.Prelude.{◌≡◌, ◌<◌, ℕ, true, length};
+ghost use Rattle.std.specs.Prelude.{◌≡◌, ◌<◌, ℕ, length};
 ghost use Rattle.ring_names.specs.Lists.{has};
 ghost use Rattle.ring_table.specs.declared.allowance.Side.{Side as TheSide};
 ghost use Rattle.plan_text.specs.Steps.{retirement_of};
@@ -9,7 +9,7 @@ ghost use Rattle.plan_order.specs.Facts.{is_ordered, AreFactsOf};
 ghost use Rattle.plan_order.specs.Order.{order};
 ghost use Rattle.plan_stage.specs.Clauses.{Gives, below};
 ghost use Rattle.plan_cover.specs.Clauses.{each_side, node_clauses};
-ghost use Rattle.plan_cover.specs.Looking.Places.{is_marked, place_count, is_within, HasPlaces};
+ghost use Rattle.plan_cover.specs.Looking.Places.{is_marked, place_count, HasPlaces};
 ghost use Rattle.plan_cover.specs.Looking.Numbers.{sides_kept, AreWithin, IsCover};
 ghost use Rattle.plan_cover.specs.Looking.Guards.{retirement_guards, chains_at, side_guards, count_guards};
 
@@ -67,19 +67,10 @@ pub fn check_nodes(
         (record { 0 = x })) (length ring.now.nodes)) }
 {
     let cover = Cover::of(alloc, ring, plan, cert)?;
-    check_each(alloc, &cover, &Context { ring, plan, facts }, cert)
-}
-
-// Tests the clauses of each node, by number.
-fn check_each(alloc: Global, cover: &Cover, context: &Context, cert: &Cert) -> Result<(), Refusal>
-    requires { IsCover context.now.ring.now context.now.plan.now cert.now cover.now }
-    ensures { Gives result (below (λ x. node_clauses context.now.ring.now context.now.plan.now cert.now
-        (order context.now) (record { 0 = x })) (length context.now.ring.now.nodes)) }
-{
-    let nodes = context.ring.nodes().len() as u32;
-    let mut marks = Marks::new(alloc, context.plan.len())?;
-    for x in 0..nodes {
-        check_with(&mut marks, cover, context, cert, NodeId(x))?;
+    let mut marks = Marks::new(alloc, plan.len())?;
+    let context = Context { ring, plan, facts };
+    for x in 0..ring.nodes().len() as u32 {
+        check_with(&mut marks, &cover, &context, cert, NodeId(x))?;
     }
     Ok(())
 }
