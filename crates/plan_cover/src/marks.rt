@@ -27,7 +27,7 @@ impl Marks {
     ghost use Rattle.ring_table.specs.declared.allowance.Side.{Side as TheSide};
     ghost use Rattle.plan_cover.specs.Looking.Places.{is_marked, place_count, is_within, HasPlaces};
 
-    /// Takes marks of the numbers below the count.
+    /// Makes room to mark the numbers below the count.
     pub fn new(alloc: Global, count: u32) -> Result<Marks, Refusal>
         ensures places { IfOk result (λ a. HasPlaces count a) }
         ensures memory { IfErr result (λ e. e ≡ OutOfMemory) }
