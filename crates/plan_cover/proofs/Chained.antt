@@ -1,9 +1,6 @@
--- The numbers of a node's chains, and several chains' steps.
-use Rattle.std.proofs.Common.{◌≡◌, ℕ, ◌+◌, cond, List, [], ◌∷◌, ◌++◌, take, Option, Some, None, refl, ap, sym, ◌∙◌}
-use Rattle.std.specs.Prelude.{slice_get, option_map, ◌||◌, ◌==◌}
-use Rattle.std.proofs.lemmas.List.Folds.{list_any-append}
-use Rattle.ring_names.specs.Lists.{has}
-use Rattle.ring_names.proofs.InLists.{has_any}
+-- The numbers of a node's chains.
+use Rattle.std.proofs.Common.{◌≡◌, ℕ, ◌+◌, cond, List, [], ◌∷◌, ◌++◌, take, Option, Some, None, refl, ap, ◌∙◌}
+use Rattle.std.specs.Prelude.{slice_get, option_map}
 use Rattle.ring_names.specs.declared.ids.NodeId.{NodeId}
 use Rattle.ring_table.specs.declared.allowance.NodeSide.{NodeSide}
 use Rattle.plan_cert.specs.declared.cert.Chain.{Chain}
@@ -22,7 +19,3 @@ chains-take chains k of x e = by (slice_get chains k) refl e
         let f : c.node ≡ of.node = ap (λ (y : NodeSide). y.node) s in
         numbers-take (is_chain_of x) chains k c is ∙ ap (λ (m : NodeId). cond (is_node x m) (chain_numbers (take k chains) x ++ k ∷ []) (chain_numbers (take k chains) x)) f
     by None is e = absurd cc
-
--- what is in one of two lists
-pub has_append : (n : ℕ) (xs ys : List ℕ) → has n (xs ++ ys) ≡ (has n xs || has n ys)
-has_append n xs ys = has_any n (xs ++ ys) ∙ list_any-append (λ y. n == y) xs ys ∙ sym (rw (has_any n xs, has_any n ys) refl)

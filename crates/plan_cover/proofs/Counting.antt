@@ -1,9 +1,8 @@
 -- Numbers of entries that pass a test.
 use Rattle.std.proofs.Common.{◌≡◌, ℕ, suc, zero, ◌+◌, ◌-◌, ◌<◌, ◌≤◌, Bool, true, false, cond, List, [], ◌∷◌, ◌++◌, length, take, Option, Some, None, refl, ap, ◌∙◌, arith, add-zero}
 use Rattle.std.specs.Prelude.{◌&&◌, ◌||◌, ◌==◌, slice_get}
-use Rattle.std.proofs.lemmas.Bool.{lt-ltb, eq-eqb}
+use Rattle.std.proofs.lemmas.Bool.{eq-eqb}
 use Rattle.std.proofs.lemmas.Bool.Decides.{nat_tests}
-use Rattle.texts.specs.Numbers.{ascending}
 use Rattle.plan_cover.specs.Looking.Numbers.{numbers_from, is_last, with_last, with_last_if}
 
 -- ---- one more entry
@@ -64,21 +63,6 @@ pub numbers-between : {A : Type 0} (test : ℕ → A → Bool) (k n : ℕ) (xs :
 numbers-between test k n [] e = tt
 numbers-between test k n (x ∷ xs) e =
     put (test k x) k n (numbers_from test (k + 1) xs) (omega arith) (numbers-between test (k + 1) n xs (omega arith))
-
--- ---- they ascend
-
-in_front : (k n : ℕ) (xs : List ℕ) → AreBetween (k + 1) n xs → ascending xs ≡ true → ascending (k ∷ xs) ≡ true
-in_front k n [] a e = refl
-in_front k n (x ∷ xs) a e = (let low = a.0 in rw (lt-ltb k x (omega arith), e) refl)
-
-put_up : (b : Bool) (k n : ℕ) (xs : List ℕ) → AreBetween (k + 1) n xs → ascending xs ≡ true → ascending (cond b (k ∷ xs) xs) ≡ true
-put_up true k n xs a e = in_front k n xs a e
-put_up false k n xs a e = e
-
-pub numbers-ascend : {A : Type 0} (test : ℕ → A → Bool) (k : ℕ) (xs : List A) → ascending (numbers_from test k xs) ≡ true
-numbers-ascend test k [] = refl
-numbers-ascend test k (x ∷ xs) =
-    put_up (test k x) k ((k + 1) + length xs) (numbers_from test (k + 1) xs) (numbers-between test (k + 1) ((k + 1) + length xs) xs refl) (numbers-ascend test (k + 1) xs)
 
 -- ---- the last of them
 

@@ -2,7 +2,7 @@
 use Rattle.std.proofs.Common.{◌≡◌, inl, inr, ℕ, suc, ◌+◌, ◌<◌, ◌≤◌, Bool, true, false, cond, List, [], ◌∷◌, ◌++◌, length, map, Option, Some, None, Result, Ok, Err, refl, sym, ap, ◌∙◌, arith}
 use Rattle.std.specs.Prelude.{not, ◌&&◌, ◌||◌, ◌==◌, slice_get, min, count_by}
 use Rattle.std.specs.Option.{option_or}
-use Rattle.std.proofs.lemmas.Bool.{eq-eqb}
+use Rattle.std.proofs.lemmas.Bool.{eq-eqb, lt-ltb, cases_lt}
 use Rattle.std.proofs.lemmas.Bool.Decides.{eqb_tells, nat_tests}
 use Rattle.std.proofs.lemmas.Option.{slice_get_past}
 use Rattle.std.proofs.lemmas.List.Recursion.{is_count_by}
@@ -10,8 +10,6 @@ use Rattle.ring_names.specs.Lists.{has, all_different}
 use Rattle.ring_names.specs.declared.ids.NodeId.{NodeId}
 use Rattle.ring_names.specs.declared.refusal.Refusal.{Refusal}
 use Rattle.ring_names.specs.declared.refusal.Refusal.TheVariants.{ChainBroken, CoverMissing, TooManyChains}
-use Rattle.ring_names.specs.declared.lists.Lists.{Lists}
-use Rattle.texts.specs.Numbers.{ascending}
 use Rattle.ring_table.specs.declared.allowance.NodeSide.{NodeSide}
 use Rattle.ring_table.specs.declared.allowance.Side.{Side}
 use Rattle.ring_table.specs.declared.allowance.Side.TheVariants.{Both, Take, Give}
@@ -26,9 +24,12 @@ use Rattle.plan_stage.specs.Parties.{target_of, sources_of, on_side, parties_on}
 use Rattle.plan_stage.specs.Clauses.{Guard, first_failing, Gives}
 use Rattle.plan_stage.specs.Partition.{Test, steps_clauses}
 use Rattle.plan_cover.specs.Clauses.{in_some, chains_from, retire_clauses, is_linked, has_side, is_good_chain, chains_clauses, cover_clauses, side_covers, is_few, side_count, each_side, node_clauses}
-use Rattle.plan_cover.specs.Looking.Numbers.{numbers_from, takes_part, is_chain_of, copies_of, chain_numbers, copies_kept, sides_kept, AreAscending}
-use Rattle.plan_cover.specs.Looking.Guards.{retirement_guards, is_linked_in, steps_at, side_at, chains_at, chain_guard, copy_guard, side_guards, count_guards}
-use Rattle.plan_cover.proofs.Counting.{AreBetween, numbers-between, numbers-ascend}
+use Rattle.plan_cover.specs.Looking.Numbers.{numbers_from, is_chain_of, copies_of, chain_numbers, copies_kept, sides_kept, AreWithin}
+use Rattle.plan_cover.specs.Looking.Places.{place_count, HasPlaces, place_at}
+use Rattle.plan_cover.specs.declared.by_place.ByPlace.{ByPlace}
+use Rattle.plan_cover.specs.declared.marks.Marks.{Marks}
+use Rattle.plan_cover.specs.Looking.Guards.{retirement_guards, steps_at, side_at, chains_at, chain_guard, copy_guard, side_guards, count_guards}
+use Rattle.plan_cover.proofs.Counting.{AreBetween, numbers-between}
 use Rattle.plan_cover.proofs.Retiring.{retirement-asked}
 
 -- ---- clauses behind clauses
@@ -112,27 +113,27 @@ chain_by true g k guard e o ks is h = ap (λ (p : Option Refusal). cond g p (Som
 chain_by false g k guard e o ks is h = h
 
 -- what is tested of a chain, if there is one
-abbrev test_of : RingValue → NodeId → (Side → List ℕ) → Test → Option Chain → Bool
-test_of ring x copies O o = has_side ring x (elim o [ Some c ↦ c.side | None ↦ Both ]) && is_linked_in (copies (elim o [ Some c ↦ c.side | None ↦ Both ])) O (elim o [ Some c ↦ c.steps | None ↦ [] ])
+abbrev test_of : RingValue → NodeId → (Side → ℕ → Bool) → Test → Option Chain → Bool
+test_of ring x marked O o = has_side ring x (elim o [ Some c ↦ c.side | None ↦ Both ]) && is_linked (marked (elim o [ Some c ↦ c.side | None ↦ Both ])) O (elim o [ Some c ↦ c.steps | None ↦ [] ])
 
--- the copies of the sides that the node has
-abbrev pub AreCopies : RingValue → List Planned → NodeId → (Side → List ℕ) → Type 0
-AreCopies ring plan x copies = (side : Side) (n : ℕ) → has n (copies side) ≡ (has_side ring x side && is_among x (parties_on ring plan side n))
+-- the copies of the sides that the node has are marked
+abbrev pub AreMarked : RingValue → List Planned → NodeId → (Side → ℕ → Bool) → Type 0
+AreMarked ring plan x marked = (side : Side) (n : ℕ) → marked side n ≡ (has_side ring x side && is_among x (parties_on ring plan side n))
 
-good-guarded : (ring : RingValue) (plan : List Planned) (O : Test) (x : NodeId) (copies : Side → List ℕ) (side : Side) (steps : List ℕ) → AreCopies ring plan x copies → (has_side ring x side && is_linked_in (copies side) O steps) ≡ (has_side ring x side && is_good_chain ring plan O x side steps)
-good-guarded ring plan O x copies side steps same = by (has_side ring x side) refl
+good-guarded : (ring : RingValue) (plan : List Planned) (O : Test) (x : NodeId) (marked : Side → ℕ → Bool) (side : Side) (steps : List ℕ) → AreMarked ring plan x marked → (has_side ring x side && is_linked (marked side) O steps) ≡ (has_side ring x side && is_good_chain ring plan O x side steps)
+good-guarded ring plan O x marked side steps same = by (has_side ring x side) refl
   where
-    by : (b : Bool) → has_side ring x side ≡ b → (b && is_linked_in (copies side) O steps) ≡ (b && is_good_chain ring plan O x side steps)
-    by true e = linked-same (λ n. has n (copies side)) (λ n. is_among x (parties_on ring plan side n)) O steps (λ n. same side n ∙ ap (λ (b : Bool). b && is_among x (parties_on ring plan side n)) e)
+    by : (b : Bool) → has_side ring x side ≡ b → (b && is_linked (marked side) O steps) ≡ (b && is_good_chain ring plan O x side steps)
+    by true e = linked-same (marked side) (λ n. is_among x (parties_on ring plan side n)) O steps (λ n. same side n ∙ ap (λ (b : Bool). b && is_among x (parties_on ring plan side n)) e)
     by false e = refl
 
-chains-guarded : (ring : RingValue) (plan : List Planned) (O : Test) (x : NodeId) (copies : Side → List ℕ) (all : List Chain) (k : ℕ) (cs : List Chain) → AreCopies ring plan x copies → AreFrom k cs all → first_failing (chains_clauses ring plan O x k cs) ≡ first_failing (map (chain_guard ring x copies O all) (numbers_from (is_chain_of x) k cs))
-chains-guarded ring plan O x copies all k [] same from = refl
-chains-guarded ring plan O x copies all k (c ∷ cs) same from =
+chains-guarded : (ring : RingValue) (plan : List Planned) (O : Test) (x : NodeId) (marked : Side → ℕ → Bool) (all : List Chain) (k : ℕ) (cs : List Chain) → AreMarked ring plan x marked → AreFrom k cs all → first_failing (chains_clauses ring plan O x k cs) ≡ first_failing (map (chain_guard ring x marked O all) (numbers_from (is_chain_of x) k cs))
+chains-guarded ring plan O x marked all k [] same from = refl
+chains-guarded ring plan O x marked all k (c ∷ cs) same from =
     let e : Refusal = ChainBroken (min k 4294967295) in
-    let is : test_of ring x copies O (slice_get all k) ≡ (has_side ring x c.side && is_good_chain ring plan O x c.side c.steps) = ap (test_of ring x copies O) (first_at k c cs all from) ∙ good-guarded ring plan O x copies c.side c.steps same in
-    chain_by (x.0 == c.node.0) (has_side ring x c.side && is_good_chain ring plan O x c.side c.steps) k (chain_guard ring x copies O all) e (first_failing (chains_clauses ring plan O x (k + 1) cs)) (numbers_from (is_chain_of x) (k + 1) cs)
-    (ap (λ (b : Bool). (b, e)) is) (chains-guarded ring plan O x copies all (k + 1) cs same (from_later k c cs all from))
+    let is : test_of ring x marked O (slice_get all k) ≡ (has_side ring x c.side && is_good_chain ring plan O x c.side c.steps) = ap (test_of ring x marked O) (first_at k c cs all from) ∙ good-guarded ring plan O x marked c.side c.steps same in
+    chain_by (x.0 == c.node.0) (has_side ring x c.side && is_good_chain ring plan O x c.side c.steps) k (chain_guard ring x marked O all) e (first_failing (chains_clauses ring plan O x (k + 1) cs)) (numbers_from (is_chain_of x) (k + 1) cs)
+    (ap (λ (b : Bool). (b, e)) is) (chains-guarded ring plan O x marked all (k + 1) cs same (from_later k c cs all from))
 
 pick_by : (b : Bool) (side s : Side) (k : ℕ) (all : List Chain) (steps : List ℕ) (ls : List (List ℕ)) (ks : List ℕ) → side_at all k ≡ s → steps_at all k ≡ steps → ls ≡ chains_at all side ks → cond (b && is_side side s) (steps ∷ ls) ls ≡ chains_at all side (cond b (k ∷ ks) ks)
 pick_by true side s k all steps ls ks on is rest = rw (on, is, rest) refl
@@ -164,9 +165,9 @@ copies-guarded ring plan x side chains false k (p ∷ ps) = copies-guarded ring 
 -- ---- the clauses of a node
 
 -- what is tested, in its order
-abbrev pub tested : RingValue → List Planned → Test → NodeId → List Chain → List ℕ → Lists NodeSide ℕ → Option Refusal
-tested ring plan O x chains numbers copies = option_or (first_failing (retirement_guards ring plan O x (retirement_of plan x.0)))
-    (option_or (first_failing (map (chain_guard ring x (sides_kept copies x) O chains) numbers))
+abbrev pub tested : RingValue → List Planned → Test → NodeId → List Chain → List ℕ → (Side → ℕ → Bool) → ByPlace ℕ → Option Refusal
+tested ring plan O x chains numbers marked copies = option_or (first_failing (retirement_guards ring plan O x (retirement_of plan x.0)))
+    (option_or (first_failing (map (chain_guard ring x marked O chains) numbers))
     (option_or (first_failing (each_side (side_guards copies chains numbers x)))
     (first_failing (each_side (count_guards ring chains numbers x)))))
 
@@ -174,8 +175,9 @@ tested ring plan O x chains numbers copies = option_or (first_failing (retiremen
 each-same : (f g : Side → List Guard) → ((side : Side) → f side ≡ g side) → each_side f ≡ each_side g
 each-same f g same = rw (same Both, same Take, same Give) refl
 
-module _ (ring : RingValue) (plan : List Planned) (cert : Cert) (O : Test) (x : NodeId) (numbers : List ℕ) (copies : Lists NodeSide ℕ)
-    (ns : numbers ≡ chain_numbers cert.chains x) (cs : (y : NodeSide) → copies_kept copies y ≡ copies_of ring plan y) where
+module _ (ring : RingValue) (plan : List Planned) (cert : Cert) (O : Test) (x : NodeId) (numbers : List ℕ) (copies : ByPlace ℕ)
+    (marked : Side → ℕ → Bool)
+    (ns : numbers ≡ chain_numbers cert.chains x) (cs : (y : NodeSide) → copies_kept copies y ≡ copies_of ring plan y) (ms : (side : Side) (n : ℕ) → marked side n ≡ has n (sides_kept copies x side)) where
   chains_of : (side : Side) → chains_from x.0 side cert.chains ≡ chains_at cert.chains side numbers
   chains_of side = picked x side 0 cert.chains cert.chains (from_start cert.chains) ∙ ap (chains_at cert.chains side) (sym ns)
 
@@ -188,13 +190,13 @@ module _ (ring : RingValue) (plan : List Planned) (cert : Cert) (O : Test) (x : 
   counts_of : (side : Side) → side_count ring cert x side ≡ count_guards ring cert.chains numbers x side
   counts_of side = ap (λ (ls : List (List ℕ)). (is_few ring x side (length ls), TooManyChains x.0) ∷ []) (chains_of side)
 
-  chains-tested : first_failing (chains_clauses ring plan O x 0 cert.chains) ≡ first_failing (map (chain_guard ring x (sides_kept copies x) O cert.chains) numbers)
+  chains-tested : first_failing (chains_clauses ring plan O x 0 cert.chains) ≡ first_failing (map (chain_guard ring x marked O cert.chains) numbers)
   chains-tested =
-      chains-guarded ring plan O x (sides_kept copies x) cert.chains 0 cert.chains (λ side n. ap (has n) (cs (record { node = x; side = side })) ∙ has-copies ring plan (record { node = x; side = side }) n) (from_start cert.chains)
-      ∙ ap (λ (l : List ℕ). first_failing (map (chain_guard ring x (sides_kept copies x) O cert.chains) l)) (sym ns)
+      chains-guarded ring plan O x marked cert.chains 0 cert.chains (λ side n. ms side n ∙ ap (has n) (cs (record { node = x; side = side })) ∙ has-copies ring plan (record { node = x; side = side }) n) (from_start cert.chains)
+      ∙ ap (λ (l : List ℕ). first_failing (map (chain_guard ring x marked O cert.chains) l)) (sym ns)
 
   -- the clauses of a node are those that are tested
-  pub node-tested : all_different (retired plan) ≡ true → first_failing (node_clauses ring plan cert O x) ≡ tested ring plan O x cert.chains numbers copies
+  pub node-tested : all_different (retired plan) ≡ true → first_failing (node_clauses ring plan cert O x) ≡ tested ring plan O x cert.chains numbers marked copies
   node-tested once =
       let few : List Guard = each_side (side_count ring cert x) in
       let cover : List Guard = each_side (side_covers ring plan cert x) in
@@ -204,8 +206,8 @@ module _ (ring : RingValue) (plan : List Planned) (cert : Cert) (O : Test) (x : 
       ∙ ap (λ (o : Option Refusal). option_or (first_failing retire) o) (first-append chains (cover ++ few) ∙ ap (λ (o : Option Refusal). option_or (first_failing chains) o) (first-append cover few))
       ∙ ap (λ (gs : List Guard). option_or (first_failing gs) (option_or (first_failing chains) (option_or (first_failing cover) (first_failing few)))) (retirement-asked ring plan O x once)
       ∙ ap (λ (o : Option Refusal). option_or (first_failing (retirement_guards ring plan O x (retirement_of plan x.0))) (option_or o (option_or (first_failing cover) (first_failing few)))) chains-tested
-      ∙ ap (λ (gs : List Guard). option_or (first_failing (retirement_guards ring plan O x (retirement_of plan x.0))) (option_or (first_failing (map (chain_guard ring x (sides_kept copies x) O cert.chains) numbers)) (option_or (first_failing gs) (first_failing few)))) (each-same (side_covers ring plan cert x) (side_guards copies cert.chains numbers x) covers_of)
-      ∙ ap (λ (gs : List Guard). option_or (first_failing (retirement_guards ring plan O x (retirement_of plan x.0))) (option_or (first_failing (map (chain_guard ring x (sides_kept copies x) O cert.chains) numbers)) (option_or (first_failing (each_side (side_guards copies cert.chains numbers x))) (first_failing gs)))) (each-same (side_count ring cert x) (count_guards ring cert.chains numbers x) counts_of)
+      ∙ ap (λ (gs : List Guard). option_or (first_failing (retirement_guards ring plan O x (retirement_of plan x.0))) (option_or (first_failing (map (chain_guard ring x marked O cert.chains) numbers)) (option_or (first_failing gs) (first_failing few)))) (each-same (side_covers ring plan cert x) (side_guards copies cert.chains numbers x) covers_of)
+      ∙ ap (λ (gs : List Guard). option_or (first_failing (retirement_guards ring plan O x (retirement_of plan x.0))) (option_or (first_failing (map (chain_guard ring x marked O cert.chains) numbers)) (option_or (first_failing (each_side (side_guards copies cert.chains numbers x))) (first_failing gs)))) (each-same (side_count ring cert x) (count_guards ring cert.chains numbers x) counts_of)
 
 -- the clauses of all sides, one after the other
 pub each-first : (f : Side → List Guard) → first_failing (each_side f) ≡ option_or (first_failing (f Both)) (option_or (first_failing (f Take)) (first_failing (f Give)))
@@ -219,9 +221,17 @@ count-chains chains side ks = sym (is_count_by (λ ls. length (chains_at chains 
     by true steps ls = omega arith
     by false steps ls = refl
 
--- the copies that are kept ascend
-pub kept-ascend : (ring : RingValue) (plan : List Planned) (copies : Lists NodeSide ℕ) → ((y : NodeSide) → copies_kept copies y ≡ copies_of ring plan y) → AreAscending copies
-kept-ascend ring plan copies cs = λ y. ap ascending (cs y) ∙ numbers-ascend (takes_part ring plan y) 0 plan
+-- the copies that are kept can be marked
+pub kept-within : (ring : RingValue) (plan : List Planned) (copies : ByPlace ℕ) (marks : Marks) → ((y : NodeSide) → copies_kept copies y ≡ copies_of ring plan y) → HasPlaces (length plan) marks → (x : NodeId) → AreWithin marks copies x
+kept-within ring plan copies marks cs places x side n h = elim (cases_lt n (length plan)) [
+  | inl low ↦ lt-ltb (place_at n side) (place_count marks) (below side low)
+  | inr high ↦ absurd (let e = sym h ∙ ap (has n) (cs (record { node = x; side = side })) ∙ has-copies ring plan (record { node = x; side = side }) n ∙ no_party ring plan (record { node = x; side = side }) n high in cc)
+]
+  where
+    below : (s : Side) → n < length plan → place_at n s < place_count marks
+    below Both l = omega arith
+    below Take l = omega arith
+    below Give l = omega arith
 
 -- the first refusal is the answer, and what passes leaves the answer to the rest
 pub fails : (o p : Option Refusal) (e : Refusal) → o ≡ Some e → option_or o p ≡ Some e

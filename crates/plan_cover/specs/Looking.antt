@@ -2,4 +2,5 @@
 -- that.
 pub mod Guards
 pub mod Numbers
+pub mod Places
 pub mod Serving

@@ -1,23 +1,28 @@
 //! The check of each node.
 
 ghost use Rattle.std.specs.Prelude.{◌≡◌, ◌<◌, ℕ, length};
+ghost use Rattle.ring_names.specs.Lists.{has};
+ghost use Rattle.ring_table.specs.declared.allowance.Side.{Side as TheSide};
 ghost use Rattle.plan_text.specs.Steps.{retirement_of};
 ghost use Rattle.plan_text.specs.Valid.{Suits};
 ghost use Rattle.plan_order.specs.Facts.{is_ordered, AreFactsOf};
 ghost use Rattle.plan_order.specs.Order.{order};
 ghost use Rattle.plan_stage.specs.Clauses.{Gives, below};
-ghost use Rattle.plan_cover.specs.Clauses.{is_few, each_side, node_clauses};
-ghost use Rattle.plan_cover.specs.Looking.Numbers.{IsCover};
+ghost use Rattle.plan_cover.specs.Clauses.{each_side, node_clauses};
+ghost use Rattle.plan_cover.specs.Looking.Places.{is_marked, place_count, HasPlaces};
+ghost use Rattle.plan_cover.specs.Looking.Numbers.{sides_kept, AreWithin, IsCover};
 ghost use Rattle.plan_cover.specs.Looking.Guards.{retirement_guards, chains_at, side_guards, count_guards};
 
+use crate::by_place::{ByPlace, place_at};
 use crate::cover::Cover;
 use crate::covered::{check_copies, is_side};
 use crate::linked::{check_chains, side_at};
+use crate::marks::Marks;
 use plan_cert::{Cert, Chains};
 use plan_order::{Context, Facts};
 use plan_stage::has_joined_by;
 use plan_text::Plan;
-use ring_names::{Lists, NodeId, Refusal};
+use ring_names::{NodeId, Refusal};
 use ring_table::{NodeSide, Ring, Side};
 use std::alloc::Global;
 
@@ -36,7 +41,14 @@ pub fn check_node(
     ensures { Gives result (node_clauses ring.now plan.now cert.now (is_ordered plan.now facts.now) node) }
 {
     let cover = Cover::of(alloc, ring, plan, cert)?;
-    check_with(alloc, &cover, &Context { ring, plan, facts }, cert, node)
+    let mut marks = Marks::new(alloc, plan.len())?;
+    check_with(
+        &mut marks,
+        &cover,
+        &Context { ring, plan, facts },
+        cert,
+        node,
+    )
 }
 
 /// Tests the clauses of each node, by number, and answers with the first refusal.
@@ -55,69 +67,69 @@ pub fn check_nodes(
         (record { 0 = x })) (length ring.now.nodes)) }
 {
     let cover = Cover::of(alloc, ring, plan, cert)?;
-    check_each(alloc, &cover, &Context { ring, plan, facts }, cert)
-}
-
-// Tests the clauses of each node, by number.
-fn check_each(alloc: Global, cover: &Cover, context: &Context, cert: &Cert) -> Result<(), Refusal>
-    requires { IsCover context.now.ring.now context.now.plan.now cert.now cover.now }
-    ensures { Gives result (below (λ x. node_clauses context.now.ring.now context.now.plan.now cert.now
-        (order context.now) (record { 0 = x })) (length context.now.ring.now.nodes)) }
-{
-    let nodes = context.ring.nodes().len() as u32;
-    for x in 0..nodes {
-        check_with(alloc, cover, context, cert, NodeId(x))?;
+    let mut marks = Marks::new(alloc, plan.len())?;
+    let context = Context { ring, plan, facts };
+    for x in 0..ring.nodes().len() as u32 {
+        check_with(&mut marks, &cover, &context, cert, NodeId(x))?;
     }
     Ok(())
 }
 
 // Tests the clauses of one node.
 fn check_with(
-    alloc: Global,
+    marks: &mut Marks,
     cover: &Cover,
     context: &Context,
     cert: &Cert,
     node: NodeId,
 ) -> Result<(), Refusal>
-    requires { IsCover context.now.ring.now context.now.plan.now cert.now cover.now }
-    ensures { Gives result (node_clauses context.now.ring.now context.now.plan.now cert.now (order context.now) node) }
+    requires node { node.0 < length context.now.ring.now.nodes }
+    requires cover { IsCover context.now.ring.now context.now.plan.now cert.now cover.now }
+    requires places { HasPlaces (length context.now.plan.now) marks.old }
+    ensures first { Gives result (node_clauses context.now.ring.now context.now.plan.now cert.now (order context.now) node) }
+    ensures places { HasPlaces (length context.now.plan.now) marks.new }
 {
-    let numbers = cover.chains.items(&node);
+    let numbers = cover.chains.items(node.0 as usize);
+    mark_copies(marks, &cover.copies, node);
     check_retirement(context, node)?;
-    check_chains(context, &cover.copies, &cert.chains, numbers, node)?;
-    check_covers(alloc, &cover.copies, &cert.chains, numbers, node)?;
+    check_chains(context, marks, &cert.chains, numbers, node)?;
+    check_covers(marks, &cover.copies, &cert.chains, numbers, node)?;
     check_counts(context.ring, &cert.chains, numbers, node)
 }
 
-// Tests the copies of a side of the node.
-fn check_side(
-    alloc: Global,
-    copies: &Lists<NodeSide, u32>,
-    chains: &Chains,
-    numbers: &[usize],
-    of: NodeSide,
-) -> Result<(), Refusal>
-    ensures { Gives result (side_guards copies.now chains.now numbers.now of.node of.side) }
+// Marks the copies of the node, and nothing else.
+fn mark_copies(marks: &mut Marks, copies: &ByPlace<u32>, node: NodeId)
+    requires { AreWithin marks.old copies.now node }
+    ensures marked { (s : TheSide) (n : ℕ) → is_marked marks.new s n ≡ has n (sides_kept copies.now node s) }
+    ensures places { place_count marks.new ≡ place_count marks.old }
 {
-    check_copies(alloc, chains, numbers, copies.items(&of), of)
+    marks.begin();
+    let side = Side::Both;
+    marks.mark_all(side, copies.items(place_at(node.0, side)));
+    let side = Side::Take;
+    marks.mark_all(side, copies.items(place_at(node.0, side)));
+    let side = Side::Give;
+    marks.mark_all(side, copies.items(place_at(node.0, side)));
 }
 
 // Tests the copies of the node, side by side.
 fn check_covers(
-    alloc: Global,
-    copies: &Lists<NodeSide, u32>,
+    marks: &mut Marks,
+    copies: &ByPlace<u32>,
     chains: &Chains,
     numbers: &[usize],
     node: NodeId,
 ) -> Result<(), Refusal>
-    ensures { Gives result (each_side (side_guards copies.now chains.now numbers.now node)) }
+    requires { AreWithin marks.old copies.now node }
+    ensures first { Gives result (each_side (side_guards copies.now chains.now numbers.now node)) }
+    ensures places { place_count marks.new ≡ place_count marks.old }
 {
     let side = Side::Both;
-    check_side(alloc, copies, chains, numbers, NodeSide { node, side })?;
+    check_copies(marks, copies, chains, numbers, NodeSide { node, side })?;
     let side = Side::Take;
-    check_side(alloc, copies, chains, numbers, NodeSide { node, side })?;
+    check_copies(marks, copies, chains, numbers, NodeSide { node, side })?;
     let side = Side::Give;
-    check_side(alloc, copies, chains, numbers, NodeSide { node, side })
+    check_copies(marks, copies, chains, numbers, NodeSide { node, side })
 }
 
 // How many of the numbered chains are on the side.
@@ -167,22 +179,10 @@ fn check_count(
 ) -> Result<(), Refusal>
     ensures { Gives result (count_guards ring.now chains.now numbers.now node side) }
 {
-    if is_few(
-        ring,
-        NodeSide { node, side },
-        count_of(chains, side, numbers),
-    ) {
-        Ok(())
-    } else {
-        Err(Refusal::TooManyChains(node.0))
+    if let Some(most) = ring.allowance(NodeSide { node, side }) {
+        if count_of(chains, side, numbers) > most as usize {
+            return Err(Refusal::TooManyChains(node.0));
+        }
     }
-}
-
-fn is_few(ring: &Ring, of: NodeSide, count: usize) -> bool
-    ensures { result ≡ is_few ring.now of.node of.side count }
-{
-    match ring.allowance(of) {
-        Some(most) => count <= most as usize,
-        None => true,
-    }
+    Ok(())
 }

@@ -10,12 +10,14 @@ ghost use Rattle.plan_cover.specs.Clauses.{has_side};
 ghost use Rattle.plan_cover.specs.Looking.Numbers.{copies_kept, is_last, with_last_if};
 ghost use Rattle.plan_cover.specs.Looking.Serving.{counts, is_some_side, counts_at};
 
-use ring_names::{Lists, NodeId, Refusal};
+use crate::by_place::{ByPlace, place_at};
+use ring_names::{NodeId, Refusal};
 use ring_table::{NodeSide, Ring, Side};
 
 /// Adds a copy to those of the side on which the node counts this part, unless it was added last already.
+#[inline(always)]
 pub fn add_copy(
-    copies: &mut Lists<NodeSide, u32>,
+    copies: &mut ByPlace<u32>,
     ring: &Ring,
     node: NodeId,
     part: Side,
@@ -35,26 +37,30 @@ pub fn add_copy(
 fn side_of(ring: &Ring, node: NodeId, part: Side) -> Option<Side>
     ensures { (s : OneSide) → (has_side ring.now node s && counts s part) ≡ is_some_side result s }
 {
-    if ring.allowance(NodeSide { node, side: part }).is_some() {
+    let Some(declared) = ring.nodes().get(node.0 as usize) else {
+        return None;
+    };
+    if declared.allowance.most(part).is_some() {
         return Some(part);
     }
-    let side = Side::Both;
-    if ring.allowance(NodeSide { node, side }).is_some() {
-        return Some(side);
+    if declared.allowance.most(Side::Both).is_some() {
+        return Some(Side::Both);
     }
     None
 }
 
 // Adds a copy to those of the side of a node, unless it is their last already.
-fn add_at(copies: &mut Lists<NodeSide, u32>, of: NodeSide, number: u32) -> Result<(), Refusal>
+#[tactic(auto, using(crate::proofs::Placed::place_same))]
+fn add_at(copies: &mut ByPlace<u32>, of: NodeSide, number: u32) -> Result<(), Refusal>
     ensures ok { OnOk result ((y : TheSide) → copies_kept copies.new y
         ≡ with_last_if (is_node y.node of.node && is_side y.side of.side) number (copies_kept copies.old y)) }
     ensures memory { IfErr result (λ e. e ≡ OutOfMemory) }
 {
-    if is_last(copies.items(&of), number) {
+    let place = place_at(of.node.0, of.side);
+    if is_last(copies.items(place), number) {
         return Ok(());
     }
-    copies.add(of, number)
+    copies.add(place, number)
 }
 
 fn is_last(list: &[u32], number: u32) -> bool

@@ -10,20 +10,21 @@ ghost use Rattle.plan_stage.specs.Parties.{source_slots};
 ghost use Rattle.plan_cover.specs.Looking.Numbers.{copies_kept, copies_of, with_last_if, IsCover};
 ghost use Rattle.plan_cover.specs.Looking.Serving.{serving_at, is_the_mirror, owns_some, counts_at, is_party};
 
+use crate::by_place::ByPlace;
 use crate::chains::chains_of;
 use crate::copies::add_copy;
 use crate::present::Present;
 use plan_cert::Cert;
 use plan_text::{Plan, Source, Step};
-use ring_names::{Lists, NodeId, Refusal, Slot};
-use ring_table::{NodeSide, Ring, Side};
+use ring_names::{NodeId, Refusal, Slot};
+use ring_table::{Ring, Side};
 use std::alloc::Global;
 
-/// The copies on each side of a node, and each node's chains.
+/// The copies on each side of a node, by place, and the chains of each node of the ring, by its number.
 #[derive(Drop)]
 pub struct Cover {
-    pub copies: Lists<NodeSide, u32>,
-    pub chains: Lists<NodeId, usize>,
+    pub copies: ByPlace<u32>,
+    pub chains: ByPlace<usize>,
 }
 
 impl Cover {
@@ -34,7 +35,7 @@ impl Cover {
         ensures memory { IfErr result (λ e. e ≡ OutOfMemory) }
     {
         let copies = all_copies(alloc, ring, plan)?;
-        let chains = chains_of(alloc, &cert.chains)?;
+        let chains = chains_of(alloc, &cert.chains, ring.nodes().len())?;
         Ok(Cover { copies, chains })
     }
 }
@@ -47,12 +48,12 @@ struct Served<'a> {
 }
 
 // The copies of each side of a node.
-fn all_copies(alloc: Global, ring: &Ring, plan: &Plan) -> Result<Lists<NodeSide, u32>, Refusal>
+fn all_copies(alloc: Global, ring: &Ring, plan: &Plan) -> Result<ByPlace<u32>, Refusal>
     requires { Suits ring.now plan.now }
     ensures ok { IfOk result (λ a. (y : TheSide) → copies_kept a y ≡ copies_of ring.now plan.now y) }
     ensures memory { IfErr result (λ e. e ≡ OutOfMemory) }
 {
-    let mut copies = Lists::new(alloc);
+    let mut copies = ByPlace::new(alloc);
     let mut present = Present::new(alloc, ring)?;
     for n in 0..plan.len() {
         let step = plan.step(n);
@@ -68,7 +69,7 @@ fn all_copies(alloc: Global, ring: &Ring, plan: &Plan) -> Result<Lists<NodeSide,
 
 // Gives the step to each node that takes part in it.
 fn add_parties(
-    copies: &mut Lists<NodeSide, u32>,
+    copies: &mut ByPlace<u32>,
     served: &Served,
     step: &Step,
     number: u32,
@@ -91,7 +92,7 @@ fn add_parties(
 }
 
 fn add_mirror(
-    copies: &mut Lists<NodeSide, u32>,
+    copies: &mut ByPlace<u32>,
     ring: &Ring,
     mirror: Option<NodeId>,
     number: u32,
@@ -108,7 +109,7 @@ fn add_mirror(
 
 // Gives the copy to the owners of the slots from which it reads.
 fn add_sources(
-    copies: &mut Lists<NodeSide, u32>,
+    copies: &mut ByPlace<u32>,
     served: &Served,
     slot: Slot,
     source: &Source,
@@ -134,7 +135,7 @@ fn add_sources(
 
 // Gives the copy to the owners of the listed slots.
 fn add_owners(
-    copies: &mut Lists<NodeSide, u32>,
+    copies: &mut ByPlace<u32>,
     served: &Served,
     partition: u32,
     from: &[u8],

@@ -1,43 +1,46 @@
 //! Whether the chains of a node cover its copies.
 
-ghost use Rattle.std.specs.Prelude.{◌≡◌, ◌∷◌, [], ℕ, map, IfErr, IfOk};
+ghost use Rattle.std.specs.Prelude.{◌≡◌, ◌∷◌, [], ◌&&◌, ◌||◌, ℕ};
 ghost use Rattle.ring_names.specs.Lists.{has};
-ghost use Rattle.ring_names.specs.declared.refusal.Refusal.TheVariants.{OutOfMemory};
 ghost use Rattle.plan_stage.specs.Clauses.{Gives};
 ghost use Rattle.plan_cover.specs.Clauses.{in_some};
-ghost use Rattle.plan_cover.specs.Looking.Guards.{chains_at, copy_guard};
+ghost use Rattle.plan_cover.specs.Looking.Guards.{chains_at, side_guards};
+ghost use Rattle.plan_cover.specs.Looking.Numbers.{AreWithin};
+ghost use Rattle.plan_cover.specs.Looking.Places.{is_marked, place_count, is_within};
 ghost use Rattle.ring_table.specs.Value.{is_side};
 
-use crate::linked::{is_among, side_at};
+use crate::by_place::{ByPlace, place_at};
+use crate::linked::side_at;
+use crate::marks::Marks;
 use plan_cert::Chains;
-use plan_stage::put_in_order;
 use ring_names::Refusal;
 use ring_table::{NodeSide, Side};
-use std::alloc::Global;
 
 /// Tests a node's copies on a side: each must be a step of one of its chains on that side. These are among the
 /// chains of the given numbers.
 ///
-/// Costs a sort of their steps, and a binary search for each copy. The steps are sorted and not hashed: the
+/// Costs one pass over their steps and one over the copies. The steps are marked by number and not hashed: the
 /// author of a certificate could choose steps that collide.
 pub fn check_copies(
-    alloc: Global,
+    marks: &mut Marks,
+    copies: &ByPlace<u32>,
     chains: &Chains,
     numbers: &[usize],
-    copies: &[u32],
     of: NodeSide,
 ) -> Result<(), Refusal>
-    ensures { Gives result (map (copy_guard (chains_at chains.now of.side numbers.now) of.node) copies.now) }
+    requires { AreWithin marks.old copies.now of.node }
+    ensures first { Gives result (side_guards copies.now chains.now numbers.now of.node of.side) }
+    ensures places { place_count marks.new ≡ place_count marks.old }
 {
-    if copies.is_empty() {
+    let NodeSide { node, side } = of;
+    let mut rest = copies.items(place_at(node.0, side));
+    if rest.is_empty() {
         return Ok(());
     }
-    let NodeSide { node, side } = of;
-    let mut covered = steps_of(alloc, chains, side, numbers)?;
-    put_in_order(&mut covered);
-    let mut rest = copies;
+    marks.begin();
+    mark_chains(marks, chains, side, numbers);
     'copies: while let Some((first, later)) = rest.split_first() {
-        if !is_among(&covered, *first) {
+        if !marks.has(side, *first) {
             return Err(Refusal::CoverMissing(node.0, *first));
         }
         rest = later;
@@ -63,22 +66,15 @@ fn steps_on(chains: &Chains, side: Side, number: usize) -> &[u32]
     }
 }
 
-// The steps of the numbered chains that are on the side.
-#[tactic(auto, using(crate::proofs::Chained::has_append))]
-fn steps_of(
-    alloc: Global,
-    chains: &Chains,
-    side: Side,
-    numbers: &[usize],
-) -> Result<Vec<u32>, Refusal>
-    ensures ok { IfOk result (λ s. (n : ℕ) → has n s.items ≡ in_some n (chains_at chains.now side numbers.now)) }
-    ensures memory { IfErr result (λ e. e ≡ OutOfMemory) }
+// Marks the steps of the numbered chains that are on the side.
+fn mark_chains(marks: &mut Marks, chains: &Chains, side: Side, numbers: &[usize])
+    ensures marked { (n : ℕ) → is_marked marks.new side n ≡ ((in_some n (chains_at chains.now side numbers.now)
+        && is_within marks.old side n) || is_marked marks.old side n) }
+    ensures places { place_count marks.new ≡ place_count marks.old }
 {
-    let mut steps = Vec::new(alloc);
     let mut rest = numbers;
     'chains: while let Some((first, later)) = rest.split_first() {
-        steps.extend_from_slice(steps_on(chains, side, *first))?;
+        marks.mark_all(side, steps_on(chains, side, *first));
         rest = later;
     }
-    Ok(steps)
 }

@@ -1,12 +1,14 @@
 //! The clauses of a node: its retirement, its transfers, and the chains of a certificate that cover them.
 #![tactic(auto)]
 
+mod by_place;
 mod chains;
 mod check;
 mod copies;
 mod cover;
 mod covered;
 mod linked;
+mod marks;
 mod present;
 
 pub use check::{check_node, check_nodes};

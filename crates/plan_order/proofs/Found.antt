@@ -1,5 +1,5 @@
 -- The first bad path, where each number below that of all paths is asked whether its path is bad.
-use Rattle.std.proofs.Common.{◌≡◌, ℕ, suc, ◌+◌, ◌-◌, Bool, true, false, not, List, [], ◌∷◌, Option, Some, None, length, refl, sym, ap, ◌∙◌, arith}
+use Rattle.std.proofs.Common.{◌≡◌, ℕ, suc, ◌+◌, Bool, true, false, not, List, [], ◌∷◌, Option, Some, None, length, refl, sym, ap, ◌∙◌, arith}
 use Rattle.std.specs.Prelude.{slice_index_or, min, option_map}
 use Rattle.std.specs.List.{AllZip, range_with_len}
 use Rattle.rayon.specs.Lists.{first_true}

@@ -1,64 +1,58 @@
 -- Which ends are kept.
-use Rattle.std.proofs.Common.{◌≡◌, ◌≢◌, inl, inr, ◌∙◌, ℕ, ◌-◌, Bool, true, false, List, [], ◌∷◌, length, refl, sym, ap, subst, arith}
-use Rattle.std.specs.Prelude.{◌&&◌, ◌||◌, ◌==◌, slice_get, Some}
+use Rattle.std.proofs.Common.{◌≡◌, inl, inr, ◌∙◌, ℕ, ◌-◌, ◌<◌, Bool, false, List, [], ◌∷◌, ◌++◌, length, get_or, Result, Ok, Err, refl, sym, ap, subst, arith}
+use Rattle.std.specs.Prelude.{◌&&◌, ◌||◌, ◌==◌, slice_get, Some, is_ok}
 use Rattle.std.specs.List.{list_any}
-use Rattle.std.specs.declared.cmp.Ordering.{Ordering}
-use Rattle.std.specs.declared.cmp.Ordering.TheVariants.{Less, Equal, Greater}
-use Rattle.std.specs.Ordering.{nat_cmp, ordering_then, match_ordering, is_eq}
-use Rattle.std.specs.Cmp.{unsigned_ties, tied_then}
-use Rattle.std.specs.BTreeMap.{is_at}
-use Rattle.std.specs.BTreeSet.{insert_key}
-use Rattle.std.proofs.lemmas.Bool.Decides.{eqb_tells}
-use Rattle.std.proofs.lemmas.Bool.{and_parts, eq-eqb as same}
-use Rattle.ring_names.proofs.Logic.{or_swapped, eqb_turned, or_again}
+use Rattle.std.specs.List.Sorted.{IsPermutation, IsBinarySearchResult, IsSearchInRange}
+use Rattle.std.specs.Ordering.{nat_cmp, is_eq}
+use Rattle.std.specs.Cmp.{IsTotalOrder, unsigned_ties, tied_then}
+use Rattle.std.proofs.lemmas.Bool.{cases_lt}
+use Rattle.std.proofs.lemmas.Cmp.{nat_cmp_total, on_total, then_total}
+use Rattle.std.proofs.lemmas.List.Elements.{All-from_get_or}
+use Rattle.std.proofs.lemmas.List.Folds.{list_any_at, list_any_none}
+use Rattle.std.proofs.lemmas.List.Sorted.{list_any-IsPermutation, searchable_from_sorted}
+use Rattle.ring_names.proofs.Logic.{or_swapped, or_false}
 use Rattle.plan_order.specs.declared.facts.Ends.{Ends}
-use Rattle.plan_order.specs.Facts.{ends_with, leads, has_ends}
+use Rattle.plan_order.specs.Facts.{ends_with, leads, has_ends, by_ends, AreSorted}
 
--- the order of the first steps, and where they are the same that of the last
-abbrev pub by_ends : Ends → Ends → Ordering
-by_ends x y = ordering_then (nat_cmp x.first y.first) (nat_cmp x.last y.last)
+-- whether these are the ends a and b
+abbrev are_ends : ℕ → ℕ → Ends → Bool
+are_ends a b e = (e.first == a) && (e.last == b)
 
-abbrev pub is_same : Ends → Ends → Bool
-is_same x y = (x.first == y.first) && (x.last == y.last)
-
--- the ends that compare as equal are the same
-tie_is_same : (x y : Ends) → is_at (by_ends x) y ≡ is_same y x
-tie_is_same x y =
-    sym (tied_then (nat_cmp x.first y.first) (nat_cmp x.last y.last)) ∙ rw (← unsigned_ties x.first y.first, ← unsigned_ties x.last y.last, eqb_turned x.first y.first, eqb_turned x.last y.last) refl
-
-pub looked_up : (e : Ends) (es : List Ends) → list_any (is_at (by_ends e)) es ≡ has_ends e.first e.last es
-looked_up e [] = refl
-looked_up e (x ∷ es) = rw (tie_is_same e x, looked_up e es) refl
-
--- ---- one more pair of ends
-
-is_at_ends : (e : Ends) (a b : ℕ) → ((e.first == a) && (e.last == b)) ≡ true → (e.first ≡ a) × (e.last ≡ b)
-is_at_ends e a b h =
-    let p = and_parts (e.first == a) (e.last == b) h in (
-      elim (eqb_tells e.first a) [ inl t ↦ t.1 | inr t ↦ absurd cc ],
-      elim (eqb_tells e.last b) [ inl t ↦ t.1 | inr t ↦ absurd cc ],
-    )
-
--- the ends that are asked for, where the new ones go in front of these, on them, or behind them
-put : (o : Ordering) (e x : Ends) (es rest : List Ends) (a b : ℕ) → (is_eq o ≡ true → is_same x e ≡ true) → has_ends a b rest ≡ (is_same e (record { first = a; last = b }) || has_ends a b es)
-    → has_ends a b (match_ordering o (e ∷ x ∷ es) (x ∷ es) (x ∷ rest)) ≡ (is_same e (record { first = a; last = b }) || has_ends a b (x ∷ es))
-put Less e x es rest a b alike later = refl
-put Equal e x es rest a b alike later =
-    let p = is_at_ends x e.first e.last (alike refl) in
-    let same : is_same e (record { first = a; last = b }) ≡ is_same x (record { first = a; last = b }) = ap (λ y. (y == a) && (e.last == b)) (sym p.0) ∙ ap (λ y. (x.first == a) && (y == b)) (sym p.1) in
-    or_again (is_same x (record { first = a; last = b })) (has_ends a b es) ∙ ap (λ (t : Bool). t || has_ends a b (x ∷ es)) (sym same)
-put Greater e x es rest a b alike later =
-    ap (λ (t : Bool). is_same x (record { first = a; last = b }) || t) later ∙ or_swapped (is_same x (record { first = a; last = b })) (is_same e (record { first = a; last = b })) (has_ends a b es)
+as_any : (a b : ℕ) (es : List Ends) → has_ends a b es ≡ list_any (are_ends a b) es
+as_any a b [] = refl
+as_any a b (e ∷ es) = ap (λ (t : Bool). are_ends a b e || t) (as_any a b es)
 
 -- the ends that are asked for once some were added
-pub added : (e : Ends) (es : List Ends) (a b : ℕ) → has_ends a b (insert_key by_ends es e) ≡ (((e.first == a) && (e.last == b)) || has_ends a b es)
+pub added : (e : Ends) (es : List Ends) (a b : ℕ) → has_ends a b (es ++ e ∷ []) ≡ (((e.first == a) && (e.last == b)) || has_ends a b es)
 added e [] a b = refl
-added e (x ∷ es) a b = put (by_ends e x) e x es (insert_key by_ends es e) a b (λ t. sym (tie_is_same e x) ∙ t) (added e es a b)
+added e (x ∷ es) a b =
+    ap (λ (t : Bool). are_ends a b x || t) (added e es a b) ∙ or_swapped (are_ends a b x) (are_ends a b e) (has_ends a b es)
 
--- what is kept behind nothing
-pub only : (a b : ℕ) (es new : List Ends) (t : Bool) → es ≡ [] → has_ends a b new ≡ (t || has_ends a b es) → has_ends a b new ≡ true → t ≡ true
-only a b es new true none is h = refl
-only a b es new false none is h = absurd (let e : has_ends a b new ≡ false = is ∙ ap (has_ends a b) none in cc)
+-- those of the paths that were added to none, in another order
+pub made : (old new sorted : List Ends) → old ≡ [] → IsPermutation new sorted → (a b : ℕ) (t : Bool) → has_ends a b new ≡ (t || has_ends a b old) → has_ends a b sorted ≡ t
+made old new sorted none p a b t is =
+    as_any a b sorted ∙ sym (list_any-IsPermutation (are_ends a b) new sorted p) ∙ sym (as_any a b new) ∙ is ∙ ap (λ (es : List Ends). t || has_ends a b es) none ∙ or_false t
+
+-- ---- a search
+
+ends_total : IsTotalOrder by_ends
+ends_total = then_total (on_total (λ (e : Ends). e.first) nat_cmp_total) (on_total (λ (e : Ends). e.last) nat_cmp_total)
+
+-- the ends that compare as equal are the same
+tie_is_same : (x y : Ends) → are_ends x.first x.last y ≡ is_eq (by_ends y x)
+tie_is_same x y =
+    sym (sym (tied_then (nat_cmp y.first x.first) (nat_cmp y.last x.last)) ∙ rw (← unsigned_ties y.first x.first, ← unsigned_ties y.last x.last) refl)
+
+pub looked_up : (x : Ends) (es : List Ends) (r : Result ℕ ℕ) → AreSorted es → IsSearchInRange r (length es) → IsBinarySearchResult (λ y. by_ends y x) es r → is_ok r ≡ has_ends x.first x.last es
+looked_up x es (Ok i) sorted within found =
+    sym (as_any x.first x.last es ∙ list_any_at (are_ends x.first x.last) es i x within (tie_is_same x (get_or es i x) ∙ ap is_eq (found x)))
+looked_up x es (Err i) sorted within found =
+    let p = found (searchable_from_sorted ends_total (λ (y : Ends). y) es x sorted) in
+    let apart : (k : ℕ) → k < length es → are_ends x.first x.last (get_or es k x) ≡ false = λ k l. tie_is_same x (get_or es k x) ∙ (elim (cases_lt k i) [
+      | inl low ↦ ap is_eq (p.0 k x (omega arith) low)
+      | inr high ↦ ap is_eq (p.1 k x high l)
+    ]) in
+    sym (as_any x.first x.last es ∙ list_any_none (are_ends x.first x.last) es (All-from_get_or (λ y. are_ends x.first x.last y ≡ false) es x apart))
 
 -- ---- the ends of a path
 

@@ -1,5 +1,8 @@
 -- What verified paths say.
 use Rattle.std.specs.Prelude.{◌≡◌, ℕ, Bool, true, false, ◌&&◌, ◌||◌, ◌==◌, List, [], ◌∷◌}
+use Rattle.std.specs.List.Sorted.{IsSorted}
+use Rattle.std.specs.Ordering.{nat_cmp, ordering_then}
+use Rattle.std.specs.declared.cmp.Ordering.{Ordering}
 use Rattle.plan_text.specs.declared.step.Planned.{Planned}
 use Rattle.plan_text.specs.Steps.{depends}
 use Rattle.plan_order.specs.Paths.{is_path}
@@ -25,6 +28,14 @@ some_leads a b (path ∷ paths) = leads a b path || some_leads a b paths
 abbrev pub has_ends : ℕ → ℕ → List Ends → Bool
 has_ends a b [] = false
 has_ends a b (e ∷ es) = ((e.first == a) && (e.last == b)) || has_ends a b es
+
+-- the order of the first steps, and where they are the same that of the last
+abbrev pub by_ends : Ends → Ends → Ordering
+by_ends x y = ordering_then (nat_cmp x.first y.first) (nat_cmp x.last y.last)
+
+-- none comes before the one in front of it
+abbrev pub AreSorted : List Ends → Type 0
+AreSorted es = IsSorted by_ends es
 
 -- the facts are paths of the plan
 abbrev pub AreFactsOf : List Planned → List Ends → Type 0

@@ -12,7 +12,6 @@ use plan_text::Plan;
 use rayon::prelude::*;
 use ring_names::{Refusal, Rows};
 use std::alloc::Global;
-use std::collections::BTreeSet;
 use std::marker::Model;
 use std::thread::Threads;
 
@@ -26,7 +25,8 @@ pub struct Ends {
 /// What the paths of a certificate say, once each was verified: its first step is before its last.
 #[derive(Drop)]
 pub struct Facts {
-    ends: BTreeSet<Ends>,
+    // ascending
+    ends: Vec<Ends>,
 }
 
 impl Model for Facts {
@@ -35,7 +35,11 @@ impl Model for Facts {
 
     ghost Value = { List Ends };
 
-    ghost view = { λ a. a.ends.keys };
+    ghost view = { λ a. a.ends.items };
+
+    ghost use Rattle.plan_order.specs.Facts.{AreSorted};
+
+    ghost invariant = { λ a. AreSorted a.ends.items };
 }
 
 // The number of the first path that is none. The numbers that no `u32` has are all the greatest.
@@ -76,13 +80,13 @@ fn first_bad_path_by_threads(rt: &(impl Threads + Sync), plan: &Plan, paths: &Ro
 }
 
 // Adds the ends of a path; one without steps has none.
-fn add_ends(ends: &mut BTreeSet<Ends>, path: &[u32]) -> Result<(), Refusal>
+fn add_ends(ends: &mut Vec<Ends>, path: &[u32]) -> Result<(), Refusal>
     ensures ok { OnOk result
-        ((a b : ℕ) → has_ends a b ends.new.keys ≡ (leads a b path.now || has_ends a b ends.old.keys)) }
+        ((a b : ℕ) → has_ends a b ends.new.items ≡ (leads a b path.now || has_ends a b ends.old.items)) }
     ensures memory { IfErr result (λ e. e ≡ OutOfMemory) }
 {
     if let (Some(first), Some(last)) = (path.first(), path.last()) {
-        ends.insert(Ends {
+        ends.push(Ends {
             first: *first,
             last: *last,
         })?;
@@ -91,9 +95,9 @@ fn add_ends(ends: &mut BTreeSet<Ends>, path: &[u32]) -> Result<(), Refusal>
 }
 
 // Adds the ends of each path.
-fn add_all_ends(ends: &mut BTreeSet<Ends>, paths: &Rows) -> Result<(), Refusal>
+fn add_all_ends(ends: &mut Vec<Ends>, paths: &Rows) -> Result<(), Refusal>
     ensures ok { OnOk result
-        ((a b : ℕ) → has_ends a b ends.new.keys ≡ (some_leads a b paths.now || has_ends a b ends.old.keys)) }
+        ((a b : ℕ) → has_ends a b ends.new.items ≡ (some_leads a b paths.now || has_ends a b ends.old.items)) }
     ensures memory { IfErr result (λ e. e ≡ OutOfMemory) }
 {
     for place in 0..paths.len() {
@@ -103,7 +107,7 @@ fn add_all_ends(ends: &mut BTreeSet<Ends>, paths: &Rows) -> Result<(), Refusal>
 }
 
 impl Facts {
-    /// Verifies paths of the plan. The first that is none is `BadPath` with its number, from 0. Costs a binary search for each link.
+    /// Verifies paths of the plan. The first that is none is `BadPath` with its number, from 0. Costs a binary search for each link, and a sort.
     pub fn verify(alloc: Global, plan: &Plan, paths: &Rows) -> Result<Facts, Refusal>
         ensures bad { (e : TheRefusal) → first_bad plan.now 0 paths.now ≡ Some e → result ≡ Err e }
         ensures good { IfErr result (λ e. first_bad plan.now 0 paths.now ≡ None → e ≡ OutOfMemory) }
@@ -143,8 +147,9 @@ impl Facts {
         ensures ends { IfOk result (λ f. (a b : ℕ) → has_ends a b f ≡ some_leads a b paths.now) }
         ensures facts { IfOk result (λ f. AreFactsOf plan.now f) }
     {
-        let mut ends = BTreeSet::new(alloc);
+        let mut ends = Vec::with_capacity(alloc, paths.len())?;
         add_all_ends(&mut ends, paths)?;
+        ends.sort_unstable();
         Ok(Facts { ends })
     }
 
@@ -169,6 +174,6 @@ impl Facts {
     fn has(&self, a: u32, b: u32) -> bool
         ensures { result ≡ has_ends a b self.now }
     {
-        self.ends.contains(&Ends { first: a, last: b })
+        self.ends.binary_search(&Ends { first: a, last: b }).is_ok()
     }
 }

@@ -1,13 +1,9 @@
 -- How the checker looks at a clause: numbers of entries that pass a test, and what is kept of them for each node.
-use Rattle.std.specs.Prelude.{◌≡◌, ℕ, ◌+◌, ◌-◌, Bool, true, false, ◌==◌, ◌&&◌, List, [], ◌∷◌, ◌++◌, Some, None, length, slice_get, if◌then◌else◌}
-use Rattle.ring_names.specs.ByKey.{list_at}
-use Rattle.ring_names.specs.contracts.ids.NodeIdPartialEq.TheImpl as node_eq
-use Rattle.ring_table.specs.contracts.allowance.NodeSidePartialEq.TheImpl as side_eq
+use Rattle.std.specs.Prelude.{◌≡◌, ℕ, ◌+◌, ◌-◌, ◌<◌, Bool, true, false, ◌==◌, ◌&&◌, List, [], ◌∷◌, ◌++◌, Some, None, length, slice_get, if◌then◌else◌}
 use Rattle.ring_table.specs.declared.allowance.NodeSide.{NodeSide}
 use Rattle.ring_table.specs.declared.allowance.Side.{Side}
-use Rattle.texts.specs.Numbers.{ascending}
+use Rattle.ring_names.specs.Lists.{has}
 use Rattle.ring_names.specs.declared.ids.NodeId.{NodeId}
-use Rattle.ring_names.specs.declared.lists.Lists.{Lists}
 use Rattle.ring_table.specs.Value.{RingValue}
 use Rattle.plan_text.specs.declared.step.Planned.{Planned}
 use Rattle.plan_cert.specs.declared.cert.Chain.{Chain}
@@ -16,7 +12,10 @@ use Rattle.plan_stage.specs.Occupancy.{is_node}
 use Rattle.plan_stage.specs.Stage.{is_among}
 use Rattle.plan_stage.specs.Parties.{parties_on}
 use Rattle.plan_cover.specs.Clauses.{has_side}
+use Rattle.plan_cover.specs.Looking.Places.{listed_at, is_within, place_at}
+use Rattle.plan_cover.specs.declared.by_place.ByPlace.{ByPlace}
 use Rattle.plan_cover.specs.declared.cover.Cover.{Cover}
+use Rattle.plan_cover.specs.declared.marks.Marks.{Marks}
 
 -- the numbers of the entries that pass the test, ascending, where the first has number k
 abbrev pub numbers_from : {A : Type 0} → (ℕ → A → Bool) → ℕ → List A → List ℕ
@@ -40,20 +39,20 @@ abbrev pub chain_numbers : List Chain → NodeId → List ℕ
 chain_numbers chains x = numbers_from (is_chain_of x) 0 chains
 
 -- the numbers that are kept for the node
-abbrev pub kept_of : Lists NodeId ℕ → NodeId → List ℕ
-kept_of a x = list_at ((node_eq.ghosts).eq) a x
+abbrev pub kept_of : ByPlace ℕ → NodeId → List ℕ
+kept_of a x = listed_at a x.0
 
 -- the numbers that are kept for the side of a node
-abbrev pub copies_kept : Lists NodeSide ℕ → NodeSide → List ℕ
-copies_kept a y = list_at ((side_eq.ghosts).eq) a y
+abbrev pub copies_kept : ByPlace ℕ → NodeSide → List ℕ
+copies_kept a y = listed_at a (place_at y.node.0 y.side)
 
 -- those of each side of the node
-abbrev pub sides_kept : Lists NodeSide ℕ → NodeId → Side → List ℕ
+abbrev pub sides_kept : ByPlace ℕ → NodeId → Side → List ℕ
 sides_kept a x side = copies_kept a (record { node = x; side = side })
 
--- those of each side ascend
-abbrev pub AreAscending : Lists NodeSide ℕ → Type 0
-AreAscending a = (y : NodeSide) → ascending (copies_kept a y) ≡ true
+-- those of the node can be marked
+abbrev pub AreWithin : Marks → ByPlace ℕ → NodeId → Type 0
+AreWithin marks a x = (side : Side) (n : ℕ) → has n (sides_kept a x side) ≡ true → is_within marks side n ≡ true
 
 -- whether the last number is n
 abbrev pub is_last : ℕ → List ℕ → Bool
@@ -67,7 +66,7 @@ with_last n xs = if is_last n xs then xs else xs ++ n ∷ []
 abbrev pub with_last_if : Bool → ℕ → List ℕ → List ℕ
 with_last_if b n xs = if b then with_last n xs else xs
 
--- the copies on each side of a node, and each node's chains
+-- the copies on each side of a node, and the chains of each node of the ring
 pub record IsCover (ring : RingValue) (plan : List Planned) (cert : Cert) (a : Cover) : Type 0 where
   pub copies : (y : NodeSide) → copies_kept a.copies y ≡ copies_of ring plan y
-  pub chains : (x : NodeId) → kept_of a.chains x ≡ chain_numbers cert.chains x
+  pub chains : (x : NodeId) → x.0 < length ring.nodes → kept_of a.chains x ≡ chain_numbers cert.chains x

@@ -1,13 +1,14 @@
 use Rattle.std.proofs.Common.{◌∙◌}
 use Rattle.plan_text.specs.Valid.{step_suits}
 use Rattle.plan_cover.specs.Looking.Numbers.{copies_kept}
+use Rattle.plan_cover.specs.Looking.Places.{place_at}
 use Rattle.plan_cover.specs.Looking.Serving.{serving_at}
 use Rattle.plan_cover.proofs.Served.{serving-first, step-passes, copies-next, present-next}
 use Rattle.plan_cover.proofs.cover.all_copies.Goals as goal
 
 pub loop-n-init : goal.loop-n-init
 loop-n-init c = record {
-  copies = c.new-copies.ensures;
+  copies = λ y. c.new-copies.ensures (place_at y.node.0 y.side);
   present = λ s. c.in_ok-present.ensures.ok s ∙ serving-first c.args.ring.now c.args.plan.now s;
   room = c.in_ok-present.ensures.room;
 }
