@@ -34,7 +34,7 @@ kept-set xs k s t v e m l = by (is_slot s t) (nat_lt s.index 7) refl refl
     by false true other low = get_or-set_other xs k (place_of s) (Some v) None (λ equal. (let f = same-slot s t (ltb-true s.index 7 low) m (equal ∙ e) in absurd cc))
     by false false other low = refl
 
--- numbers on sides have one place if they are one number on one side
+-- two places are the same only if the numbers and the sides are
 pub place_same : (n m : ℕ) (s t : Side) → (place_at n s == place_at m t) ≡ ((n == m) && is_side s t)
 place_same n m Both Both = grind (arith, nat_tests)
 place_same n m Both Take = grind (arith, nat_tests)

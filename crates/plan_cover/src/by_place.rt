@@ -11,7 +11,7 @@ use std::alloc::Global;
 // Room that a list's first value takes.
 const FIRST: usize = 16;
 
-/// The place of a number on a side, such as of a node or of a step.
+/// Returns the place of a node's or a step's number on a side.
 pub fn place_at(number: u32, side: Side) -> usize
     ensures { result ≡ place_at number side }
 {

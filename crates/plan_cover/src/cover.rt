@@ -20,7 +20,7 @@ use ring_names::{NodeId, Refusal, Slot};
 use ring_table::{Ring, Side};
 use std::alloc::Global;
 
-/// The copies on each side of a node, by place, and the chains of each node of the ring, by its number.
+/// The copies on each side of a node, by place, and each node's chains, by its number.
 #[derive(Drop)]
 pub struct Cover {
     pub copies: ByPlace<u32>,

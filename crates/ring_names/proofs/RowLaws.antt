@@ -1,4 +1,4 @@
--- Rows in one list, one more of them, and one less.
+-- Rows in one list: a row more, and a row less.
 use Rattle.std.proofs.Common.{◌≡◌, ℕ, zero, suc, ◌+◌, ◌-◌, ◌<◌, ◌≤◌, List, [], ◌∷◌, ◌++◌, length, get_or, take, drop, Some, refl, sym, ap, ◌∙◌, arith}
 use Rattle.std.specs.Prelude.{sum_by, slice_get}
 use Rattle.std.specs.List.{slice_range}

@@ -13,7 +13,7 @@ abbrev pub sum_of_words : ℕ → List ℕ → ℕ
 sum_of_words sum (a ∷ b ∷ c ∷ d ∷ e ∷ f ∷ g ∷ h ∷ rest) = sum_of_words (next_sum sum (from_le_bytes w64 (a ∷ b ∷ c ∷ d ∷ e ∷ f ∷ g ∷ h ∷ []))) rest
 sum_of_words sum bytes = sum
 
--- the sum of bytes: of their words and the last word, or of few bytes
+-- the sum of all words and the last word, or of the bytes if they are few
 abbrev pub sum_of : List ℕ → ℕ
 sum_of bytes = (if nat_lt (length bytes) 8 then fold next_sum 0 bytes else next_sum (sum_of_words 0 bytes) (from_le_bytes w64 (drop (length bytes - 8) bytes))) / 2 ^ 32
 

@@ -66,7 +66,7 @@ with_last n xs = if is_last n xs then xs else xs ++ n ∷ []
 abbrev pub with_last_if : Bool → ℕ → List ℕ → List ℕ
 with_last_if b n xs = if b then with_last n xs else xs
 
--- the copies on each side of a node, and the chains of each node of the ring
+-- the copies on each side of a node, and each node's chains
 pub record IsCover (ring : RingValue) (plan : List Planned) (cert : Cert) (a : Cover) : Type 0 where
   pub copies : (y : NodeSide) → copies_kept a.copies y ≡ copies_of ring plan y
   pub chains : (x : NodeId) → x.0 < length ring.nodes → kept_of a.chains x ≡ chain_numbers cert.chains x

@@ -11,7 +11,7 @@ side_number Both = 0
 side_number Take = 1
 side_number Give = 2
 
--- the place of a number on a side, such as of a node or of a step
+-- the place of a node's or a step's number on a side
 abbrev pub place_at : ℕ → Side → ℕ
 place_at n side = 3 * n + side_number side
 
