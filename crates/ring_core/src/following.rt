@@ -10,9 +10,10 @@ use crate::world::World;
 use plan_runs::{Entry, Reply, is_same_reply};
 use ring_names::Refusal;
 
-/// The reply of the entry's event, where the store answers it so, and the store has changed by the event. Else `Mismatch`, with the place and the
-/// number of the event's refusal, where the store is as it was; or with the place and 0, where the store answers it otherwise and has changed. Out of
-/// memory comes last, and the store is as it was. Costs one `World::apply` and one comparison of replies.
+/// Applies the entry's event, and returns its reply if that is the entry's.
+///
+/// Otherwise fails with `Mismatch`: the place and the refusal's number, or 0 for another reply. Only then has the
+/// store changed. Out of memory comes last. Costs a `World::apply`.
 pub fn follow(world: &mut World, place: u32, entry: &Entry) -> Result<Reply, Refusal>
     requires { HasNumber world.old entry.now.event }
     ensures ok { IfOk result (λ r. (r ≡ entry.now.reply) × Answers world.old entry.now.event r world.new) }

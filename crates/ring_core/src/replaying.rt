@@ -65,9 +65,10 @@ pub fn follow_queue(world: &mut World, entries: &mut Queue<Entry>) -> Result<(),
     Ok(())
 }
 
-/// The store behind the history: each event is applied in order to a store that nothing has happened to, and is answered as the history has it, so
-/// that the history is a run of the plan. Else `Mismatch`, with the place of the first entry, from 0, whose event is refused or has another reply,
-/// and with that refusal's number or 0. Each entry costs one `World::apply` and one comparison of replies. Out of memory comes last at each entry.
+/// Returns the store after the history, if the history is a run of the plan.
+///
+/// Otherwise fails with `Mismatch`: the place, from 0, of the first entry refused or with another reply, and the
+/// refusal's number or 0. Each entry costs a `World::apply`. Out of memory comes last at each entry.
 pub fn replay<'a>(
     alloc: Global,
     approved: &'a Approved,

@@ -62,9 +62,11 @@ impl<'a> World<'a> {
         }
     }
 
-    /// The event's reply, where nothing refuses it, and the store has changed by it; else the refusal, and the store is as it was. The reply of a get
-    /// that ends has each put of its key that was acknowledged before the get started, or one that succeeds it. Out of memory
-    /// comes last, and only of a chunk, a put, a write, a hint, a get, a read, the end of a get or a handoff.
+    /// Applies the event and returns its reply. If it is refused, nothing changes.
+    ///
+    /// The reply of a get that ends has each put of its key acknowledged before the get started, or a successor.
+    ///
+    /// Out of memory comes last, and only for a chunk, put, write, hint, get, read, end of a get or handoff.
     pub fn apply(&mut self, event: &Event) -> Result<Reply, Refusal>
         requires { HasNumber self.old event.now }
         ensures ok { IfOk result (λ r. Answers self.old event.now r self.new) }

@@ -28,9 +28,6 @@ fn place_by(q: u32, digest: [u8; 16]) -> Place
 ///
 /// The partition is the digest's first log2 q bits, and the chunk the next four (DeCandia et al. 2007, sections
 /// 4.1 and 6.2). Takes no memory.
-///
-/// The partition is the digest's first log2 q bits, and the chunk the next four (DeCandia et al. 2007, sections
-/// 4.1 and 6.2).
 pub fn place(q: u32, key: &[u8]) -> Place
     requires { is_space q ≡ true }
     ensures place { result ≡ place_of q key.now }

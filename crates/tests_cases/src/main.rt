@@ -3,11 +3,13 @@
 //! is meant from there on. At first it is `check`. `report` means a drive whose report is printed. `race` means
 //! a drive by three workers: its first line is printed, since the others are left to chance.
 //!
-//! No first part of an accepted bundle may be accepted: how many are is printed if it is not 0. A check is also
-//! made by 1, 3 and 64 workers: how many of them say otherwise is printed if it is not 0. Each play's history
-//! of answered events is replayed, and that history with a fault at each place. It is printed how many replays
-//! do not say what the play does, if it is not 0. Each drive's printed history is replayed, and a line says so
-//! if a replay does not say yes. The words of `people.rt` ask for what is printed for people.
+//! Counts what goes wrong, and prints each count that is not 0:
+//! - first parts of an accepted bundle that are accepted;
+//! - checks by 1, 3 and 64 workers that say otherwise;
+//! - replays of a play's history, also with a fault at each place, that do not say what the play does;
+//! - replays of a drive's printed history that do not say yes.
+//!
+//! The words of `people.rt` ask for what is printed for people.
 #![tactic(auto)]
 
 mod histories;

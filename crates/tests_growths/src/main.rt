@@ -1,7 +1,8 @@
-//! Plays the script of a bundle on standard input by a store, by a store with its history and by one behind a
-//! lock. Also restores the store behind that history. Prints what each event is answered. What is refused for
-//! want of memory is tried again. All is as it was, or a line says that it is not. So the answers are the same
-//! whichever growth was refused.
+//! Plays the script of a bundle on standard input by a store, by a store with its history and by a locked one.
+//! Also restores the store from that history. Prints the replies.
+//!
+//! What is refused for memory is tried again. A line says so if the refusal changed anything. So the output is
+//! the same, whichever growth was refused.
 #![tactic(auto)]
 
 ghost use Rattle.std.specs.Prelude.{◌≡◌, ◌<◌, ◌≤◌, length};
