@@ -54,8 +54,7 @@ impl<'a> World<'a> {
         }
     }
 
-    /// Whether the node stores the put, or one that succeeds it, for the slot of that index of the put's partition. Hints do not count. Takes no
-    /// memory, and costs one look-up.
+    /// Whether the node stores the put or a successor for that slot of the put's partition. Hints do not count. Costs a look-up.
     pub fn is_stored(&self, node: NodeId, put: u32, index: u32) -> bool
         requires { put < length self.now.parts.puts }
         ensures { (w : TheWorld) → Meets self.now w

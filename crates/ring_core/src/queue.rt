@@ -7,8 +7,7 @@ use std::marker::Model;
 // After how many items memory that they had is given back.
 const MANY: usize = 65536;
 
-/// Items that are taken in order. The memory of their row is given back now and then, and that of an item once it is let go, so that what grows
-/// meanwhile takes it.
+/// Items that are taken in order. Memory of taken items is freed now and then, so that what grows can use it.
 #[derive(Drop)]
 pub struct Queue<T> {
     last_first: Vec<T>,

@@ -35,8 +35,8 @@ impl<'a> World<'a> {
         self.parts.puts.len() as u32
     }
 
-    /// A law, which costs nothing: of two puts of one key the first one's clock is at most the second's exactly where the second succeeds the
-    /// first (DeCandia et al. 2007, section 4.4).
+    /// A law, which costs nothing: a put's clock is at most that of another put of its key exactly if the other
+    /// succeeds it (DeCandia et al. 2007, section 4.4).
     pub fn clocks_tell_succession(&self)
         ensures { (w : TheWorld) → Meets self.now w → (u v : ℕ) → u < length w.puts → v < length w.puts
             → key_of_put w u ≡ key_of_put w v
@@ -194,8 +194,10 @@ impl<'a> World<'a> {
         by_owner | by_hints
     }
 
-    /// The slots that hold the put or one that succeeds it: bit i is set where the slot of index i of the put's partition does. Once the
-    /// put is acknowledged, any R slots include one whose bit is set. Takes no memory, and looks at each slot's owner and at the keepers of the put's key for it.
+    /// Returns the slots of the put's partition that hold the put or a successor: bit i for index i.
+    ///
+    /// Any R slots include one whose bit is set, once the put is acknowledged. Takes no memory. Looks at each slot's
+    /// owner and at those that keep a hint for it.
     pub fn held_slots(&self, put: u32) -> u32
         requires { put < length self.now.parts.puts }
         ensures acknowledged { (w : TheWorld) → Meets self.now w → is_acked w put ≡ true
@@ -223,8 +225,8 @@ impl<'a> World<'a> {
         !(steps.is_done(step) || steps.is_open(step)) && is_ready(&self.parts, step)
     }
 
-    /// The least step from that number on that is neither done nor open and whose direct dependencies are done, if there is one. Takes no memory,
-    /// and looks at each step up to it.
+    /// Returns the least step from that number on that can begin: neither done nor open, with its dependencies done.
+    /// Takes no memory. Looks at each step up to it.
     pub fn ready(&self, from: u32) -> Option<u32>
         ensures some { IfSome result (λ n. (w : TheWorld) → Meets self.now w → IsNextStep (plan_of self.now) w from n) }
         ensures none { IfNone result ((w : TheWorld) → Meets self.now w → NoNextStep (plan_of self.now) w from) }

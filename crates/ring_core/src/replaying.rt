@@ -47,8 +47,8 @@ fn follow_given(world: &mut World, place: u32, entry: Entry) -> Result<(), Refus
     }
 }
 
-/// Follows all entries in order, of which each is given up once it was followed. Refused as `replay` is; then the store has changed by the entries
-/// before that one.
+/// Follows all entries in order, and frees each one then. If it fails as `replay` does, the entries before have
+/// changed the store.
 pub fn follow_queue(world: &mut World, entries: &mut Queue<Entry>) -> Result<(), Refusal>
     requires few { length entries.old ≤ 1000000 }
     requires puts { put_count world.old ≡ 0 }

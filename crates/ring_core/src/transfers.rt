@@ -106,8 +106,8 @@ impl<'a> World<'a> {
         count
     }
 
-    /// How many open copies the node takes part in now, receiving or being read: never more than its one allowance, if it has one. Takes no
-    /// memory, and looks at each step of the plan.
+    /// Counts the open copies in which the node takes part: never more than its one allowance, if it has one. Looks
+    /// at each step of the plan.
     pub fn open_transfers(&self, node: NodeId) -> u32
         ensures most { (a : ℕ) → allowance_of (ring_of self.now) node.0 Both ≡ Some a → result ≤ a }
         ensures now { (w : TheWorld) → Meets self.now w
@@ -117,7 +117,7 @@ impl<'a> World<'a> {
         self.transfers(node, Side::Both)
     }
 
-    /// How many open copies the node receives now: never more than its allowance for that, if it has one of its own. Takes no memory, and looks at
+    /// Counts the open copies that the node receives: never more than its allowance for them, if it has one. Looks at
     /// each step of the plan.
     pub fn open_take(&self, node: NodeId) -> u32
         ensures most { (a : ℕ) → allowance_of (ring_of self.now) node.0 Take ≡ Some a → result ≤ a }
@@ -128,8 +128,8 @@ impl<'a> World<'a> {
         self.transfers(node, Side::Take)
     }
 
-    /// How many open copies read from the node now: never more than its allowance for that, if it has one of its own. Takes no memory, and looks at
-    /// each step of the plan.
+    /// Counts the open copies that read from the node: never more than its allowance for them, if it has one. Looks
+    /// at each step of the plan.
     pub fn open_give(&self, node: NodeId) -> u32
         ensures most { (a : ℕ) → allowance_of (ring_of self.now) node.0 Give ≡ Some a → result ≤ a }
         ensures now { (w : TheWorld) → Meets self.now w

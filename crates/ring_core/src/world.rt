@@ -84,8 +84,8 @@ impl<'a> World<'a> {
         happen(&mut self.parts, event)
     }
 
-    /// As `apply` of an event that is allowed now, with a copy of the reply beside it, so that one can be noted and the other given. Refused only
-    /// where there is no memory, and the store is as it was.
+    /// Applies an event that is allowed now, and returns the reply twice: to note one and give the other. Fails only
+    /// if memory runs out, and then nothing changes.
     pub fn apply_with_copy(&mut self, event: &Event) -> Result<(Reply, Reply), Refusal>
         requires number { HasNumber self.old event.now }
         requires passes { Passes self.old event.now }
