@@ -52,7 +52,7 @@ RULES = [*PHRASES, "three of", "over 25 words", "three it", "cells"]
 BOUNDS = {
     "README.md": [0, 0, 0, 0, 0, 0, 0, 2, 6],
     "CHANGE.md": [0, 0, 0, 0, 0, 0, 1, 1, 0],
-    "EVIDENCE.md": [0, 1, 4, 0, 0, 1, 8, 0, 89],
+    "EVIDENCE.md": [0, 0, 0, 0, 0, 0, 0, 0, 68],
     "RUNNING.md": [0, 0, 1, 0, 0, 2, 1, 2, 1],
 }
 # How often comments of .rt files, comments of definitions and proofs, and printed words break each
