@@ -50,7 +50,6 @@ RULES = [*PHRASES, "three of", "over 25 words", "three it", "cells"]
 # How often a page breaks each rule at most: the counts of pages that are still to be written so can
 # only fall, and every other page breaks none.
 BOUNDS = {
-    "README.md": [0, 0, 0, 0, 0, 0, 0, 2, 6],
     "EVIDENCE.md": [0, 0, 0, 0, 0, 0, 0, 0, 68],
 }
 # How often comments of .rt files, comments of definitions and proofs, and printed words break each
