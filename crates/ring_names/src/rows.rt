@@ -88,6 +88,7 @@ impl Rows {
     }
 
     /// Adds a row. Fails only if memory runs out, and then nothing changes.
+    #[inline(always)]
     pub fn push(&mut self, row: &[u32]) -> Result<(), Refusal>
         ensures ok { OnOk result (self.new ≡ self.old ++ row.now ∷ []) }
         ensures err { OnErr result (self.new ≡ self.old) }
