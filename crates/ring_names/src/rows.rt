@@ -11,7 +11,7 @@ use std::marker::Model;
 /// Rows of numbers in one vector, so that a row needs no allocation.
 #[derive(Debug)]
 pub struct Rows {
-    // where each row ends, which is where the next begins
+    // where each row ends
     ends: Vec<usize>,
     numbers: Vec<u32>,
 }
