@@ -6,7 +6,7 @@ use Rattle.std.proofs.lemmas.Bool.{false_from_ne_true}
 use Rattle.std.proofs.lemmas.Fmt.{digits_decimal}
 use Rattle.std.proofs.lemmas.List.Concat.{flat_map-cons}
 use Rattle.std.proofs.lemmas.Slice.Eq.{bytes_eq-Decides}
-use Rattle.script_text.proofs.Terms.{NodeId, RingValue, names_of, name_at, AreNames, is_key, Event, seen_fields, writer_at, event_fields, AreWriters, IsCount, IsEvent, Fits}
+use Rattle.script_text.proofs.Terms.{NodeId, RingValue, names_of, name_at, AreNames, is_key, Event, seen_fields, writer_at, event_fields, AreWriters, IsCount, IsEvent, IsSmall, Fits}
 use Rattle.script_text.specs.declared.said.SaidWriter.{SaidWriter}
 use Rattle.script_text.specs.declared.said.SaidWriter.TheVariants.{Known, New}
 use Rattle.script_text.specs.declared.said.SaidEvent.{SaidEvent}
@@ -22,7 +22,7 @@ use Rattle.plan_runs.specs.declared.event.Event.TheVariants as event
 use Rattle.plan_runs.specs.declared.event.Reply.{Reply}
 use Rattle.plan_runs.specs.Replies.{reply_text}
 use Rattle.script_text.specs.declared.said.SaidEvent.TheVariants as said
-use Rattle.script_text.proofs.ScriptForm.{IsNamed, IsWriter, IsSmall, NamesNode, IsSaid, said_name, new-name, said_fields, begins, said-line, said_line}
+use Rattle.script_text.proofs.ScriptForm.{IsNamed, IsWriter, NamesNode, IsSaid, said_name, new-name, said_fields, begins, said-line, said_line}
 use Rattle.history_text.specs.Said.{SaidEntry, reply_of, said_of}
 use Rattle.history_text.specs.Reading.{reply_at, event_said, reply_said, said_at, reply_line}
 use Rattle.history_text.specs.Spelling.{entry_line}

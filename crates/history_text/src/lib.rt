@@ -5,6 +5,7 @@ mod answers;
 mod bundle;
 mod known;
 mod lines;
+mod plain;
 mod reading;
 mod said;
 mod writing;

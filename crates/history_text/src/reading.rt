@@ -12,6 +12,7 @@ ghost use Rattle.history_text.specs.Reading.{entries_from, entries_at, history_a
 ghost use Rattle.history_text.specs.Valid.{IsHistoryOf};
 
 use crate::lines::{add, entry_line};
+use crate::plain::take_plain;
 use plan_runs::Entry;
 use ring_names::{Names, Refusal};
 use ring_table::Ring;
@@ -34,6 +35,9 @@ fn read_into(
         (entries_from ring.now seen.old.items writers.old lines.old.line lines.old.lines) }
 {
     'entries: while !lines.begins(b"end") {
+        if take_plain(alloc, seen, lines) {
+            continue 'entries;
+        }
         let fields = lines.next()?;
         let said = entry_line(ring, writers, seen.as_slice(), fields)?;
         add(alloc, writers, seen, said)?;

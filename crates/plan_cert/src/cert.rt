@@ -9,8 +9,8 @@ use crate::chains::Chains;
 use ring_names::{Listed, NodeId, Rows};
 use ring_table::{NodeSide, Ring, Side};
 
-/// Copies to which a node is party, one behind the other in order: the node has one transfer of a chain open at a time. `Chains` is
-/// a list of these, as contracts see it.
+/// Copies in which a node takes part, in order: it has one transfer of a chain open at a time. Contracts see
+/// `Chains` as a list of these.
 #[derive(Debug, Drop)]
 pub struct Chain {
     pub node: NodeId,
@@ -71,8 +71,10 @@ fn are_chains(ring: &Ring, chains: &Chains) -> bool
 }
 
 impl Cert {
-    /// Whether the certificate is one that a text can say of a plan over the ring: at most 262,144 facts of 2 to 1,024 steps, and at
-    /// most 65,536 chains with at least one step each, of sides that their nodes have. Takes no memory.
+    /// Whether a text can say the certificate of a plan over the ring. Takes no memory.
+    ///
+    /// It has at most 262,144 facts of 2 to 1,024 steps, and at most 65,536 chains of at least one step, on
+    /// sides that their nodes have.
     pub fn suits(&self, ring: &Ring) -> bool
         ensures { IsTrue result ↔ Suits ring.now self.now }
     {

@@ -151,9 +151,10 @@ fn read_whole(alloc: Global, ring: &Ring, text: &[u8]) -> Result<Cert, Refusal>
     Ok(cert)
 }
 
-/// Reads a certificate over the ring from its whole text. The first line at fault decides, and in it the fault of the least
-/// number: 1 `BadLine`, 2 `TooLarge`, 3 `UnknownNode`. `OutOfMemory` comes only where memory ran out, behind lines that have
-/// no fault.
+/// Reads a certificate over the ring from its whole text.
+///
+/// The first line at fault decides, and in it the least number: 1 `BadLine`, 2 `TooLarge`, 3 `UnknownNode`.
+/// `OutOfMemory` comes only after lines without a fault.
 pub fn read_cert(alloc: Global, ring: &Ring, text: &[u8]) -> Result<Cert, Refusal>
     // What is read suits the ring, and is spelled so.
     ensures found { IfOk result (λ v. IsCert v × Suits ring.now v × (text.now ≡ cert_text ring.now v)) }

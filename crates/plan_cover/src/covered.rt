@@ -16,11 +16,10 @@ use plan_cert::Chains;
 use ring_names::Refusal;
 use ring_table::{NodeSide, Side};
 
-/// Tests a node's copies on a side: each must be a step of one of its chains on that side. These are among the
-/// chains of the given numbers.
+/// Tests a node's copies on a side: each must be a step of one of the numbered chains on that side.
 ///
-/// Costs one pass over their steps and one over the copies. The steps are marked by number and not hashed: the
-/// author of a certificate could choose steps that collide.
+/// Costs one pass over the chains' steps and one over the copies. Steps are marked by number and not hashed: the author
+/// of a certificate could choose steps that collide.
 pub fn check_copies(
     marks: &mut Marks,
     copies: &ByPlace<u32>,

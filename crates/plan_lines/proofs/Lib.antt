@@ -1,5 +1,5 @@
 pub mod Ascending
+pub mod Goings
 pub mod Listing
 pub mod Moved
-pub mod NoFloats
 pub mod PlainNames

@@ -1,68 +1,65 @@
 //! The lines of a plan's moves.
 
-ghost use Rattle.std.specs.Prelude.{◌≡◌, ◌<◌, length, IfOk, IfErr};
-ghost use Rattle.serde_json.specs.View.{view};
+ghost use Rattle.std.specs.Prelude.{◌≡◌, ◌++◌, ◌∷◌, [], map, codes, decimal, IfOk, IfErr, OnOk};
+ghost use Rattle.json.specs.Token.{begin_object, key, number, string};
+ghost use Rattle.json.specs.Tree.{json_tokens};
+ghost use Rattle.serde_json.specs.Data.{array};
+ghost use Rattle.serde_json.specs.View.{items_of};
+ghost use Rattle.serde_json.specs.Written.{outline};
 ghost use Rattle.ring_names.specs.declared.refusal.Refusal.TheVariants.{OutOfMemory};
 ghost use Rattle.ring_table.specs.Value.{names_of};
+ghost use Rattle.ring_table.specs.Spelling.{name_at};
 ghost use Rattle.plan_text.specs.Valid.{Suits};
-ghost use Rattle.plan_lines.specs.MoveLines.{move_object, move_data, moves_text};
+ghost use Rattle.plan_lines.specs.Lines.{number_data, node_data};
+ghost use Rattle.plan_lines.specs.MoveLines.{move_object, moves_text};
+ghost use Rattle.plan_lines.specs.Tokens.{GoesOn};
 
-use crate::objects::{put_numbers, put_slot};
 use crate::own_steps::move_steps;
-use crate::parts::{name_value, push_line};
+use crate::parts::{push_line, write_node, write_numbers, write_slot};
 use crate::waits::move_after;
+use json::Writer;
 use plan_moves::{Move, moves};
 use plan_text::Plan;
-use ring_names::{Refusal, Slot};
+use ring_names::{NodeId, Refusal};
 use ring_table::Ring;
-use serde_json::{Map, Value, put};
-use std::alloc::{AllocError, Global};
+use std::alloc::Global;
 
 // A move's number, the steps to be done before it, and its own steps.
 #[derive(Clone, Copy)]
 struct Head<'a> {
-    alloc: Global,
+    ring: &'a Ring,
     number: usize,
     after: &'a [u32],
     steps: &'a [u32],
 }
 
-fn move_object(head: &Head, slot: Slot, from: Value, to: Value) -> Result<Value, AllocError>
-    ensures { IfOk result (λ v. view v
-        ≡ move_object head.now.after.now head.now.number head.now.steps.now slot (view from) (view to)) }
-{
-    let mut map = Map::new(head.alloc);
-    put(&mut map, head.alloc, "to", to)?;
-    put(&mut map, head.alloc, "from", from)?;
-    put(&mut map, head.alloc, "move", Value::from(head.number))?;
-    put_slot(&mut map, head.alloc, slot)?;
-    put_numbers(&mut map, head.alloc, "after", head.after)?;
-    put_numbers(&mut map, head.alloc, "steps", head.steps)?;
-    Ok(Value::Object(map))
-}
-
-fn move_value(
-    alloc: Global,
-    ring: &Ring,
-    plan: &Plan,
-    number: usize,
-    movement: &Move,
-) -> Result<Value, Refusal>
-    requires { movement.now.mirror < length plan.now }
-    ensures value { IfOk result (λ v. view v ≡ move_data (names_of ring.now) plan.now number movement.now) }
+// The members in front of the move's slot.
+fn write_front(line: &mut Writer, head: &Head, from: NodeId) -> Result<(), Refusal>
+    ensures ok { OnOk result (GoesOn line.old line.new (begin_object ∷ key (codes "after")
+        ∷ (json_tokens (outline (array (items_of (map number_data head.now.after.now))))
+        ++ key (codes "from") ∷ string (name_at (names_of head.now.ring.now) from) ∷ key (codes "move") ∷ number (decimal head.now.number) ∷ []))) }
     ensures memory { IfErr result (λ e. e ≡ OutOfMemory) }
 {
-    let steps = move_steps(alloc, plan, movement)?;
-    let after = move_after(alloc, plan, steps.as_slice())?;
-    let from = name_value(alloc, ring, movement.from)?;
-    let to = name_value(alloc, ring, movement.to)?;
-    let head = Head {
-        alloc,
-        number,
-        after: after.as_slice(),
-        steps: steps.as_slice(),
-    };
-    Ok(move_object(&head, movement.slot, from, to)?)
+    line.begin_object()?;
+    write_numbers(line, "after", head.after)?;
+    write_node(line, "from", head.ring, from)?;
+    line.key("move")?;
+    line.u64(head.number as u64)?;
+    Ok(())
+}
+
+fn write_object(line: &mut Writer, head: &Head, movement: &Move) -> Result<(), Refusal>
+    ensures ok { OnOk result (GoesOn line.old line.new (json_tokens (outline
+        (move_object head.now.after.now head.now.number head.now.steps.now movement.now.slot
+        (node_data (names_of head.now.ring.now) movement.now.from) (node_data (names_of head.now.ring.now) movement.now.to))))) }
+    ensures memory { IfErr result (λ e. e ≡ OutOfMemory) }
+{
+    write_front(line, head, movement.from)?;
+    write_slot(line, movement.slot)?;
+    write_numbers(line, "steps", head.steps)?;
+    write_node(line, "to", head.ring, movement.to)?;
+    line.end_object()?;
+    Ok(())
 }
 
 /// Writes the plan's moves as lines of JSON, in the order of their mirrors, for executors that do one move
@@ -85,9 +82,18 @@ pub fn write_moves(alloc: Global, ring: &Ring, plan: &Plan) -> Result<Vec<u8>, R
 {
     let found = moves(alloc, ring, plan)?;
     let mut out = Vec::new(alloc);
+    let mut line = Writer::new(Vec::new(alloc));
     for (number, movement) in found.iter().enumerate() {
-        let value = move_value(alloc, ring, plan, number, movement)?;
-        push_line(alloc, &mut out, &value)?;
+        let steps = move_steps(alloc, plan, movement)?;
+        let after = move_after(alloc, plan, steps.as_slice())?;
+        let head = Head {
+            ring,
+            number,
+            after: after.as_slice(),
+            steps: steps.as_slice(),
+        };
+        write_object(&mut line, &head, movement)?;
+        line = push_line(&mut out, line)?;
     }
     Ok(out)
 }

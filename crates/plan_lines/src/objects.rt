@@ -1,130 +1,208 @@
 //! The objects of steps. Members are sorted by name, so a line begins with the steps to be done before.
 
-ghost use Rattle.std.specs.Prelude.{◌≡◌, codes, map, IfOk, OnOk};
-ghost use Rattle.serde_json.specs.View.{view, items_of, members_view};
-ghost use Rattle.serde_json.specs.Data.{array, string, put as with_member};
-ghost use Rattle.plan_lines.specs.Lines.{number_data, with_listed, node_object, slot_object, drop_object, mirror_object, copy_object};
+ghost use Rattle.std.specs.Prelude.{◌≡◌, ◌<◌, ◌++◌, ◌∷◌, [], true, map, codes, decimal, IfErr, OnOk};
+ghost use Rattle.json.specs.Token.{begin_object, key, number, string};
+ghost use Rattle.json.specs.Tree.{json_tokens};
+ghost use Rattle.serde_json.specs.Data.{array};
+ghost use Rattle.serde_json.specs.View.{items_of};
+ghost use Rattle.serde_json.specs.Written.{outline};
+ghost use Rattle.ring_names.specs.declared.refusal.Refusal.TheVariants.{OutOfMemory};
+ghost use Rattle.ring_table.specs.Value.{names_of};
+ghost use Rattle.plan_text.specs.Valid.{source_suits, step_suits};
+ghost use Rattle.plan_stage.specs.Parties.{source_slots};
+ghost use Rattle.plan_cover.specs.Looking.Serving.{serving_at};
+ghost use Rattle.plan_text.specs.declared.step.Step.TheVariants.{Copy};
+ghost use Rattle.plan_lines.specs.Lines.{number_data, node_data, owners_data, mirror_data, node_object, slot_object, drop_object, mirror_object, step_data};
+ghost use Rattle.plan_lines.specs.Tokens.{GoesOn, listed_tokens};
 
-use crate::parts::numbers;
-use plan_text::Source;
-use ring_names::Slot;
-use serde_json::{Map, Value, put};
-use std::alloc::{AllocError, Global};
+use crate::parts::{
+    write_indexes, write_name, write_node, write_number, write_numbers, write_slot,
+};
+use json::Writer;
+use plan_cover::Present;
+use plan_text::{Source, Step};
+use ring_names::{NodeId, Refusal, Slot};
+use ring_table::Ring;
+use std::alloc::AllocError;
 
-/// A step's number, and the steps to be done before it.
+/// A step's number, the steps to be done before it, and the ring.
 #[derive(Clone, Copy)]
 pub(crate) struct Head<'a> {
-    pub alloc: Global,
+    pub ring: &'a Ring,
     pub step: u32,
     pub after: &'a [u32],
 }
 
-pub(crate) fn put_numbers(
-    members: &mut Map<String, Value>,
-    alloc: Global,
-    name: &str,
-    given: &[u32],
-) -> Result<(), AllocError>
-    ensures { OnOk result (members_view members.new.entries
-        ≡ with_member name.now (array (items_of (map number_data given.now))) (members_view members.old.entries)) }
+// The members in front of a kind's own.
+fn write_front(line: &mut Writer, head: &Head, kind: &str) -> Result<(), AllocError>
+    ensures { OnOk result (GoesOn line.old line.new (begin_object ∷ key (codes "after")
+        ∷ (json_tokens (outline (array (items_of (map number_data head.now.after.now))))
+        ++ key (codes "do") ∷ string kind.now ∷ []))) }
 {
-    let list = numbers(alloc, given)?;
-    put(members, alloc, name, Value::Array(list))
+    line.begin_object()?;
+    write_numbers(line, "after", head.after)?;
+    line.key("do")?;
+    line.string(kind)
 }
 
-pub(crate) fn put_slot(
-    members: &mut Map<String, Value>,
-    alloc: Global,
+// The slot of a step that lists no slots, and the step's number.
+fn write_place(line: &mut Writer, head: &Head, slot: Slot) -> Result<(), AllocError>
+    ensures { OnOk result (GoesOn line.old line.new (key (codes "partition") ∷ number (decimal slot.partition)
+        ∷ key (codes "slot") ∷ number (decimal slot.index) ∷ key (codes "step") ∷ number (decimal head.now.step) ∷ [])) }
+{
+    write_slot(line, slot)?;
+    write_number(line, "step", head.step)?;
+    Ok(())
+}
+
+// A step of one node: it joins or retires.
+fn write_of_node(line: &mut Writer, head: &Head, kind: &str, node: NodeId) -> Result<(), Refusal>
+    ensures ok { OnOk result (GoesOn line.old line.new (json_tokens (outline
+        (node_object kind.now head.now.after.now head.now.step (node_data (names_of head.now.ring.now) node))))) }
+    ensures memory { IfErr result (λ e. e ≡ OutOfMemory) }
+{
+    write_front(line, head, kind)?;
+    write_node(line, "node", head.ring, node)?;
+    write_number(line, "step", head.step)?;
+    line.end_object()?;
+    Ok(())
+}
+
+fn write_switch(line: &mut Writer, head: &Head, slot: Slot) -> Result<(), AllocError>
+    ensures { OnOk result (GoesOn line.old line.new
+        (json_tokens (outline (slot_object (codes "switch") head.now.after.now head.now.step slot)))) }
+{
+    write_front(line, head, "switch")?;
+    write_place(line, head, slot)?;
+    line.end_object()?;
+    Ok(())
+}
+
+fn write_drop(line: &mut Writer, head: &Head, slot: Slot, node: NodeId) -> Result<(), Refusal>
+    ensures ok { OnOk result (GoesOn line.old line.new (json_tokens (outline
+        (drop_object head.now.after.now head.now.step slot (node_data (names_of head.now.ring.now) node))))) }
+    ensures memory { IfErr result (λ e. e ≡ OutOfMemory) }
+{
+    write_front(line, head, "drop")?;
+    write_node(line, "node", head.ring, node)?;
+    write_place(line, head, slot)?;
+    line.end_object()?;
+    Ok(())
+}
+
+fn write_mirror(line: &mut Writer, head: &Head, slot: Slot, node: NodeId) -> Result<(), Refusal>
+    ensures ok { OnOk result (GoesOn line.old line.new (json_tokens (outline
+        (mirror_object head.now.after.now head.now.step slot (node_data (names_of head.now.ring.now) node))))) }
+    ensures memory { IfErr result (λ e. e ≡ OutOfMemory) }
+{
+    write_front(line, head, "mirror")?;
+    write_place(line, head, slot)?;
+    write_node(line, "to", head.ring, node)?;
+    line.end_object()?;
+    Ok(())
+}
+
+// The owners of the slots that a copy reads.
+fn write_owners(
+    line: &mut Writer,
+    ring: &Ring,
+    present: &Present,
     slot: Slot,
-) -> Result<(), AllocError>
-    ensures { OnOk result (members_view members.new.entries ≡ with_member (codes "slot") (number_data slot.index)
-        (with_member (codes "partition") (number_data slot.partition) (members_view members.old.entries))) }
+    source: &Source,
+) -> Result<(), Refusal>
+    requires partition { slot.partition < ring.now.q }
+    requires index { slot.index < ring.now.n }
+    requires suits { source_suits ring.now source.now ≡ true }
+    ensures ok { OnOk result (GoesOn line.old line.new (key (codes "from") ∷ json_tokens (outline
+        (owners_data (names_of ring.now) (serving_at ring.now present.now) (source_slots slot source.now))))) }
+    ensures memory { IfErr result (λ e. e ≡ OutOfMemory) }
 {
-    put(members, alloc, "partition", Value::from(slot.partition))?;
-    put(members, alloc, "slot", Value::from(slot.index))
+    line.key("from")?;
+    line.begin_array()?;
+    match source {
+        Source::Owner => write_name(line, ring, present.at(ring, slot).owner)?,
+        Source::Slots(from) => {
+            for index in from.as_slice() {
+                let partition = slot.partition;
+                let index = u32::from(*index);
+                write_name(
+                    line,
+                    ring,
+                    present.at(ring, Slot { partition, index }).owner,
+                )?;
+            }
+        }
+    }
+    line.end_array()?;
+    Ok(())
 }
 
-// Adds the indexes of the listed slots, if a copy reads them.
-fn put_listed(
-    members: &mut Map<String, Value>,
-    alloc: Global,
-    source: &Source,
-) -> Result<(), AllocError>
-    ensures { OnOk result (members_view members.new.entries ≡ with_listed source.now (members_view members.old.entries)) }
+// The mirror's name, or null if there is none.
+fn write_to(line: &mut Writer, ring: &Ring, mirror: Option<NodeId>) -> Result<(), Refusal>
+    ensures ok { OnOk result (GoesOn line.old line.new
+        (key (codes "to") ∷ json_tokens (outline (mirror_data (names_of ring.now) mirror)))) }
+    ensures memory { IfErr result (λ e. e ≡ OutOfMemory) }
 {
-    match source {
-        Source::Owner => Ok(()),
-        Source::Slots(from) => put_numbers(members, alloc, "slots", from.as_slice()),
+    match mirror {
+        Some(node) => write_node(line, "to", ring, node),
+        None => {
+            line.key("to")?;
+            Ok(line.null()?)
+        }
     }
 }
 
-fn put_step(members: &mut Map<String, Value>, head: &Head, kind: &str) -> Result<(), AllocError>
-    ensures { OnOk result (members_view members.new.entries
-        ≡ with_member (codes "after") (array (items_of (map number_data head.now.after.now)))
-        (with_member (codes "step") (number_data head.now.step)
-        (with_member (codes "do") (string kind.now) (members_view members.old.entries)))) }
+// The indexes of the listed slots, if a copy reads them.
+fn write_listed(line: &mut Writer, source: &Source) -> Result<(), AllocError>
+    ensures { OnOk result (GoesOn line.old line.new (listed_tokens source.now)) }
 {
-    let kind = String::from_str(head.alloc, kind)?;
-    put(members, head.alloc, "do", Value::String(kind))?;
-    put(members, head.alloc, "step", Value::from(head.step))?;
-    put_numbers(members, head.alloc, "after", head.after)
+    match source {
+        Source::Owner => Ok(()),
+        Source::Slots(from) => write_indexes(line, "slots", from.as_slice()),
+    }
 }
 
-/// A step of one node: it joins or retires.
-pub(crate) fn node_object(head: &Head, kind: &str, node: Value) -> Result<Value, AllocError>
-    ensures { IfOk result (λ v. view v ≡ node_object kind.now head.now.after.now head.now.step (view node)) }
-{
-    let mut map = Map::new(head.alloc);
-    put(&mut map, head.alloc, "node", node)?;
-    put_step(&mut map, head, kind)?;
-    Ok(Value::Object(map))
-}
-
-pub(crate) fn switch_object(head: &Head, slot: Slot) -> Result<Value, AllocError>
-    ensures { IfOk result (λ v. view v ≡ slot_object (codes "switch") head.now.after.now head.now.step slot) }
-{
-    let mut map = Map::new(head.alloc);
-    put_slot(&mut map, head.alloc, slot)?;
-    put_step(&mut map, head, "switch")?;
-    Ok(Value::Object(map))
-}
-
-pub(crate) fn drop_object(head: &Head, slot: Slot, node: Value) -> Result<Value, AllocError>
-    ensures { IfOk result (λ v. view v ≡ drop_object head.now.after.now head.now.step slot (view node)) }
-{
-    let mut map = Map::new(head.alloc);
-    put(&mut map, head.alloc, "node", node)?;
-    put_slot(&mut map, head.alloc, slot)?;
-    put_step(&mut map, head, "drop")?;
-    Ok(Value::Object(map))
-}
-
-pub(crate) fn mirror_object(head: &Head, slot: Slot, to: Value) -> Result<Value, AllocError>
-    ensures { IfOk result (λ v. view v ≡ mirror_object head.now.after.now head.now.step slot (view to)) }
-{
-    let mut map = Map::new(head.alloc);
-    put(&mut map, head.alloc, "to", to)?;
-    put_slot(&mut map, head.alloc, slot)?;
-    put_step(&mut map, head, "mirror")?;
-    Ok(Value::Object(map))
-}
-
-/// A step that copies the slot to its mirror, from its owner or from listed slots.
-pub(crate) fn copy_object(
+// A step that copies the slot to its mirror, from its owner or from listed slots.
+fn write_copy(
+    line: &mut Writer,
     head: &Head,
+    present: &Present,
     slot: Slot,
     source: &Source,
-    from: Value,
-    to: Value,
-) -> Result<Value, AllocError>
-    ensures { IfOk result (λ v. view v
-        ≡ copy_object head.now.after.now head.now.step slot source.now (view from) (view to)) }
+) -> Result<(), Refusal>
+    requires { step_suits head.now.ring.now (Copy slot source.now) ≡ true }
+    ensures ok { OnOk result (GoesOn line.old line.new (json_tokens (outline (step_data (names_of head.now.ring.now)
+        (serving_at head.now.ring.now present.now) head.now.step (Copy slot source.now) head.now.after.now)))) }
+    ensures memory { IfErr result (λ e. e ≡ OutOfMemory) }
 {
-    let mut map = Map::new(head.alloc);
-    put(&mut map, head.alloc, "to", to)?;
-    put(&mut map, head.alloc, "from", from)?;
-    put_slot(&mut map, head.alloc, slot)?;
-    put_listed(&mut map, head.alloc, source)?;
-    put_step(&mut map, head, "copy")?;
-    Ok(Value::Object(map))
+    write_front(line, head, "copy")?;
+    write_owners(line, head.ring, present, slot, source)?;
+    write_slot(line, slot)?;
+    write_listed(line, source)?;
+    write_number(line, "step", head.step)?;
+    write_to(line, head.ring, present.at(head.ring, slot).mirror)?;
+    line.end_object()?;
+    Ok(())
+}
+
+/// Writes the object of a step, given who serves the slots.
+pub(crate) fn write_step(
+    line: &mut Writer,
+    head: &Head,
+    present: &Present,
+    step: &Step,
+) -> Result<(), Refusal>
+    requires { step_suits head.now.ring.now step.now ≡ true }
+    ensures ok { OnOk result (GoesOn line.old line.new (json_tokens (outline (step_data (names_of head.now.ring.now)
+        (serving_at head.now.ring.now present.now) head.now.step step.now head.now.after.now)))) }
+    ensures memory { IfErr result (λ e. e ≡ OutOfMemory) }
+{
+    match step {
+        Step::Join(node) => write_of_node(line, head, "join", *node),
+        Step::Mirror(slot, node) => write_mirror(line, head, *slot, *node),
+        Step::Copy(slot, source) => write_copy(line, head, present, *slot, source),
+        Step::Switch(slot) => Ok(write_switch(line, head, *slot)?),
+        Step::Drop(slot, node) => write_drop(line, head, *slot, *node),
+        Step::Retire(node) => write_of_node(line, head, "retire", *node),
+    }
 }

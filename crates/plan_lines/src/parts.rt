@@ -1,26 +1,63 @@
-//! Names and numbers as JSON, and a value as a line.
+//! Members of a line's object, and the end of a line.
 
-ghost use Rattle.std.specs.Prelude.{◌≡◌, ◌++◌, ◌∷◌, [], false, map, IfOk, IfErr, OnOk};
-ghost use Rattle.serde_json.specs.View.{view};
-ghost use Rattle.serde_json.specs.Written.{compact_text, has_float};
+ghost use Rattle.std.specs.Prelude.{◌≡◌, ◌++◌, ◌∷◌, [], map, codes, decimal, IfOk, IfErr, OnOk};
+ghost use Rattle.json.specs.Print.{print};
+ghost use Rattle.json.specs.Token.{key, number};
+ghost use Rattle.json.specs.Tree.{json_tokens};
+ghost use Rattle.serde_json.specs.Data.{array};
+ghost use Rattle.serde_json.specs.View.{items_of};
+ghost use Rattle.serde_json.specs.Written.{outline};
 ghost use Rattle.ring_names.specs.declared.refusal.Refusal.TheVariants.{OutOfMemory};
 ghost use Rattle.ring_table.specs.Value.{names_of};
 ghost use Rattle.ring_table.specs.Spelling.{name_at};
-ghost use Rattle.plan_lines.specs.Lines.{number_data, node_data, mirror_data};
+ghost use Rattle.plan_lines.specs.Lines.{number_data, node_data};
+ghost use Rattle.plan_lines.specs.Tokens.{GoesOn};
 
-use ring_names::{NodeId, Refusal};
+use json::Writer;
+use ring_names::{NodeId, Refusal, Slot};
 use ring_table::{Node, Ring};
-use serde_json::Value;
-use std::alloc::{AllocError, Global};
+use std::alloc::AllocError;
 
-pub(crate) fn numbers(alloc: Global, given: &[u32]) -> Result<Vec<Value>, AllocError>
-    ensures { IfOk result (λ v. map view v.items ≡ map number_data given.now) }
+pub(crate) fn write_number(line: &mut Writer, name: &str, n: u32) -> Result<(), AllocError>
+    ensures { OnOk result (GoesOn line.old line.new (key name.now ∷ number (decimal n) ∷ [])) }
 {
-    let mut out = Vec::new(alloc);
-    for number in given {
-        out.push(Value::from(*number))?;
+    line.key(name)?;
+    line.u64(u64::from(n))
+}
+
+pub(crate) fn write_numbers(line: &mut Writer, name: &str, given: &[u32]) -> Result<(), AllocError>
+    ensures { OnOk result (GoesOn line.old line.new
+        (key name.now ∷ json_tokens (outline (array (items_of (map number_data given.now)))))) }
+{
+    line.key(name)?;
+    line.begin_array()?;
+    for n in given {
+        line.u64(u64::from(*n))?;
     }
-    Ok(out)
+    line.end_array()?;
+    Ok(())
+}
+
+pub(crate) fn write_indexes(line: &mut Writer, name: &str, given: &[u8]) -> Result<(), AllocError>
+    ensures { OnOk result (GoesOn line.old line.new
+        (key name.now ∷ json_tokens (outline (array (items_of (map number_data given.now)))))) }
+{
+    line.key(name)?;
+    line.begin_array()?;
+    for n in given {
+        line.u64(u64::from(*n))?;
+    }
+    line.end_array()?;
+    Ok(())
+}
+
+pub(crate) fn write_slot(line: &mut Writer, slot: Slot) -> Result<(), AllocError>
+    ensures { OnOk result (GoesOn line.old line.new (key (codes "partition") ∷ number (decimal slot.partition)
+        ∷ key (codes "slot") ∷ number (decimal slot.index) ∷ [])) }
+{
+    write_number(line, "partition", slot.partition)?;
+    write_number(line, "slot", slot.index)?;
+    Ok(())
 }
 
 fn name_of(nodes: &[Node], node: NodeId) -> &[u8]
@@ -32,40 +69,40 @@ fn name_of(nodes: &[Node], node: NodeId) -> &[u8]
     }
 }
 
-/// Returns the name of a node, which is plain text in every ring.
-pub(crate) fn name_value(alloc: Global, ring: &Ring, node: NodeId) -> Result<Value, Refusal>
-    ensures value { IfOk result (λ v. view v ≡ node_data (names_of ring.now) node) }
+/// Writes the name of a node, which is plain text in every ring.
+pub(crate) fn write_name(line: &mut Writer, ring: &Ring, node: NodeId) -> Result<(), Refusal>
+    ensures ok { OnOk result (GoesOn line.old line.new (json_tokens (outline (node_data (names_of ring.now) node)))) }
     ensures memory { IfErr result (λ e. e ≡ OutOfMemory) }
 {
-    let nodes = ring.nodes();
-    let bytes = Vec::from_slice(alloc, name_of(nodes, node))?;
-    match String::from_utf8(bytes) {
-        Ok(text) => Ok(Value::String(text)),
+    match str::from_utf8(name_of(ring.nodes(), node)) {
+        Ok(text) => Ok(line.string(text)?),
         Err(_) => Err(Refusal::Disagree),
     }
 }
 
-/// Returns the mirror's name, or null if there is none.
-pub(crate) fn mirror_value(
-    alloc: Global,
+/// Writes the name of a node as a member.
+pub(crate) fn write_node(
+    line: &mut Writer,
+    name: &str,
     ring: &Ring,
-    mirror: Option<NodeId>,
-) -> Result<Value, Refusal>
-    ensures value { IfOk result (λ v. view v ≡ mirror_data (names_of ring.now) mirror) }
+    node: NodeId,
+) -> Result<(), Refusal>
+    ensures ok { OnOk result (GoesOn line.old line.new
+        (key name.now ∷ json_tokens (outline (node_data (names_of ring.now) node)))) }
     ensures memory { IfErr result (λ e. e ≡ OutOfMemory) }
 {
-    match mirror {
-        Some(node) => name_value(alloc, ring, node),
-        None => Ok(Value::Null),
-    }
+    line.key(name)?;
+    write_name(line, ring, node)
 }
 
-pub(crate) fn push_line(alloc: Global, out: &mut Vec<u8>, value: &Value) -> Result<(), AllocError>
-    requires { has_float (view value.now) ≡ false }
-    ensures { OnOk result (out.new.items ≡ out.old.items ++ (compact_text (view value.now) ++ 10 ∷ [])) }
+/// Adds a line, and returns a writer for the next one that uses the line's memory.
+pub(crate) fn push_line(out: &mut Vec<u8>, line: Writer) -> Result<Writer, AllocError>
+    ensures line { IfOk result (λ w. (w.before ≡ []) × (w.tokens ≡ [])) }
+    ensures out { OnOk result (out.new.items ≡ out.old.items ++ ((line.before ++ print line.tokens) ++ 10 ∷ [])) }
 {
-    let line = value.to_vec(alloc)?;
-    out.extend_from_slice(line.as_slice())?;
+    let mut bytes = line.into_inner();
+    out.extend_from_slice(bytes.as_slice())?;
     out.push(b'\n')?;
-    Ok(())
+    bytes.clear();
+    Ok(Writer::new(bytes))
 }

@@ -121,7 +121,7 @@ impl Facts {
         }
     }
 
-    /// Verifies paths as `verify` does, by as many threads as there are processors. No answer tells how many these were. Every path is looked at.
+    /// Verifies paths as `verify` does, by as many threads as there are processors, and looks at every path.
     pub fn verify_parallel(
         rt: &(impl Threads + Sync),
         alloc: Global,

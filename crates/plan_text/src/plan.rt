@@ -165,8 +165,8 @@ impl Plan {
         self.index.is_retired(node)
     }
 
-    /// Whether the plan speaks of nodes and slots of the ring alone, joins no member, and joins and retires no node
-    /// twice. Takes no memory.
+    /// Whether the plan's nodes and slots are the ring's, no member joins, and no node joins or retires twice.
+    /// Takes no memory.
     pub fn suits(&self, ring: &Ring) -> bool
         ensures { IsTrue result ↔ Suits ring.now self.now }
     {
@@ -180,8 +180,8 @@ impl Plan {
         all_suit(ring, self.steps.as_slice())
     }
 
-    /// Whether the plan's join steps name exactly the nodes of `joins`, and its retire steps exactly those of `leaves`, in any order
-    /// and however often each is named. Takes no memory.
+    /// Whether the join steps name exactly the nodes of `joins`, and the retire steps those of `leaves`, in any
+    /// order. Takes no memory.
     pub fn fulfils(&self, joins: &[NodeId], leaves: &[NodeId]) -> bool
         ensures { result ≡ fulfils self.now joins.now leaves.now }
     {

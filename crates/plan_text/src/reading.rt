@@ -122,9 +122,10 @@ fn read_whole(alloc: Global, ring: &Ring, text: &[u8]) -> Result<Plan, Refusal>
     Ok(plan)
 }
 
-/// Reads a plan of the ring from its whole text. The first line at fault decides, and in it the fault of the least
-/// number: 1 `BadLine`, 2 `TooLarge`, 3 `UnknownNode`, 4 `Repeated`, 20 `LaterDependency`.
-/// `OutOfMemory` comes only where memory ran out, behind lines that have no fault.
+/// Reads a plan of the ring from its whole text.
+///
+/// The first line at fault decides, and in it the least number: 1 `BadLine`, 2 `TooLarge`, 3 `UnknownNode`, 4
+/// `Repeated`, 20 `LaterDependency`. `OutOfMemory` comes only after lines without a fault.
 pub fn read_plan(alloc: Global, ring: &Ring, text: &[u8]) -> Result<Plan, Refusal>
     // What is read is a plan that suits the ring, and spelled so.
     ensures found { IfOk result (λ v. IsPlan v × Suits ring.now v × (text.now ≡ plan_text ring.now v)) }

@@ -95,6 +95,7 @@ impl SlotSteps {
     }
 
     /// Adds the number to the end of the slot's list.
+    #[inline(always)]
     pub fn add(&mut self, slot: Slot, number: u32) -> Result<(), Refusal>
         ensures ok { OnOk result ((s : TheSlot) → numbers_at self.new s
             ≡ (if is_slot s slot then numbers_at self.old s ++ number ∷ [] else numbers_at self.old s)) }

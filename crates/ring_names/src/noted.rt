@@ -17,7 +17,7 @@ pub const FREE: Noted = Noted { sum: 0, next: 0 };
 // How many successive places may have a number.
 const NEAR: usize = 8;
 
-// A sum with one more word: Fibonacci hashing (Knuth, The Art of Computer Programming, volume 3, section 6.4).
+// Adds a word by Fibonacci hashing (Knuth, The Art of Computer Programming, volume 3, section 6.4).
 fn next_sum(sum: u64, word: u64) -> u64
     ensures { result ≡ next_sum sum word }
 {

@@ -11,7 +11,7 @@ use std::marker::Model;
 /// Rows of numbers in one vector, so that a row needs no allocation.
 #[derive(Debug)]
 pub struct Rows {
-    // where each row ends, which is where the next begins
+    // where each row ends
     ends: Vec<usize>,
     numbers: Vec<u32>,
 }
@@ -88,6 +88,7 @@ impl Rows {
     }
 
     /// Adds a row. Fails only if memory runs out, and then nothing changes.
+    #[inline(always)]
     pub fn push(&mut self, row: &[u32]) -> Result<(), Refusal>
         ensures ok { OnOk result (self.new ≡ self.old ++ row.now ∷ []) }
         ensures err { OnErr result (self.new ≡ self.old) }

@@ -52,17 +52,6 @@ fn check_plan(alloc: Global, ring: Ring, plan: Plan, cert: &Cert, ends: bool) ->
     }
 }
 
-fn check_read(alloc: Global, bytes: &[u8], ends: bool) -> Result<(), Refusal>
-    ensures read { Gives result (verdict bytes.now) }
-    ensures keeps { OnOk result (TextsKeepPromises bytes.now) }
-    ensures late { IfErr result (λ e. e ≡ OutOfMemory → NoFaultBefore 5 (whole_text (bundle_at Check) bytes.now)) }
-{
-    match read_bundle(alloc, Kind::Check, bytes) {
-        Ok(bundle) => check_plan(alloc, bundle.ring, bundle.plan, &bundle.cert, ends),
-        Err(e) => Err(e),
-    }
-}
-
 /// Checks a bundle: `Ok` exactly if the checker accepts the plan with its certificate, so that the plan keeps
 /// its promises.
 ///
@@ -74,7 +63,10 @@ pub fn check_bundle(alloc: Global, bytes: &[u8]) -> Result<(), Refusal>
     ensures keeps { OnOk result (TextsKeepPromises bytes.now) }
     ensures late { IfErr result (λ e. e ≡ OutOfMemory → NoFaultBefore 5 (whole_text (bundle_at Check) bytes.now)) }
 {
-    check_read(alloc, bytes, false)
+    match read_bundle(alloc, Kind::Check, bytes) {
+        Ok(bundle) => check_plan(alloc, bundle.ring, bundle.plan, &bundle.cert, false),
+        Err(e) => Err(e),
+    }
 }
 
 fn check_plan_by<RT: Threads + Wait + Sync>(
@@ -182,19 +174,30 @@ pub fn play_bundle(alloc: Global, bytes: &[u8]) -> Result<Vec<u8>, Refusal>
     }
 }
 
-fn read_given(alloc: Global, bytes: Vec<u8>) -> Result<Bundle, Refusal>
-    ensures read { Gives result (whole_text (bundle_at Play) bytes.items) }
+// Reads a bundle and drops its bytes, so that what follows uses their memory.
+fn read_given(alloc: Global, kind: Kind, bytes: Vec<u8>) -> Result<Bundle, Refusal>
+    ensures read { Gives result (whole_text (bundle_at kind) bytes.items) }
     ensures parts { IfOk result IsOfRing }
 {
-    read_bundle(alloc, Kind::Play, bytes.as_slice())
+    read_bundle(alloc, kind, bytes.as_slice())
 }
 
-// Plays a bundle whose bytes are dropped after reading, so that the store reuses their memory. The store's
-// memory is left to the system in the end.
+// Checks a bundle for a program that ends then.
+fn check_given(alloc: Global, bytes: Vec<u8>) -> Result<(), Refusal>
+    ensures read { Gives result (verdict bytes.items) }
+    ensures keeps { OnOk result (TextsKeepPromises bytes.items) }
+{
+    match read_given(alloc, Kind::Check, bytes) {
+        Ok(bundle) => check_plan(alloc, bundle.ring, bundle.plan, &bundle.cert, true),
+        Err(e) => Err(e),
+    }
+}
+
+// Plays a bundle for a program that ends then.
 fn play_given(alloc: Global, bytes: Vec<u8>) -> Result<Vec<u8>, Refusal>
     ensures { Gives (texts_of result) (plays bytes.items) }
 {
-    match read_given(alloc, bytes) {
+    match read_given(alloc, Kind::Play, bytes) {
         Ok(bundle) => play_checked(alloc, bundle, true),
         Err(e) => Err(e),
     }
@@ -259,7 +262,7 @@ pub fn answer_bytes(alloc: Global, job: Job, bytes: Vec<u8>) -> Result<Vec<u8>, 
         Job::Replay => replay_whole(alloc, bytes),
         Job::Play => play_given(alloc, bytes),
         Job::Check => {
-            check_read(alloc, bytes.as_slice(), true)?;
+            check_given(alloc, bytes)?;
             yes(alloc)
         }
         Job::Migrate | Job::Plan => make(alloc, job, bytes.as_slice()),

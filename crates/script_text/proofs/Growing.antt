@@ -5,7 +5,10 @@ use Rattle.std.proofs.lemmas.Bool.{and_from, cond_both}
 use Rattle.std.proofs.lemmas.List.Folds.{list_all-append}
 use Rattle.texts.proofs.Forms.{Item, Form, Section, Left, IsPart, ReadsTo, At, next_number, some_lines, Refusal, BadLine, ◌>>=◌, begins_with, first_line, next_line, then_part, IsLine, SomeLeft, IsPlainLine, ok_is}
 use Rattle.texts.proofs.Forms.{bind_ok, reads-less, next-after}
+use Rattle.texts.specs.Parts.{lines_of, line_text}
+use Rattle.texts.proofs.Cuts.{some_line}
 use Rattle.texts.proofs.Lates.{next-line, next-monotone}
+use Rattle.texts.proofs.Texts.{lines-cut}
 
 -- ---- fields
 
@@ -209,6 +212,18 @@ module _ {S X E : Type 0} (g : Growth S X E) (l : Lines S X E g) where
       give : (k : ℕ) (v : List E × S) (x : List (List ℕ)) (xs : List (List (List ℕ))) → Says old v → Ends x
           → (m : ℕ) × (g.from [] old k (map (l.fields v.1) v.0 ++ x ∷ xs) ≡ Ok (v, record { line = m; lines = x ∷ xs }))
       give k (es, s) x xs p end = rw (← p.values, ← p.state) (given p.items [] old k x xs p.each (rw p.values (let le = p.few in omega arith)) end)
+
+  -- reading a text that begins with the line of a value
+  pub line-taken : (seen : List E) (s : S) (k : ℕ) (x : X) (text rest : List ℕ) → length seen < l.most → l.allowed s x → text ≡ line_text (l.fields (g.after s x) (g.value s x)) ++ rest
+      → g.from (seen ++ g.value s x ∷ []) (g.after s x) (next_number k) (lines_of rest) ≡ g.from seen s k (lines_of text)
+  line-taken seen s k x text rest room p e =
+      let line = l.fields (g.after s x) (g.value s x) in
+      let cut : lines_of text ≡ line ∷ lines_of rest = ap lines_of e ∙ lines-cut line rest (l.plain s x p) in
+      let more = some_line rest in
+      let lines = more.0 ∷ more.1 in
+      let says = (l.line (line ∷ lines) seen s k).gives x (room, p) in
+      let on : g.from seen s k (line ∷ lines) ≡ g.from (seen ++ g.value s x ∷ []) (g.after s x) (next_number k) lines = g.more seen s k line lines ∙ rw (l.goes_on (g.after s x) (g.value s x) lines, says) refl in
+      ap (g.from (seen ++ g.value s x ∷ []) (g.after s x) (next_number k)) more.2 ∙ sym on ∙ ap (λ (ls : List (List (List ℕ))). g.from seen s k (line ∷ ls)) (sym more.2) ∙ ap (g.from seen s k) (sym cut)
 
   -- all of them, as a section
   abbrev pub growing : {W : Type 0} → S → Section W Ends (List E × S)

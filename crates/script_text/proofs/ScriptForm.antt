@@ -5,7 +5,7 @@ use Rattle.std.specs.List.{AllByRecursion, list_all}
 use Rattle.std.specs.Map.{lookup}
 use Rattle.std.proofs.lemmas.Bool.{eqb-false, ne_eqb, not-false, and_parts, and_from, ltb-true, lt-ltb}
 use Rattle.script_text.proofs.Terms.{place, NodeId, WriterId, get-place, place-below, RingValue, names_of, name_at, is_key, Event, is_value_text, value_of, writer_of, with_writer, event_of, names_after, SaidWriter, Known, New, SaidPut}
-use Rattle.script_text.proofs.Terms.{SaidEvent, Speaker, value_text, writer_at, seen_fields, event_fields, judge_value, may_say, heard_at, events_from, IsCount, IsBytes, AreGets, IsEvent, IsKnown}
+use Rattle.script_text.proofs.Terms.{SaidEvent, Speaker, value_text, writer_at, seen_fields, event_fields, judge_value, may_say, heard_at, events_from, IsCount, IsBytes, AreGets, IsEvent, IsSmall, IsKnown, HasNumbers}
 use Rattle.texts.proofs.Forms.{Form, LineForm, Always, Last, IsPlain, At, Case, case_of, Chosen, choose, choice_at, choice_if, NoneOr, of_item, field_of, both, mapped, anywhere, room, row, optional_at, optional, line, has_field, Refusal}
 use Rattle.texts.proofs.Forms.{BadLine, TooLarge, UnknownNode, is_name, ascending, are_small, map_item, begins_with, IsItem, IsLine, IsItem-number, IsItem-field, IsLine-as, ok_is, at-if}
 use Rattle.texts.proofs.Forms.{judges-number, decimal-plain, name-plain}
@@ -159,12 +159,6 @@ abbrev put_form : List (List ℕ) → Form (Unit {0}) Last SaidPut
 put_form names = mapped Last (λ x. record { writer = x.0.0.0; key = x.0.0.1; value = x.0.1; seen = x.1 }) (λ p. (((p.writer, p.key), p.value), p.seen)) (λ x. refl) (λ y. refl)
     (both Last (both Always (both Always (writer_form names) key_form) value_form) seen_form)
 
--- the event takes no memory of its own
-abbrev pub IsSmall : Event → Type 0
-IsSmall (event.StartPut w k v g) = ⊥
-IsSmall (event.StartGet k) = ⊥
-IsSmall e = Unit {0}
-
 -- the writer of a put can be numbered, and has a name; what is all that a line says takes no memory
 abbrev pub NamesWriter : List (List ℕ) → SaidEvent → Type 0
 NamesWriter names (said.Put p) = IsWriter names p.writer
@@ -186,6 +180,17 @@ pub record IsSaid (ring : RingValue) (names : List (List ℕ)) (x : SaidEvent) :
   pub known : IsKnown (length (names_of ring)) (length (names_after names x)) (event_of names x)
   pub node : NamesNode ring (event_of names x)
   pub writer : NamesWriter names x
+
+-- an event that has only numbers is said
+pub said-numbers : (ring : RingValue) (names : List (List ℕ)) (e : Event) → HasNumbers e → IsSaid ring names (said.Plain e)
+said-numbers ring names (event.StartPut w k v g) p = absurd p.1
+said-numbers ring names (event.StartGet k) p = absurd p.1
+said-numbers ring names (event.Hint u i x) p = (let lt = p.2 in absurd (omega arith))
+said-numbers ring names (event.Down x) p = (let lt = p.2 in absurd (omega arith))
+said-numbers ring names (event.Up x) p = (let lt = p.2 in absurd (omega arith))
+said-numbers ring names (event.Handoff x s) p = (let lt = p.2 in absurd (omega arith))
+said-numbers ring names (event.Lose x) p = (let lt = p.2 in absurd (omega arith))
+said-numbers ring names e p = record { event = p.0; known = tt; node = tt; writer = tt }
 
 -- its line
 abbrev pub said_fields : RingValue → List (List ℕ) → SaidEvent → List (List ℕ)

@@ -1,14 +1,14 @@
 -- New writers are numbered in order of first sight: what lines say is a script, and a script is what some lines say.
 use Rattle.std.proofs.Common.{◌≡◌, ℕ, zero, suc, ◌<◌, ◌≤◌, List, [], ◌∷◌, ◌++◌, length, Some, refl, sym, ap, subst, ◌∙◌, arith, append_assoc, append-nil, length-append, inl, inr, slice_get}
 use Rattle.std.proofs.lemmas.Bool.{cases_lt}
-use Rattle.script_text.proofs.Terms.{place, WriterId, RingValue, names_of, AreNames, Event, event_of, names_after, SaidWriter, Known, New, SaidPut, SaidEvent, Anyone, event_fields, IsKnown, AreWriters, IsEvent, IsScriptOf}
+use Rattle.script_text.proofs.Terms.{place, WriterId, RingValue, names_of, AreNames, Event, event_of, names_after, SaidWriter, Known, New, SaidPut, SaidEvent, Anyone, event_fields, IsKnown, AreWriters, IsEvent, IsSmall, IsScriptOf}
 use Rattle.ring_names.proofs.InLists.{get_front, get_last}
 use Rattle.texts.proofs.Forms.{plain-line}
 use Rattle.plan_runs.specs.declared.event.Event.TheVariants as event
 use Rattle.script_text.specs.declared.said.SaidEvent.TheVariants as said
 use Rattle.script_text.specs.Valid.{WritesAt}
 use Rattle.script_text.proofs.Growing.{Lines, EachIn, Says, values_of, state_after}
-use Rattle.script_text.proofs.ScriptForm.{placed-below, IsWriter, IsSmall, NamesWriter, NamesNode, IsSaid, said_fields, kind_form, begins, goes-on, said-law, script_growth}
+use Rattle.script_text.proofs.ScriptForm.{placed-below, IsWriter, NamesWriter, NamesNode, IsSaid, said_fields, kind_form, begins, goes-on, said-law, script_growth}
 use Rattle.script_text.proofs.WriterLaws.{named-at, writer-placed, node-placed, not-before, writer-more, after-writers, front-writers}
 
 -- ---- one event

@@ -14,4 +14,4 @@ pub use Rattle.script_text.specs.declared.speaker.Speaker.{Speaker}
 pub use Rattle.script_text.specs.declared.speaker.Speaker.TheVariants.{Anyone, Client}
 pub use Rattle.script_text.specs.Spelling.{value_text, writer_at, seen_fields, event_fields}
 pub use Rattle.script_text.specs.Reading.{events_from, heard_at, may_say, judge_value}
-pub use Rattle.script_text.specs.Valid.{IsCount, IsBytes, AreGets, AreWriters, IsEvent, IsKnown, IsScriptOf}
+pub use Rattle.script_text.specs.Valid.{IsCount, IsBytes, AreGets, AreWriters, IsEvent, IsSmall, IsKnown, HasNumbers, IsScriptOf}

@@ -55,6 +55,12 @@ IsEvent (event.Up x) = Unit {0}
 IsEvent (event.Handoff x s) = IsCount s.partition × IsCount s.index
 IsEvent (event.Lose x) = Unit {0}
 
+-- the event takes no memory of its own
+abbrev pub IsSmall : Event → Type 0
+IsSmall (event.StartPut w k v g) = ⊥
+IsSmall (event.StartGet k) = ⊥
+IsSmall e = Unit {0}
+
 -- the event's writer is one of so many writers, and its node one of so many nodes
 abbrev pub IsKnown : ℕ → ℕ → Event → Type 0
 IsKnown nodes writers (event.StartPut w k v g) = w.0 < writers
@@ -64,6 +70,10 @@ IsKnown nodes writers (event.Up x) = x.0 < nodes
 IsKnown nodes writers (event.Handoff x s) = x.0 < nodes
 IsKnown nodes writers (event.Lose x) = x.0 < nodes
 IsKnown nodes writers e = Unit {0}
+
+-- the event has only numbers within its limits: it names no key, writer or node
+abbrev pub HasNumbers : Event → Type 0
+HasNumbers e = IsEvent e × IsSmall e × IsKnown 0 0 e
 
 -- all events' writers are among the names, and their nodes are the ring's
 abbrev pub AreKnown : RingValue → List (List ℕ) → List Event → Type 0

@@ -4,6 +4,7 @@
 mod client;
 mod items;
 mod kind;
+mod plain;
 mod reading;
 mod said;
 mod script;
@@ -13,6 +14,7 @@ mod words;
 mod writing;
 
 pub use kind::said_event;
+pub use plain::{plain_event, plain_pair};
 pub use reading::{read_client_section, read_script, read_script_section};
 pub use said::SaidEvent;
 pub use script::Script;

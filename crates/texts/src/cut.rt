@@ -20,7 +20,7 @@ pub fn cut(bytes: &[u8], separator: u8) -> (&[u8], Option<&[u8]>)
     }
 }
 
-// Cuts at a separator that is near: a walk over the bytes, four at a time, which is faster than a search over few of them.
+// Cuts at a near separator: four bytes at a time, which is faster than a search there.
 #[inline(always)]
 pub fn cut_near(bytes: &[u8], separator: u8) -> (&[u8], Option<&[u8]>)
     ensures { MatchOption result.1
@@ -44,8 +44,8 @@ pub fn cut_near(bytes: &[u8], separator: u8) -> (&[u8], Option<&[u8]>)
     (bytes, None)
 }
 
-// Whether the bytes in front of the first space, or the first byte `end`, are this word. Byte by byte, which is a few instructions where the word is
-// known at the call.
+// Whether the bytes before the first space or `end` are this word. Byte by byte, since the word is known at the
+// call.
 #[inline(always)]
 pub fn stands_in_front(bytes: &[u8], word: &[u8], end: u8) -> bool
     ensures { result ≡ bytes_eq (until (λ b. (b == 32) || (b == end)) bytes.now) word.now }

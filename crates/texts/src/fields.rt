@@ -47,7 +47,8 @@ impl<'a> Fields<'a> {
         self.line
     }
 
-    /// Takes the next field, if there is one.
+    /// Takes the next field, and returns the number that it spells, at most `CAP`: decimal, of any length,
+    /// without sign and without leading zeros.
     #[inline(always)]
     pub fn next(&mut self) -> Option<&'a [u8]>
         ensures field { MatchOption result ((self.old.fields ≡ []) × (self.new.fields ≡ []))

@@ -55,8 +55,7 @@ pub fn finish<A: Drop>(item: Result<A, Refusal>, fields: Fields) -> Result<A, Re
     }
 }
 
-/// Two values that were read of a line behind a value that is not asked for, where no field is left behind them. Joins their faults, and then moves
-/// the values once.
+/// Joins the faults of three parts and of fields left over, and returns the last two values.
 #[tactic(auto, unfolding(crate::specs::Judging::both_of))]
 pub fn finish_both<Z: Drop, A: Drop, B: Drop>(
     before: Result<Z, Refusal>,

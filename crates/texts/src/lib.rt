@@ -1,5 +1,5 @@
-//! What all texts share: a text is lines, a line is fields, and a field is a word, a name or a number.
-//! Every reader of the workspace reads by these functions.
+//! What all texts share: lines of fields, which are words, names and numbers. Every reader reads by these
+//! functions.
 #![tactic(auto)]
 
 mod compare;

@@ -19,8 +19,7 @@ fn behind(line: u32) -> u32
     if line < u32::MAX { line + 1 } else { line }
 }
 
-/// The lines of a text that were not taken yet, and the number of the next one, from 1. Lines from 2^32 - 1 on all have
-/// that number.
+/// The lines not taken yet, and the next one's number, from 1. Lines from 2^32 - 1 on all have that number.
 #[derive(Drop)]
 pub struct Lines<'a> {
     line: u32,

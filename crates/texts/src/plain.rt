@@ -1,5 +1,5 @@
-//! Taking plainly spelled parts from the front of a text, without cutting it into lines and fields first.
-//! A reader that gets `None` here reads the line by its fields, which names the fault if there is one.
+//! Takes plainly spelled parts from the front of a text, without cutting it into lines and fields.
+//! A reader that gets `None` reads the line by its fields, which names a fault.
 
 ghost use Rattle.std.specs.Prelude.{◌≡◌, ◌++◌, map, IfSome};
 ghost use Rattle.std.specs.Fmt.{decimal};
