@@ -13,7 +13,7 @@ use Rattle.plan_cert.specs.declared.cert.Cert.{Cert}
 use Rattle.plan_cert.specs.Reading.{cert_at}
 use Rattle.plan_cert.specs.Spelling.{cert_text}
 use Rattle.plan_cert.specs.Valid as cert
-use Rattle.history_text.specs.Replays.{Parts, replay_at, parts_of, IsReplay}
+use Rattle.history_text.specs.Replays.{Parts, replay_at, parts_of}
 use Rattle.plan_around.specs.declared.chosen.Chosen.{Chosen}
 use Rattle.plan_around.specs.declared.chosen.Halted.{Halted}
 
