@@ -1,6 +1,5 @@
 pub mod Terms
 pub mod Pushed
-pub mod SlotLists
 pub mod Indexed
 pub mod Searched
 pub mod Below

@@ -1,22 +1,15 @@
 -- Plainly spelled parts at the front of a text.
-use Rattle.std.proofs.Common.{◌≡◌, ℕ, ◌-◌, ◌≤◌, true, List, [], ◌∷◌, ◌++◌, length, map, take, drop, refl, sym, ap, ◌∙◌, arith, append_assoc}
+use Rattle.std.proofs.Common.{◌≡◌, ℕ, ◌-◌, ◌≤◌, true, List, ◌++◌, length, take, drop, refl, sym, ap, ◌∙◌, arith}
 use Rattle.std.specs.Str.{all_ascii_digits}
 use Rattle.std.specs.Fmt.{decimal}
-use Rattle.std.proofs.lemmas.List.{take-append-drop, take_rest, length-take, map_push}
-use Rattle.texts.specs.Parts.{spaced}
+use Rattle.std.proofs.lemmas.List.{take-append-drop, take_rest, length-take}
 use Rattle.texts.specs.Number.{value_from, is_number}
 use Rattle.texts.proofs.Decimals.{decimal-value}
-use Rattle.texts.proofs.Firsts.{take_whole}
 use Rattle.texts.proofs.Shorts.{short-value}
-use Rattle.texts.proofs.Spaced.{spaced-append}
 
 -- a text is what is before a place and what is after it
 pub two-sides : (bs : List ℕ) (i : ℕ) → bs ≡ take i bs ++ take (length bs - i) (drop i bs)
 two-sides bs i = sym (rw (take_rest bs i) (take-append-drop i bs))
-
--- a word that is at the front
-pub word-front : (text word : List ℕ) → take (length word) text ≡ take (length word) word → text ≡ word ++ take (length text - length word) (drop (length word) text)
-word-front text word e = two-sides text (length word) ∙ ap (λ (w : List ℕ). w ++ take (length text - length word) (drop (length word) text)) (e ∙ take_whole word)
 
 -- up to 9 digits have a value below a billion
 pub front-small : (text : List ℕ) (i v : ℕ) → i ≤ 9 → all_ascii_digits (take i text) ≡ true → v ≡ value_from 0 (take i text) → v ≤ 999999999
@@ -29,9 +22,3 @@ number-front text i v few digits e number =
     let small = front-small text i v few digits e in
     let spelled : take i text ≡ decimal v = decimal-value (take i text) v (rw (number, e) refl) (omega arith) in
     two-sides text i ∙ ap (λ (w : List ℕ). w ++ take (length text - i) (drop i text)) spelled
-
--- one number more, after a space
-pub number-more : (text r d rest : List ℕ) (xs : List ℕ) (n : ℕ) → text ≡ spaced (map decimal xs) ++ r → r ≡ 32 ∷ d → d ≡ decimal n ++ rest
-    → text ≡ spaced (map decimal (xs ++ n ∷ [])) ++ rest
-number-more text r d rest xs n e f g =
-    e ∙ rw (f, g, map_push decimal xs n, spaced-append (map decimal xs) (decimal n ∷ [])) (simp append_assoc)
