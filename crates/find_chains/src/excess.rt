@@ -17,7 +17,7 @@ pub struct Excess {
     pub most: u32,
 }
 
-/// Returns the node's first side that exceeds its allowance under every certificate, if 100,000,000 looks show one.
+/// Returns the node's first side that exceeds its allowance under every certificate. None if 100,000,000 looks find none.
 pub fn overload(
     alloc: Global,
     ring: &Ring,

@@ -187,10 +187,9 @@ fn search(task: &Task, listed: Listed, most: u32) -> Result<Option<Rows>, Refusa
     Ok(found)
 }
 
-/// Returns the slots that each copy with a barred owner lists, for the fewest rounds. None if a partition lacks
-/// them.
+/// Returns slots for each copy whose owner is barred: R of its partition with live owners, staying ones first.
 ///
-/// They are R of its partition with live owners, staying ones first.
+/// They give the fewest rounds. None if a partition has too few.
 pub fn around(task: &Task) -> Result<Option<Rows>, Refusal> {
     // Enough rounds for all copies one after the other.
     let most = small(task.moves.len()).saturating_mul(8).saturating_add(1);

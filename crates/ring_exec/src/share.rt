@@ -34,7 +34,7 @@ impl<L: Ledger> Share<L> {
     }
 }
 
-/// Returns how many events the shares count together: as many as the book has if they have all parts of the ledger.
+/// Returns how many events the shares count together. If they have all parts of the ledger, that is the book's total.
 pub(crate) fn count_of<L: Ledger>(book: &mut Book<L>, mut shares: Vec<Share<L>>) -> u64
     requires { book.old.total ≤ 1000000 }
     ensures count { result ≡ sum_by (λ s. s.count) shares.items }

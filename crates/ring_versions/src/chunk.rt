@@ -88,7 +88,7 @@ impl Chunk {
         &self.shared
     }
 
-    /// Whether group or part show that no version's clock is at most this one.
+    /// Returns true only if no version's clock is at most this one.
     pub fn is_beyond(&self, top: &Clock) -> bool
         ensures { IsTrue result → (v : TheVersion) → IsIn v self.now → IsAtMost v.clock top.now → ⊥ }
     {

@@ -23,7 +23,7 @@ use std::alloc::Global;
 /// How much a summary shows.
 #[derive(Clone, Copy, Debug, PartialEq, Eq)]
 pub enum Shape {
-    /// At most 24 nodes, 12 rounds and 6 entries of a round; the rest is summed.
+    /// At most 24 nodes, 12 rounds and 6 entries a round, and sums of the rest.
     Short,
     /// Everything.
     Whole,

@@ -6,7 +6,7 @@ use std::alloc::Global;
 use std::rt::Runtime;
 use std::{fs, io, str};
 
-/// The words of the command line that the word stands for, if it is not a bundle's name.
+/// Returns the command line that the word stands for. None if it names a bundle.
 pub fn words_of(word: &str) -> Option<&'static [&'static str]> {
     let words: &'static [&'static str] = match word {
         "why" => &["ringplan", "why"],
