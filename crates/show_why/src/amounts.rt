@@ -1,21 +1,21 @@
-//! Numbers as people write them: with a fraction, a unit, or digits in groups.
+//! Numbers as people write them.
 
 use crate::said::count_digits;
 use helpers::Words;
 
-/// How a number is written, if not as the texts want it.
+/// How a number is written.
 #[derive(Clone, Copy, Debug, PartialEq, Eq)]
 pub enum Manner {
-    /// With a unit. The number in bytes.
+    /// With a unit. The value in bytes.
     Unit(u64),
-    /// With a point or comma and further digits.
+    /// With a point or comma.
     Fraction,
-    /// With digits in groups of three.
+    /// In groups of three digits.
     Groups,
     Other,
 }
 
-/// Returns how the word writes a number.
+/// Returns how a word writes a number.
 pub fn manner_of(word: &[u8]) -> Manner {
     let (front, unit) = cut_unit(word);
     let Some(thousandths) = thousandths_of(front) else {
@@ -37,7 +37,6 @@ fn is_parting(byte: u8) -> bool {
     byte == b'.' || byte == b',' || byte == b'_'
 }
 
-// Splits a word into its number, with separators, and its unit.
 fn cut_unit(word: &[u8]) -> (&[u8], &[u8]) {
     let end = word
         .iter()
@@ -48,7 +47,7 @@ fn cut_unit(word: &[u8]) -> (&[u8], &[u8]) {
     }
 }
 
-/// Returns the value of 1 to 15 digits. None for anything else.
+/// Returns the value of 1 to 15 digits, or None.
 pub fn value_of(digits: &[u8]) -> Option<u64> {
     if digits.is_empty() || digits.len() > 15 {
         return None;
@@ -65,7 +64,7 @@ pub fn value_of(digits: &[u8]) -> Option<u64> {
     Some(value)
 }
 
-// The number in thousandths, rounded down, if it has at most one point or comma.
+// Rounded down. None with two points or commas.
 fn thousandths_of(front: &[u8]) -> Option<u64> {
     let place = front.iter().position(|byte| is_parting(*byte));
     let (whole, rest) = match place {
@@ -84,7 +83,7 @@ fn thousandths_of(front: &[u8]) -> Option<u64> {
     whole.checked_add(value_of(digits)?.saturating_mul(scale))
 }
 
-// Whether the digits form groups of three. The first group has one to three digits and is not zero.
+// The first group has one to three digits and is not zero.
 fn are_groups(front: &[u8]) -> bool {
     let mut groups = front.split(|byte| is_parting(*byte));
     let first = groups.next().unwrap_or(b"".as_slice());
@@ -101,7 +100,7 @@ fn are_groups(front: &[u8]) -> bool {
 
 const LETTERS: [u8; 5] = [b'k', b'm', b'g', b't', b'p'];
 
-/// Returns how many bytes a unit has: 1,024 for `KiB` and `K`, 1,000 for `kb`, 1 for no unit.
+/// Returns the bytes of a unit: 1,024 for `KiB` and `K`, 1,000 for `kb`, 1 for none.
 pub fn factor_of(unit: &[u8]) -> Option<u64> {
     let (first, rest) = match unit.split_first() {
         None => return Some(1),
@@ -125,7 +124,7 @@ pub fn factor_of(unit: &[u8]) -> Option<u64> {
     None
 }
 
-/// Adds the number, which is below 4,294,967,295 times 1,000,000,000.
+/// Adds a number below 4,294,967,295 times 1,000,000,000.
 pub fn push_long(out: &mut Words, number: u64) {
     let high = u32::try_from(number / 1_000_000_000).unwrap_or(u32::MAX);
     let low = u32::try_from(number % 1_000_000_000).unwrap_or(0);
@@ -136,7 +135,7 @@ pub fn push_long(out: &mut Words, number: u64) {
     out.number(low);
 }
 
-/// Adds the digits of the word.
+/// Adds only the digits.
 pub fn push_digits(out: &mut Words, word: &[u8]) {
     for byte in word {
         if byte.is_ascii_digit() {

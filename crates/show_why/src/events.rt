@@ -14,7 +14,7 @@ fn event_at(text: &[u8]) -> Option<usize> {
         .position(|field| EVENTS.contains(&field))
 }
 
-/// Reports a word before the event of a history line, such as a time. Returns whether there was one.
+/// Reports a word before the event, such as a time.
 pub fn tell_event(line: Line, said: &mut Said) -> bool {
     let first = line.page.text(line.start);
     let is_history = line.part == Part::Behind && first == b"history 1".as_slice();

@@ -11,7 +11,7 @@ fn last_field(text: &[u8]) -> &[u8] {
     field(text, count_fields(text).saturating_sub(1))
 }
 
-/// Reports a node that is named twice, or joins as a member, and shows the first line that names it.
+/// Reports a node that is named twice, or joins as a member.
 pub fn repeated(said: &mut Said, page: Page, number: u32) {
     let line = line_of(page, number);
     let name = field(line.text, 1);
@@ -63,7 +63,7 @@ fn tell_first(said: &mut Said, first: Option<u32>) {
     }
 }
 
-// The first line of the part that repeats this one, or in a change names the node.
+// The first line with this step. In a change, the first line that names the node.
 fn earlier(page: Page, line: u32, start: u32) -> Option<u32> {
     let text = page.text(line);
     let (word, node) = (field(text, 0), field(text, 1));
@@ -92,7 +92,7 @@ fn owner_again(text: &[u8]) -> Option<usize> {
     None
 }
 
-/// Reports a node that owns two slots of a partition.
+/// Reports a node with two slots of a partition.
 pub fn shared_node(said: &mut Said, page: Page, line: u32) {
     let text = page.text(line);
     let Some(place) = owner_again(text) else {
@@ -110,7 +110,7 @@ pub fn shared_node(said: &mut Said, page: Page, line: u32) {
     )
 }
 
-// The first field that names a node declared `out`, and the line that declares it.
+// A field with a node declared `out`, and the node's line.
 fn outsider(page: Page, text: &[u8]) -> Option<(usize, u32)> {
     let fields = text.split(|byte| *byte == b' ').enumerate();
     for (place, name) in fields.skip(first_node(text)) {
@@ -123,7 +123,7 @@ fn outsider(page: Page, text: &[u8]) -> Option<(usize, u32)> {
     None
 }
 
-/// Reports a node that owns a slot or leaves, and is not a member.
+/// Reports an owner or leaver that is not a member.
 pub fn not_member(said: &mut Said, page: Page, line: u32) {
     let text = page.text(line);
     let Some((place, node)) = outsider(page, text) else {
@@ -143,7 +143,6 @@ pub fn not_member(said: &mut Said, page: Page, line: u32) {
     )
 }
 
-// The first field after `after` that names this step or a later one.
 fn later(text: &[u8], step: u32) -> Option<usize> {
     let first = place_of(text, b"after").unwrap_or(0).saturating_add(1);
     let fields = text.split(|byte| *byte == b' ').enumerate();

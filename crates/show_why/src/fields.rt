@@ -1,4 +1,4 @@
-//! Lines with a known word and wrong fields.
+//! Faults in a line's fields.
 
 use crate::forms::Part;
 use crate::line::{Line, move_up};
@@ -34,7 +34,7 @@ pub fn tell_fields(alloc: Global, line: Line, said: &mut Said, form: &[u8]) -> R
     Ok(())
 }
 
-/// Reports a fault in a field. Mends a number with leading zeros.
+/// Reports a faulty field. Mends leading zeros.
 pub fn tell_fault(line: Line, said: &mut Said, place: usize, fault: &[u8]) {
     line.part(said, place, fault);
     let word = field(line.text, place);
@@ -54,7 +54,7 @@ fn tell_of_part(line: Line, said: &mut Said) -> bool {
     }
 }
 
-// Mends the field by the nearest of the words, if one is near and differs.
+// Mends the field by the nearest word.
 fn guess(
     alloc: Global,
     line: Line,
@@ -127,7 +127,6 @@ fn field_fault(word: &[u8], wanted: &[u8]) -> Option<&'static [u8]> {
     None
 }
 
-// The first field that departs from the form, and its fault.
 fn wrong_field(text: &[u8], form: &[u8]) -> Option<(usize, &'static [u8])> {
     let is_row = field(form, 0) == b"slots".as_slice();
     let mut last: &[u8] = b"";
@@ -165,7 +164,6 @@ fn tell_count(alloc: Global, line: Line, said: &mut Said, form: &[u8]) -> Result
     Ok(())
 }
 
-// What is wrong with the steps after `after`, which is at this place.
 fn after_fault(text: &[u8], after: usize) -> Option<(usize, &'static [u8])> {
     let mut last: Option<u32> = None;
     let steps = text.split(|byte| *byte == b' ').enumerate();
@@ -198,7 +196,6 @@ fn tell_after(line: Line, said: &mut Said) -> bool {
     true
 }
 
-// Reports a number of partitions that a ring cannot have.
 fn tell_space(line: Line, said: &mut Said) -> bool {
     let is_number = number(field(line.text, 1)).is_some() && count_fields(line.text) == 2;
     if line.word() != b"space".as_slice() || !is_number {
@@ -210,7 +207,6 @@ fn tell_space(line: Line, said: &mut Said) -> bool {
     true
 }
 
-// Reports a fourth quorum number in a ring of format 1 or 2.
 fn tell_loss(line: Line, said: &mut Said) -> bool {
     let is_format_3 = line.page.line(1) == Some(b"ring 3".as_slice());
     if line.word() != b"quorum".as_slice() || count_fields(line.text) != 5 || is_format_3 {
@@ -225,7 +221,7 @@ fn tell_loss(line: Line, said: &mut Said) -> bool {
     true
 }
 
-// Reports a line `slots` that is not for the next partition, and moves that one up.
+// Moves up the next partition's line.
 fn tell_other_row(line: Line, said: &mut Said, next: u32) {
     let at = line.page.at(line.number, 1, 1);
     said.fault_at_with(at, b"the next one is partition #", &[], &[next]);
@@ -234,7 +230,7 @@ fn tell_other_row(line: Line, said: &mut Said, next: u32) {
     }
 }
 
-// Reports a line `slots` for the wrong partition, or without one owner a slot.
+// Reports a wrong partition, or a wrong number of owners.
 fn tell_row(line: Line, said: &mut Said) -> bool {
     if line.word() != b"slots".as_slice() {
         return false;
@@ -267,8 +263,7 @@ fn tell_row(line: Line, said: &mut Said) -> bool {
     true
 }
 
-// Reports a second line `slots` of a partition. The line goes if the next partition has one below; otherwise it becomes
-// that partition's line.
+// Removes the line if the next partition's line follows. Otherwise makes it the next partition's line.
 fn tell_row_again(line: Line, said: &mut Said, partition: u32, next: u32) {
     let first = line.number.saturating_sub(next.saturating_sub(partition));
     said.beside_with(first, b"partition #", &[], &[partition]);
@@ -283,7 +278,7 @@ fn tell_row_again(line: Line, said: &mut Said, partition: u32, next: u32) {
     said.add_with(b"@#@\n", &[front, rest], &[next])
 }
 
-// How many owners each line `slots` has, if all have the same number.
+// None if the lines differ.
 fn owners_of_all(line: Line) -> Option<usize> {
     let count = count_fields(line.text).saturating_sub(2);
     let rest = line.page.after(line.number.saturating_sub(1));
@@ -298,7 +293,7 @@ fn owners_of_all(line: Line) -> Option<usize> {
     Some(count)
 }
 
-// Reports a line `quorum` whose slots differ from the owners in every line `slots`.
+// For rows that all have another number of owners than the line `quorum`.
 fn tell_rows(line: Line, said: &mut Said, wanted: u32) -> bool {
     let count = match owners_of_all(line) {
         Some(count) if 1 <= count && count <= 7 => helpers::small(count),
@@ -320,7 +315,7 @@ fn tell_rows(line: Line, said: &mut Said, wanted: u32) -> bool {
     true
 }
 
-/// Notes how to keep a name that a node cannot have.
+/// Notes that an alias can keep the name.
 pub fn tell_alias(said: &mut Said, word: &[u8]) {
     said.note(b"A name has 1 to 32 of a-z 0-9 _ . : - and stands so wherever the node is named.");
     said.note_with(
@@ -345,7 +340,6 @@ fn row_after(line: Line, partition: u32) -> Option<u32> {
     None
 }
 
-// Reports a wrong allowance of a node, or a fault after it.
 fn tell_node(alloc: Global, line: Line, said: &mut Said) -> Result<bool, Refusal> {
     if line.part != Part::Ring || line.word() != b"node".as_slice() {
         return Ok(false);
@@ -372,7 +366,6 @@ fn tell_node(alloc: Global, line: Line, said: &mut Said) -> Result<bool, Refusal
     tell_membership(alloc, line, said, last)
 }
 
-// Reports a second allowance in a ring of format 1.
 fn tell_second(line: Line, said: &mut Said) {
     line.part(
         said,
@@ -382,7 +375,7 @@ fn tell_second(line: Line, said: &mut Said) {
     said.note(b"Write `ring 2` in line 1 and `cert 2` in the certificate, or take the number out.")
 }
 
-// What is wrong with an allowance that is not above its limit.
+// Limits are checked elsewhere.
 fn allowance_fault(word: &[u8]) -> Option<&'static [u8]> {
     if word == b"0".as_slice() {
         return Some(b"an allowance is 1 to 64");
@@ -390,7 +383,6 @@ fn allowance_fault(word: &[u8]) -> Option<&'static [u8]> {
     number_fault(word)
 }
 
-// Reports a field that is neither `in` nor `out`.
 fn tell_membership(
     alloc: Global,
     line: Line,
@@ -410,7 +402,7 @@ fn tell_membership(
     Ok(true)
 }
 
-// Reports a chain that is split when its node is not, or the reverse.
+// Reports a chain that is split if its node is not, or the reverse.
 fn tell_side(line: Line, said: &mut Said) -> bool {
     let Some(node) = declared(line.page, field(line.text, 1)) else {
         return false;

@@ -1,9 +1,9 @@
-//! Inputs of other kinds, known by their first bytes.
+//! Inputs of other kinds, by their first bytes.
 
 use crate::page::{Page, field, number};
 use crate::said::Said;
 
-// Packed files: first bytes, kind, and a command that unpacks them.
+// First bytes, kind, and the command that unpacks.
 const PACKED: [(&[u8], &[u8], &[u8]); 5] = [
     (
         b"\x1f\x8b",
@@ -24,15 +24,14 @@ const PACKED: [(&[u8], &[u8], &[u8]); 5] = [
     (b"PK\x03\x04", b"a zip archive", b"unzip -p FILE > MENDED"),
 ];
 
-// How many bytes are looked at.
 const FRONT: usize = 512;
 
-/// Reports an input of another kind or of a later format. Returns whether it is one.
+/// Reports another kind of input, or a later format.
 pub fn tell_foreign(page: Page, said: &mut Said) -> bool {
     tell_coded(page, said, b"the input") || tell_binary(page, said) || tell_format(page, said)
 }
 
-/// Reports packed bytes, or text with two bytes a letter, under the given name. Returns whether it is so.
+/// Reports packed bytes or UTF-16. `called` names the input.
 pub fn tell_coded(page: Page, said: &mut Said, called: &[u8]) -> bool {
     tell_packed(page, said, called) || tell_wide(page, said, called)
 }
@@ -82,7 +81,7 @@ fn is_of_text(byte: u8) -> bool {
     matches!(byte, b' '..=b'~' | b'\n' | b'\r' | b'\t')
 }
 
-/// Whether more than an eighth of the first bytes cannot be in a text.
+/// Whether over an eighth of the first bytes cannot be text.
 pub fn is_binary(page: Page) -> bool {
     let front = &page.bytes[..page.bytes.len().min(FRONT)];
     let mut others = 0usize;

@@ -1,4 +1,4 @@
-//! The lines that each part of a bundle may have.
+//! The lines of each part.
 
 use crate::page::{Page, field};
 
@@ -9,13 +9,13 @@ pub enum Part {
     Change,
     Plan,
     Cert,
-    /// What comes after a certificate or a change.
+    /// What follows a certificate or a change.
     Behind,
-    /// A whole layout, which is not part of a bundle.
+    /// Not part of a bundle.
     Layout,
 }
 
-/// Returns the part of the line, and the part's first line.
+/// Returns the line's part, and the part's first line.
 pub fn part_of(page: Page, line: u32) -> (Part, u32) {
     let section = page.section(line);
     let second = field(page.behind_ring().unwrap_or(b"".as_slice()), 0);
@@ -30,7 +30,7 @@ pub fn part_of(page: Page, line: u32) -> (Part, u32) {
     (part, section.start)
 }
 
-/// Returns the name of a part.
+/// Returns the part's name.
 pub fn called(part: Part) -> &'static [u8] {
     match part {
         Part::Ring => b"ring",
@@ -42,7 +42,7 @@ pub fn called(part: Part) -> &'static [u8] {
     }
 }
 
-/// Returns the forms of a part's lines after its first.
+/// Returns the forms of all lines but the first.
 pub fn forms(part: Part) -> &'static [&'static [u8]] {
     match part {
         Part::Ring => &[
@@ -92,7 +92,7 @@ pub fn form_of(part: Part, word: &[u8]) -> Option<&'static [u8]> {
     None
 }
 
-/// Returns the first line of a part.
+/// Returns how a part begins.
 pub fn first_line(page: Page, part: Part) -> &'static [u8] {
     match part {
         Part::Ring => b"ring 1",

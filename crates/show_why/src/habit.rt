@@ -1,19 +1,16 @@
-//! Ways of writing that no text may have, and that many lines of a file mostly share.
+//! Bad habits of writing, mostly shared by many lines.
 
 use crate::page::{Page, cut_line};
 use helpers::Words;
 
-/// A way of writing for which a line is refused.
+/// A habit that is refused.
 #[derive(Clone, Copy, Debug, PartialEq, Eq)]
 pub enum Habit {
     /// The line ends of Windows.
     CarriageReturn,
-    /// A line of blanks only.
     Empty,
     Comment,
-    /// Blanks before the first field.
     Indent,
-    /// Blanks after the last field.
     Tail,
     Capitals,
 }
@@ -50,7 +47,7 @@ impl Habit {
         }
     }
 
-    /// Describes the habit in a line.
+    /// Describes the habit.
     pub fn words(self) -> &'static [u8] {
         match self {
             Habit::CarriageReturn => b"it has a carriage return, as texts of Windows do",
@@ -74,7 +71,7 @@ impl Habit {
         }
     }
 
-    /// Returns how many lines of the page have the habit, and how many lines there are.
+    /// Counts the lines with the habit, and all lines.
     pub fn count(self, page: Page) -> (u32, u32) {
         let (mut count, mut lines) = (0u32, 0u32);
         let mut rest = page.bytes;
@@ -92,7 +89,7 @@ impl Habit {
         (count, lines)
     }
 
-    /// Adds the whole page without the habit, as the command writes it.
+    /// Adds the page without the habit, as the command does.
     pub fn push_without(self, out: &mut Words, page: Page) {
         let mut rest = page.bytes;
         for turn in 0..page.bytes.len() {

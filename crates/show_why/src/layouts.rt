@@ -1,4 +1,4 @@
-//! Faults in the lines of a layout.
+//! Faults in a layout's lines.
 
 use crate::amounts::{Manner, manner_of, push_digits, push_long, value_of};
 use crate::fields::{name_fault, number_fault, tell_fault};
@@ -16,12 +16,11 @@ use std::alloc::Global;
 use std::str;
 use texts::are_name_bytes;
 
-// The greatest size, and the most bytes of an alias.
 const MOST: u64 = 281_474_976_710_655;
 
 const LONGEST: usize = 255;
 
-/// Reports why a layout is refused. The title continues after the file and the line's number.
+/// Reports why a layout is refused. The title follows the file and the line's number.
 pub fn tell_layout(
     alloc: Global,
     said: &mut Said,
@@ -143,7 +142,6 @@ fn tell_head(line: Line, said: &mut Said) -> bool {
     true
 }
 
-// Whether the word begins another text of this program.
 fn is_head(word: &[u8]) -> bool {
     matches!(
         word,
@@ -188,7 +186,6 @@ fn tell_others(alloc: Global, line: Line, said: &mut Said, place: usize) {
     }
 }
 
-// Reports a fault in a field, by what the form wants there.
 fn tell_field(alloc: Global, line: Line, said: &mut Said, place: usize, wanted: &[u8]) -> bool {
     match wanted {
         b"<node>" | b"<name>" => tell_name(line, said, place),
@@ -284,7 +281,6 @@ fn tell_number(alloc: Global, line: Line, said: &mut Said, place: usize, title: 
     true
 }
 
-// Writes a size with a unit as bytes.
 fn tell_bytes(alloc: Global, said: &mut Said, bytes: u64) -> Option<Words> {
     if bytes > MOST {
         return None;
@@ -332,7 +328,7 @@ fn repeated(said: &mut Said, line: Line) {
     line.take_out(said)
 }
 
-// The first line before this one with the same first two fields.
+// An earlier line with the same first two fields.
 fn earlier(line: Line) -> Option<u32> {
     let (word, about) = (line.word(), field(line.text, 1));
     let mut number = 1u32;

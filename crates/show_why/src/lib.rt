@@ -1,6 +1,5 @@
-//! Explains why a bundle is refused: the faulty lines, what they conflict with, and lines or a command that mend them.
-//! Nothing is proved of the words; the checker says whether a mend works. A function `tell_..` that returns a `bool`
-//! reports a fault if there is one, and returns whether there was.
+//! Explains why a bundle is refused, and how to mend it. Nothing is proved of the words; the checker says whether a
+//! mend works. A `tell_..` function that returns a `bool` says whether it reported a fault.
 #![tactic(auto)]
 
 mod amounts;

@@ -1,4 +1,4 @@
-//! Numbers and counts beyond their limits.
+//! Numbers and counts above their limits.
 
 use crate::forms::Part;
 use crate::line::{Line, line_of};
@@ -6,7 +6,7 @@ use crate::order::mend_space;
 use crate::page::{Page, count_fields, field, number, place_of};
 use crate::said::Said;
 
-// A field beyond a limit, and the limit in words, in which `#` is the number.
+// A field beyond a limit, and the limit in words. `#` is the number.
 #[derive(Clone, Copy)]
 struct Excess {
     place: usize,
@@ -63,7 +63,6 @@ fn above(line: Line, place: usize, limit: u32, words: &'static [u8]) -> Option<E
     None
 }
 
-// The first field from the place on that is too large for any number.
 fn large_number(line: Line, first: usize) -> Option<Excess> {
     for (place, word) in line.text.split(|byte| *byte == b' ').enumerate() {
         if place >= first && number(word).is_none() && is_above(word, 0) {
@@ -95,7 +94,6 @@ fn in_ring(line: Line) -> Option<Excess> {
     above(line, 2, 64, words).or(above(line, 3, 64, words))
 }
 
-// An excess in a step: its partition, slot, listed slots, or steps after `after`.
 fn in_plan(line: Line) -> Option<Excess> {
     let word = line.word();
     if word == b"join".as_slice() || word == b"retire".as_slice() {
@@ -116,7 +114,7 @@ fn in_plan(line: Line) -> Option<Excess> {
     .or(large_number(line, 3))
 }
 
-// A listed slot that the ring does not have, or the eighth listed slot.
+// A slot that the ring does not have, or the eighth slot.
 fn listed(line: Line, last: u32, words: &'static [u8]) -> Option<Excess> {
     if field(line.text, 3) != b"slots".as_slice() {
         return None;
@@ -156,7 +154,7 @@ fn in_cert(line: Line) -> Option<Excess> {
     large_number(line, first)
 }
 
-// Which count is exceeded, if no number of the line is.
+// The exceeded count, if no number is too large.
 fn crowd(line: Line) -> &'static [u8] {
     let before = line.number.saturating_sub(line.start).saturating_sub(1);
     match line.part {

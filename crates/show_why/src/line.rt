@@ -1,21 +1,21 @@
-//! A faulty line and its part.
+//! A line and its part.
 
 use crate::forms::{Part, part_of};
 use crate::page::{Page, field};
 use crate::said::Said;
 
-/// A line of a page, and its part.
+/// A line and its part.
 #[derive(Clone, Copy)]
 pub struct Line<'a> {
     pub page: Page<'a>,
     pub number: u32,
     pub text: &'a [u8],
     pub part: Part,
-    /// The first line of the part.
+    /// The part's first line.
     pub start: u32,
 }
 
-/// Returns the line with the number.
+/// Returns the numbered line.
 pub fn line_of(page: Page, number: u32) -> Line {
     let (part, start) = part_of(page, number);
     Line {
@@ -28,12 +28,12 @@ pub fn line_of(page: Page, number: u32) -> Line {
 }
 
 impl<'a> Line<'a> {
-    /// The first field.
+    /// Returns the first field.
     pub fn word(&self) -> &'a [u8] {
         field(self.text, 0)
     }
 
-    /// Finds the part's first line that begins with the word, from a line on and up to `end`.
+    /// Finds the part's next line, from `from` on, with this first word.
     pub fn find(&self, word: &[u8], from: u32) -> Option<u32> {
         let mut number = from;
         let rest = self.page.after(from.saturating_sub(1));
@@ -49,7 +49,7 @@ impl<'a> Line<'a> {
         None
     }
 
-    /// Counts the part's lines up to `last` that begin with the word.
+    /// Counts the part's lines up to `last` with this first word.
     pub fn count(&self, word: &[u8], last: u32) -> u32 {
         let (mut number, mut count) = (self.start, 0u32);
         let rest = self.page.after(self.start.saturating_sub(1));
@@ -65,7 +65,7 @@ impl<'a> Line<'a> {
         count
     }
 
-    /// Whether an earlier line of the part begins with the word.
+    /// Whether an earlier line of the part has this first word.
     pub fn is_after(&self, word: &[u8]) -> bool {
         match self.find(word, self.start) {
             Some(first) => first < self.number,
@@ -83,14 +83,14 @@ impl<'a> Line<'a> {
         said.fault_at(self.page.at(self.number, place, place), words)
     }
 
-    /// Mends the line by another word for a field.
+    /// Mends a field by another word.
     pub fn replace(&self, said: &mut Said, place: usize, word: &[u8]) {
         let (front, rest) = self.page.around(self.number, place);
         said.put(self.number);
         said.add_with(b"@@@\n", &[front, word, rest], &[]);
     }
 
-    /// Mends the text by a new line before this one.
+    /// Mends the text by a new line before this line.
     pub fn insert(&self, said: &mut Said, new: &[u8]) {
         said.put(self.number);
         said.add_with(b"@\n@\n", &[new, self.text], &[]);
@@ -103,7 +103,7 @@ impl<'a> Line<'a> {
     }
 }
 
-/// Mends the text by moving the line up, before the other one.
+/// Mends the text by moving a line up.
 pub fn move_up(page: Page, said: &mut Said, line: u32, before: u32) {
     said.mend_with(
         b"move line # before line #; line # goes",

@@ -13,7 +13,7 @@ use crate::spacing::tell_spacing;
 use ring_names::Refusal;
 use std::alloc::Global;
 
-/// Reports why the line does not belong to its part.
+/// Reports why the line does not belong here.
 pub fn bad_line(alloc: Global, said: &mut Said, page: Page, number: u32) -> Result<(), Refusal> {
     let line = line_of(page, number);
     if number == 1 && tell_foreign(page, said) {
@@ -121,7 +121,7 @@ fn tell_stop(line: Line, said: &mut Said) {
     said.add_with(b"@\nend\n", &[line.page.text(last)], &[])
 }
 
-/// Reports a text that ends in the middle of the line, or without a newline after it.
+/// Reports a text that ends inside the line, or without a newline.
 pub fn tell_unfinished(line: Line, said: &mut Said) {
     if line.text == b"end".as_slice() {
         said.title(b"the text ends without a newline after `end`");
@@ -139,7 +139,6 @@ pub fn tell_unfinished(line: Line, said: &mut Said) {
     said.add_with(b"@\n", &[line.text], &[])
 }
 
-// Reports a line that does not belong to a history, after the certificate or a change.
 fn tell_more(line: Line, said: &mut Said) {
     line.whole(said, b"no line of a history");
     if line.number != line.start && line.page.text(line.start) == b"history 1".as_slice() {
@@ -151,7 +150,6 @@ fn tell_more(line: Line, said: &mut Said) {
     )
 }
 
-// Reports how the part must begin.
 fn tell_first(alloc: Global, line: Line, said: &mut Said) -> Result<(), Refusal> {
     if line.part == Part::Plan {
         said.title_with(b"line # begins no change and no plan", &[], &[line.number]);
@@ -179,7 +177,6 @@ fn tell_first(alloc: Global, line: Line, said: &mut Said) -> Result<(), Refusal>
     Ok(())
 }
 
-// Reports a ring that begins below this line.
 fn tell_late_ring(line: Line, said: &mut Said) -> bool {
     if line.part != Part::Ring {
         return false;
@@ -205,21 +202,19 @@ fn tell_late_ring(line: Line, said: &mut Said) -> bool {
     true
 }
 
-// Whether the part's first line looks like one of its other lines.
+// Whether the first line looks like another line of the part.
 fn is_headless(line: Line) -> bool {
     let word = line.word();
     let is_leave = line.part == Part::Plan && word == b"leave".as_slice();
     is_leave || form_of(line.part, word).is_some()
 }
 
-// Whether the word begins another part than this one.
 fn is_other_head(word: &[u8], part: &[u8]) -> bool {
     let is_cert = part == b"certificate".as_slice();
     word != part && [b"change".as_slice(), b"plan", b"history", b"script"].contains(&word)
         || word == b"cert".as_slice() && !is_cert
 }
 
-// Whether a line in place of a plan is meant as a change.
 fn is_change(alloc: Global, line: Line) -> Result<bool, Refusal> {
     let word = line.word();
     let mut nearest = Nearest::new(word);
@@ -229,7 +224,7 @@ fn is_change(alloc: Global, line: Line) -> Result<bool, Refusal> {
     Ok(!nearest.word.is_empty() || is_one && !has_steps)
 }
 
-/// Reports an unknown first word, and the word that was meant, if one is near.
+/// Reports an unknown first word, and a near known word.
 pub fn tell_unknown(alloc: Global, line: Line, said: &mut Said) -> Result<(), Refusal> {
     let word = line.word();
     let at = line.page.at(line.number, 0, 0);

@@ -1,4 +1,4 @@
-//! Names that are not declared.
+//! Undeclared names.
 
 use crate::forms::{Part, part_of};
 use crate::line::{Line, line_of, move_up};
@@ -9,7 +9,7 @@ use ring_names::Refusal;
 use std::alloc::Global;
 use texts::Lines;
 
-/// Returns the line of the ring that declares the name.
+/// Returns the ring's line that declares the name.
 pub fn declared(page: Page, name: &[u8]) -> Option<u32> {
     let mut lines = Lines::of(page.after(3));
     for line in 4..1029u32 {
@@ -49,7 +49,6 @@ fn undeclared(page: Page, text: &[u8]) -> Option<usize> {
     None
 }
 
-// Which nodes a line may name.
 #[derive(Clone, Copy, PartialEq, Eq)]
 enum Wanted {
     In,
@@ -68,7 +67,6 @@ impl Wanted {
         Wanted::Any
     }
 
-    // Whether a node line with this last field declares such a node.
     fn is_met(self, last: &[u8]) -> bool {
         match self {
             Wanted::In => last == b"in".as_slice(),
@@ -78,7 +76,7 @@ impl Wanted {
     }
 }
 
-// The name and the last field of a node line.
+// The name and the last field.
 fn node_line(text: &[u8]) -> Option<(&[u8], &[u8])> {
     if field(text, 0) != b"node".as_slice() {
         return None;
@@ -108,7 +106,7 @@ fn nearest_name<'a>(
     Ok(nearest.word)
 }
 
-/// Reports an undeclared name, and the name that was meant, if one is near.
+/// Reports an undeclared name, and a near declared name.
 pub fn unknown_node(
     alloc: Global,
     said: &mut Said,
@@ -136,7 +134,7 @@ pub fn unknown_node(
     Ok(())
 }
 
-// The later line of the ring that declares the name, if this line is in the ring too.
+// Only for a line in the ring.
 fn declared_late(page: Page, number: u32, name: &[u8]) -> Option<u32> {
     if part_of(page, number).0 != Part::Ring {
         return None;
@@ -162,7 +160,7 @@ fn first_row(page: Page, number: u32) -> u32 {
     line_of(page, number).find(b"slots", 1).unwrap_or(number)
 }
 
-// Notes which nodes can be named, if none is near. If only one can join, it was meant.
+// If only one node can join, it was meant.
 fn tell_choice(line: Line, said: &mut Said, place: usize, wanted: Wanted) {
     let (count, name) = push_choice(line.page, said, wanted);
     if count == 0 {
@@ -177,7 +175,7 @@ fn tell_choice(line: Line, said: &mut Said, place: usize, wanted: Wanted) {
     }
 }
 
-// Notes the wanted nodes, as many as fit a line. Returns how many there are, and the last.
+// Notes up to six nodes. Returns their number and the last.
 fn push_choice<'a>(page: Page<'a>, said: &mut Said, wanted: Wanted) -> (u32, &'a [u8]) {
     let mut words: &[u8] = match wanted {
         Wanted::In => b"  Members are `@`",

@@ -5,10 +5,9 @@ use std::alloc::Global;
 use std::str;
 use strsim::osa_distance;
 
-// The longest word that is compared.
 const LONGEST: usize = 32;
 
-// How many letters must be changed, removed, added or swapped. None if a word is too long or not UTF-8.
+// Counts letters to change, remove, add or swap. None if long or not UTF-8.
 fn distance(alloc: Global, one: &[u8], other: &[u8]) -> Result<Option<usize>, Refusal> {
     if one.len() > LONGEST || other.len() > LONGEST {
         return Ok(None);
@@ -22,7 +21,7 @@ fn distance(alloc: Global, one: &[u8], other: &[u8]) -> Result<Option<usize>, Re
     }
 }
 
-/// The nearest word so far, and its distance.
+/// The nearest word so far.
 #[derive(Clone, Copy)]
 pub struct Nearest<'a> {
     pub word: &'a [u8],
@@ -30,7 +29,7 @@ pub struct Nearest<'a> {
 }
 
 impl<'a> Nearest<'a> {
-    /// Starts without a word. A near one differs in at most two letters, and in fewer than half.
+    /// Starts without a word. A near word differs in at most two letters, and in fewer than half.
     pub fn new(word: &[u8]) -> Nearest<'a> {
         Nearest {
             word: b"",
@@ -38,7 +37,7 @@ impl<'a> Nearest<'a> {
         }
     }
 
-    /// Looks at one more word.
+    /// Compares one more word.
     pub fn look(&mut self, alloc: Global, word: &[u8], other: &'a [u8]) -> Result<(), Refusal> {
         if let Some(far) = distance(alloc, word, other)? {
             if far < self.far {

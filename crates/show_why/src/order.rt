@@ -1,4 +1,4 @@
-//! Lines in the wrong place: too early, too late, or repeated.
+//! Lines in the wrong place.
 
 use crate::forms::{Part, called, form_of, forms};
 use crate::line::{Line, move_up};
@@ -9,12 +9,12 @@ fn partitions(line: Line) -> u32 {
     number(field(line.page.text(2), 1)).unwrap_or(0)
 }
 
-/// Counts the lines `slots` before this line of a ring.
+/// Counts the lines `slots` before this line.
 pub fn rows_before(line: Line) -> u32 {
     line.count(b"slots", line.number.saturating_sub(1))
 }
 
-// The first words that the ring allows at this line, given those before: mostly only one.
+// The words that the ring allows here, mostly one.
 fn due_in_ring(line: Line) -> [&'static [u8]; 2] {
     match line.number {
         0 | 1 => [b"ring", b"ring"],
@@ -34,7 +34,6 @@ fn due_in_ring(line: Line) -> [&'static [u8]; 2] {
     }
 }
 
-// Whether a certificate allows a line with this word here.
 fn is_due_in_cert(line: Line, word: &[u8]) -> bool {
     if word == b"fact".as_slice() {
         return !is_after_chains(line);
@@ -47,7 +46,6 @@ fn is_after_chains(line: Line) -> bool {
     first_chain(line) < line.number
 }
 
-// The first chain of a certificate, of any kind.
 fn first_chain(line: Line) -> u32 {
     let mut first = u32::MAX;
     for word in [b"chain".as_slice(), b"take".as_slice(), b"give".as_slice()] {
@@ -56,7 +54,7 @@ fn first_chain(line: Line) -> u32 {
     first
 }
 
-/// Whether a line with this word may be in the place of this one.
+/// Whether such a line may stand here.
 pub fn is_due(line: Line, word: &[u8]) -> bool {
     match line.part {
         Part::Ring => due_in_ring(line).contains(&word),
@@ -66,7 +64,7 @@ pub fn is_due(line: Line, word: &[u8]) -> bool {
     }
 }
 
-/// Reports a known line in the wrong place. Returns whether it is one.
+/// Reports a known line in the wrong place.
 pub fn tell_order(line: Line, said: &mut Said) -> bool {
     if is_due(line, line.word()) {
         return false;
@@ -113,14 +111,13 @@ fn tell_in_ring(line: Line, said: &mut Said) {
     tell_early(line, said, due)
 }
 
-// Reports a second line of its kind in the ring.
 fn tell_second(line: Line, said: &mut Said, first: u32) {
     said.beside(first, b"the first");
     line.whole(said, b"a second one");
     line.take_out(said)
 }
 
-// Reports a line that must come after another. Moves that one up, if there is one.
+// Moves up the due line, if there is one.
 fn tell_early(line: Line, said: &mut Said, due: &[u8]) {
     said.fault_with(
         line.number,
@@ -159,7 +156,7 @@ fn tell_count(line: Line, said: &mut Said) {
     mend_space(line, said)
 }
 
-/// Mends the ring's number of partitions to the number of its lines `slots`, if a ring can have so many.
+/// Mends the line `space` to count the lines `slots`.
 pub fn mend_space(line: Line, said: &mut Said) {
     if let Some(rows) = count_rows(line) {
         said.mend_with(b"# partitions, as there are lines `slots`", &[], &[rows]);
@@ -168,7 +165,7 @@ pub fn mend_space(line: Line, said: &mut Said) {
     }
 }
 
-// How many lines `slots` the ring has, if that can be a number of partitions.
+// None if a ring cannot have so many partitions.
 fn count_rows(line: Line) -> Option<u32> {
     let rows = line.count(b"slots", u32::MAX);
     match rows {
@@ -177,7 +174,7 @@ fn count_rows(line: Line) -> Option<u32> {
     }
 }
 
-/// Reports what may be in the line's place. Mends it if only `end` may.
+/// Reports what may stand here. Mends the text if only `end` may.
 pub fn tell_due(line: Line, said: &mut Said) {
     if line.part == Part::Ring && due_in_ring(line)[0] == b"end".as_slice() {
         return tell_end(line, said);
@@ -192,7 +189,7 @@ pub fn tell_due(line: Line, said: &mut Said) {
     said.add_note(b"\n")
 }
 
-/// Reports that the part's `end` is missing before the line.
+/// Reports that the part's `end` is missing before this line.
 pub fn tell_end(line: Line, said: &mut Said) {
     said.note_with(
         b"The @ has no line `end` before it.",
@@ -203,7 +200,7 @@ pub fn tell_end(line: Line, said: &mut Said) {
     line.insert(said, b"end")
 }
 
-/// Whether the line begins the next part, so that the `end` between them is missing.
+/// Whether this line begins the next part without an `end` before it.
 pub fn begins_next(line: Line) -> bool {
     match line.part {
         Part::Ring => is_due(line, b"end") && is_head(line.text, b"change 1", b"plan 1"),

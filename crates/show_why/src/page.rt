@@ -3,20 +3,20 @@
 use memchr::memchr;
 use texts::Fields;
 
-/// The text of a bundle. Lines count from 1.
+/// A bundle's text. Lines count from 1.
 #[derive(Clone, Copy)]
 pub struct Page<'a> {
     pub bytes: &'a [u8],
 }
 
-/// A part of a bundle: how many lines `end` come before it, and its first line.
+/// A part: the lines `end` before it, and its first line.
 #[derive(Clone, Copy, Debug)]
 pub struct Section {
     pub number: u32,
     pub start: u32,
 }
 
-// Splits off the first line, without its newline. None if it has no newline.
+// Without a newline, the rest is None.
 fn cut(text: &[u8]) -> (&[u8], Option<&[u8]>) {
     match memchr(b'\n', text) {
         Some(at) if at < text.len() => (&text[..at], Some(&text[at + 1..])),
@@ -45,7 +45,7 @@ impl<'a> Page<'a> {
         rest
     }
 
-    /// Returns the line, without its newline. None if the text ends before it.
+    /// Returns the line, without its newline, if there is one.
     pub fn line(&self, number: u32) -> Option<&'a [u8]> {
         let rest = self.after(number.checked_sub(1)?);
         if rest.is_empty() {
@@ -59,13 +59,13 @@ impl<'a> Page<'a> {
         self.line(number).unwrap_or(b"".as_slice())
     }
 
-    /// Whether the line is the last and has no newline.
+    /// Whether the line has no newline.
     pub fn is_unfinished(&self, number: u32) -> bool {
         let rest = self.after(number.saturating_sub(1));
         !rest.is_empty() && memchr(b'\n', rest).is_none()
     }
 
-    /// Returns the place of the fields from `first` to `last`, or the whole line if it lacks them.
+    /// Returns the place of these fields, or of the whole line.
     pub fn at(&self, line: u32, first: usize, last: usize) -> Place {
         let text = self.text(line);
         match (span_of(text, first), span_of(text, last)) {
@@ -78,7 +78,7 @@ impl<'a> Page<'a> {
         }
     }
 
-    /// Returns the line before and after a field. Without such a field, all is before.
+    /// Returns the line before and after a field. Without the field, all is before.
     pub fn around(&self, line: u32, place: usize) -> (&'a [u8], &'a [u8]) {
         let text = self.text(line);
         match span_of(text, place) {
@@ -89,7 +89,7 @@ impl<'a> Page<'a> {
         }
     }
 
-    /// Returns the part of the line.
+    /// Returns the line's part.
     pub fn section(&self, number: u32) -> Section {
         let mut found = Section {
             number: 0,
@@ -124,7 +124,7 @@ impl<'a> Page<'a> {
         None
     }
 
-    /// Counts the lines, with an unfinished last one.
+    /// Counts the lines, also an unfinished one.
     pub fn count(&self) -> u32 {
         let mut rest = self.bytes;
         let mut count = 0u32;
@@ -142,14 +142,14 @@ impl<'a> Page<'a> {
     }
 }
 
-/// The bytes of a field in its line.
+/// A field's bytes.
 #[derive(Clone, Copy, Debug)]
 pub struct Span {
     pub from: usize,
     pub to: usize,
 }
 
-/// Returns the bytes of a field. Fields are separated by single spaces.
+/// Returns a field's bytes. Single spaces separate fields.
 pub fn span_of(line: &[u8], place: usize) -> Option<Span> {
     let mut from = 0usize;
     let mut left = place;
@@ -198,7 +198,7 @@ pub fn field(line: &[u8], place: usize) -> &[u8] {
     }
 }
 
-/// Counts the fields of the line.
+/// Counts the line's fields.
 pub fn count_fields(line: &[u8]) -> usize {
     let mut count = 1usize;
     for byte in line {
@@ -209,13 +209,13 @@ pub fn count_fields(line: &[u8]) -> usize {
     count
 }
 
-/// Returns the place of the first field that equals the word.
+/// Returns the place of the first such field.
 pub fn place_of(line: &[u8], word: &[u8]) -> Option<usize> {
     line.split(|byte| *byte == b' ')
         .position(|field| field == word)
 }
 
-/// Returns the number that a field spells.
+/// Returns the field's number.
 pub fn number(word: &[u8]) -> Option<u32> {
     let mut fields = Fields::of(0, word);
     let value = fields.value()?;

@@ -3,7 +3,6 @@
 use crate::page::{Page, count_fields, field, number};
 use crate::said::Said;
 
-// The numbers of a line `quorum`.
 #[derive(Clone, Copy)]
 struct Asked {
     slots: u32,
@@ -54,7 +53,7 @@ impl Asked {
         said.fault_with(line, b"# + # is not above #", &[], &[read, write, slots])
     }
 
-    // The fewest slots for both reads and writes that make them meet: a majority, if no node may lose its data.
+    // The fewest slots with which reads and writes meet if both ask for as many.
     fn majority(&self) -> u32 {
         (self.slots.saturating_add(self.loss) / 2).saturating_add(1)
     }
@@ -85,8 +84,9 @@ impl Asked {
     }
 }
 
-/// Mends the line `quorum` for another number of slots. Reads and writes keep their numbers if they may; otherwise, or
-/// if both were majorities, they become majorities.
+/// Mends the line `quorum` for another number of slots.
+///
+/// Reads and writes keep their numbers if allowed. Otherwise, or if both are majorities, both become majorities.
 pub fn mend_slots(page: Page, said: &mut Said, slots: u32) {
     let mut asked = Asked::of(page.text(3));
     let half = asked.majority();

@@ -5,18 +5,16 @@ use crate::page::{Page, Place, cut_line};
 use helpers::Words;
 use std::alloc::{AllocError, Global};
 
-// A line that is shown, and the words on a part of it.
 #[derive(Clone, Copy)]
 struct Mark {
     place: Place,
-    // Whether it is faulty. Otherwise it only belongs to the fault.
+    // If not, the line belongs to the fault.
     is_fault: bool,
-    // The bytes of its words. If there are none, no part of the line is marked.
+    // Without words, nothing is marked.
     begin: usize,
     end: usize,
 }
 
-// A line, and the bytes of the lines that replace it.
 #[derive(Clone, Copy)]
 struct Change {
     line: u32,
@@ -24,26 +22,24 @@ struct Change {
     end: usize,
 }
 
-/// A report on a refusal: a title, the lines concerned, notes, and a mend. If memory runs out, all words are
-/// lost.
+/// A report on a refusal. If memory runs out, all words are lost.
 ///
-/// Words are given as they are, or by a template: `@` is the next name, `#` the next number.
+/// A call `.._with` has a template: `@` is the next name, `#` the next number.
 #[derive(Drop)]
 pub struct Said {
     title: Words,
     marks: Vec<Mark>,
     words: Words,
-    // Whole lines.
     notes: Words,
     says: Words,
     changes: Vec<Change>,
-    // The new lines of the changes, with newlines.
+    // The new lines, with newlines.
     news: Words,
-    // Instead of changes, a habit without which the whole text is written.
+    // If set, the mend is the text without this habit.
     habit: Option<Habit>,
 }
 
-// How many bytes of a line are shown.
+// The bytes of a line that are shown.
 const SHOWN: usize = 90;
 
 fn cut_out(text: &[u8], begin: usize, end: usize) -> &[u8] {
@@ -54,7 +50,7 @@ fn cut_out(text: &[u8], begin: usize, end: usize) -> &[u8] {
 }
 
 impl Said {
-    /// Starts without words.
+    /// Returns an empty report.
     pub fn new(alloc: Global) -> Said {
         Said {
             title: Words::new(alloc),
@@ -68,13 +64,13 @@ impl Said {
         }
     }
 
-    /// Sets the title, in place of an earlier one.
+    /// Replaces the title.
     pub fn title(&mut self, words: &[u8]) {
         self.title.clear();
         self.title.text(words);
     }
 
-    /// Sets the title by a template.
+    /// Replaces the title.
     pub fn title_with(&mut self, words: &[u8], names: &[&[u8]], numbers: &[u32]) {
         self.title.clear();
         self.title.fill(words, names, numbers);
@@ -93,14 +89,14 @@ impl Said {
         }
     }
 
-    /// Marks a faulty part of a line. A line is shown once, with its last mark.
+    /// Marks a faulty part of a line. Only a line's last mark is shown.
     pub fn fault_at(&mut self, place: Place, words: &[u8]) {
         let begin = self.words.len();
         self.words.text(words);
         self.mark(place, true, begin)
     }
 
-    /// Marks a faulty part of a line, by a template.
+    /// Marks a faulty part.
     pub fn fault_at_with(&mut self, place: Place, words: &[u8], names: &[&[u8]], numbers: &[u32]) {
         let begin = self.words.len();
         self.words.fill(words, names, numbers);
@@ -112,7 +108,7 @@ impl Said {
         self.fault_at(Place::whole(line), words)
     }
 
-    /// Marks a whole faulty line, by a template.
+    /// Marks a whole faulty line.
     pub fn fault_with(&mut self, line: u32, words: &[u8], names: &[&[u8]], numbers: &[u32]) {
         self.fault_at_with(Place::whole(line), words, names, numbers)
     }
@@ -124,7 +120,7 @@ impl Said {
         self.mark(Place::whole(line), false, begin)
     }
 
-    /// Marks a line that belongs to the fault, by a template.
+    /// Marks a line that belongs to the fault.
     pub fn beside_with(&mut self, line: u32, words: &[u8], names: &[&[u8]], numbers: &[u32]) {
         let begin = self.words.len();
         self.words.fill(words, names, numbers);
@@ -138,53 +134,53 @@ impl Said {
         self.notes.byte(b'\n');
     }
 
-    /// Adds a note, by a template.
+    /// Adds a note.
     pub fn note_with(&mut self, words: &[u8], names: &[&[u8]], numbers: &[u32]) {
         self.notes.text(b"  ");
         self.notes.fill(words, names, numbers);
         self.notes.byte(b'\n');
     }
 
-    /// Continues a note written by hand. It needs two spaces in front and a newline at the end.
+    /// Adds text to the notes: two spaces first, a newline last.
     pub fn add_note(&mut self, words: &[u8]) {
         self.notes.text(words);
     }
 
-    /// Continues the last note, by a template.
+    /// Continues the last note.
     pub fn add_note_with(&mut self, words: &[u8], names: &[&[u8]], numbers: &[u32]) {
         self.notes.fill(words, names, numbers);
     }
 
-    /// Returns the bytes of the notes so far.
+    /// Returns the bytes of all notes.
     pub fn noted(&self) -> usize {
         self.notes.len()
     }
 
-    /// Says what a mend does. Its lines follow by `put` and `add`.
+    /// Says what a mend does. `put` and `add` give its lines.
     pub fn mend(&mut self, words: &[u8]) {
         self.says.clear();
         self.says.text(words);
     }
 
-    /// Says what a mend does, by a template.
+    /// Says what a mend does.
     pub fn mend_with(&mut self, words: &[u8], names: &[&[u8]], numbers: &[u32]) {
         self.says.clear();
         self.says.fill(words, names, numbers);
     }
 
-    /// Mends the whole text by removing the habit, and says so.
+    /// Mends the whole text by removing the habit.
     pub fn rewrite(&mut self, habit: Habit, words: &[u8]) {
         self.mend(words);
         self.habit = Some(habit);
     }
 
-    /// Whether there is a mend. One with bytes that a terminal does not print does not count.
+    /// Whether a mend exists that a terminal can print.
     pub fn has_mend(&self) -> bool {
         let is_set = !self.changes.is_empty() || self.habit.is_some();
         is_set && is_clean(self.says.as_slice()) && is_clean(self.news.as_slice())
     }
 
-    /// Returns the numbers of the faulty lines, ascending.
+    /// Returns the faulty lines, ascending.
     pub fn faults(&self, alloc: Global) -> Result<Vec<u32>, AllocError> {
         let mut lines = Vec::new(alloc);
         for mark in self.marks.as_slice() {
@@ -196,7 +192,7 @@ impl Said {
         Ok(lines)
     }
 
-    /// Returns a change of the mend: a line's number, and the lines that replace it.
+    /// Returns a line's number, and the lines that replace it.
     pub fn change(&self, place: usize) -> Option<(u32, &[u8])> {
         let change = self.changes.get(place)?;
         let new = cut_out(self.news.as_slice(), change.begin, change.end);
@@ -208,7 +204,7 @@ impl Said {
         self.changes.len()
     }
 
-    /// Begins the replacement of a line. If nothing is added, the line is removed.
+    /// Begins the replacement of a line. An empty replacement removes the line.
     pub fn put(&mut self, line: u32) {
         let end = self.news.len();
         let change = Change {
@@ -221,13 +217,13 @@ impl Said {
         }
     }
 
-    /// Adds lines of a mend, each with its newline.
+    /// Adds lines of a mend, with newlines.
     pub fn add(&mut self, words: &[u8]) {
         self.news.text(words);
         self.end_change();
     }
 
-    /// Adds a line of a mend, by a template.
+    /// Adds a line of a mend.
     pub fn add_with(&mut self, words: &[u8], names: &[&[u8]], numbers: &[u32]) {
         self.news.fill(words, names, numbers);
         self.end_change();
@@ -239,7 +235,7 @@ impl Said {
         }
     }
 
-    // The next line to show after this one, and its last mark.
+    // The last mark of the next line to show.
     fn next(&self, behind: u32) -> Option<Mark> {
         let mut found: Option<Mark> = None;
         for mark in self.marks.as_slice() {
@@ -256,7 +252,7 @@ impl Said {
         found
     }
 
-    /// Writes `refused:`, the title, the lines and the notes, if there is a title.
+    /// Writes `refused:`, title, lines and notes.
     pub fn push(&self, out: &mut Words, page: Page) {
         if self.title.len() > 0 {
             out.text(b"refused: ");
@@ -264,7 +260,7 @@ impl Said {
         self.push_on(out, page)
     }
 
-    /// Writes the title, the lines and the notes, if there is a title.
+    /// Writes title, lines and notes, if there is a title.
     pub fn push_on(&self, out: &mut Words, page: Page) {
         self.tell_losses(out);
         if self.title.len() == 0 {
@@ -319,7 +315,6 @@ impl Said {
         width
     }
 
-    // Writes a line with its number, and the words on it below.
     fn push_mark(&self, out: &mut Words, page: Page, mark: Mark, width: usize) {
         push_number(out, mark.place.line, width);
         out.text(b" | ");
@@ -374,7 +369,7 @@ impl Said {
         None
     }
 
-    /// Writes `mend:`, what it does, and the new lines, each with the number of the line that it replaces.
+    /// Writes `mend:`, what it does, and the new lines with the old numbers.
     pub fn push_mend(&self, out: &mut Words) {
         out.fill(b"  mend: @\n", &[self.says.as_slice()], &[]);
         for change in self.changes.as_slice() {
@@ -384,7 +379,7 @@ impl Said {
     }
 }
 
-/// Counts the digits of the number.
+/// Counts the digits.
 pub fn count_digits(number: u32) -> usize {
     let mut count = 1usize;
     let mut least = 10u64;
@@ -407,7 +402,6 @@ fn push_margin(out: &mut Words, byte: u8, width: usize) {
     out.text(b" |");
 }
 
-// Writes what is below the marked part of a line, given how many of its bytes are shown.
 fn push_under(out: &mut Words, mark: Mark, shown: usize) {
     let Place { from, to, .. } = mark.place;
     let (from, to) = if from < to {
@@ -433,7 +427,7 @@ fn is_clean(text: &[u8]) -> bool {
     true
 }
 
-/// Adds the bytes, with a question mark for each that a terminal does not print.
+/// Adds the bytes, with `?` for each that a terminal cannot print.
 pub fn push_printed(out: &mut Words, text: &[u8]) {
     for byte in text {
         out.byte(if is_printed(*byte) { *byte } else { b'?' });

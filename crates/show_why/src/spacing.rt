@@ -1,4 +1,4 @@
-//! Lines with faulty spacing or letters, whatever they say.
+//! Faulty spacing or letters, whatever the line says.
 
 use crate::fields::tell_alias;
 use crate::forms::Part;
@@ -7,10 +7,10 @@ use crate::line::Line;
 use crate::page::{Place, field};
 use crate::said::Said;
 
-// The byte order mark of UTF-8.
+// UTF-8's byte order mark.
 const MARK: &[u8; 3] = b"\xEF\xBB\xBF";
 
-/// Reports how the line is wrongly written. Returns whether it is.
+/// Reports how the line is wrongly written.
 pub fn tell_spacing(line: Line, said: &mut Said) -> bool {
     if line.number == 1 && line.text.starts_with(MARK) {
         tell_mark(line, said);
@@ -32,7 +32,7 @@ pub fn tell_spacing(line: Line, said: &mut Said) -> bool {
     false
 }
 
-/// Reports wrong blanks or ends in a line of a layout. Returns whether there are any.
+/// Reports wrong blanks in a layout's line.
 pub fn tell_blanks(line: Line, said: &mut Said) -> bool {
     if line.number == 1 && line.text.starts_with(MARK) {
         tell_mark(line, said);
@@ -86,7 +86,6 @@ fn blank_fault(text: &[u8]) -> Option<&'static [u8]> {
     None
 }
 
-// The first habit of the line's blanks.
 fn habit_of(text: &[u8]) -> Option<Habit> {
     let habits = [
         Habit::CarriageReturn,
@@ -116,7 +115,7 @@ fn tell_mark(line: Line, said: &mut Said) {
     respace(line, said, rest, b"without the mark");
 }
 
-// Reports the line's habit, and how many others share it. Mends the line, or all such lines.
+// Mends all lines that share the habit.
 fn tell_habit(line: Line, said: &mut Said, habit: Habit) {
     if habit == Habit::Capitals {
         let place = first_capital(line.text);
@@ -167,7 +166,7 @@ fn mend_one(line: Line, said: &mut Said, habit: Habit) {
     }
 }
 
-// Mends the line by the text, with single spaces between its fields.
+// Writes the text with single spaces between fields.
 fn respace(line: Line, said: &mut Said, text: &[u8], words: &[u8]) {
     said.mend(words);
     said.put(line.number);

@@ -1,4 +1,4 @@
-//! Why the texts of a bundle are refused.
+//! Why a bundle's texts are refused.
 
 use crate::faults::{later_dependency, not_member, repeated, shared_node};
 use crate::limits::too_large;
@@ -10,7 +10,7 @@ use crate::said::Said;
 use ring_names::Refusal;
 use std::alloc::Global;
 
-/// Reports why the texts of a bundle are refused, if they are at fault. Returns whether they are.
+/// Reports why texts are refused. Returns whether they are.
 pub fn tell_text(
     alloc: Global,
     said: &mut Said,
