@@ -1,4 +1,4 @@
-//! Which nodes join and leave, and what must move for that.
+//! Which nodes join and leave, and what moves.
 
 use crate::names::{NodeNames, push_many, push_names};
 use crate::present::Present;
@@ -7,7 +7,6 @@ use crate::writing::columns;
 use helpers::{Words, small};
 use ring_table::Ring;
 
-// Writes `a and b join`, or nothing if there are no nodes.
 fn push_who(out: &mut Words, names: NodeNames, nodes: &[u32], one: &[u8], more: &[u8]) {
     let mut width = 0usize;
     for node in nodes {
@@ -39,7 +38,7 @@ pub fn push_change(out: &mut Words, names: NodeNames, scene: &Scene) {
     }
 }
 
-/// Writes how many slots move, in words for one or more. If a slot moves more than once: `1000 moves of 1 slot`.
+/// Writes how many slots move. If a slot moves twice: `1000 moves of 1 slot`.
 pub fn push_moves(out: &mut Words, scene: &Scene, one: &[u8], more: &[u8]) {
     let moves = scene.move_count();
     if moves == scene.moved_slots {
@@ -49,8 +48,9 @@ pub fn push_moves(out: &mut Words, scene: &Scene, one: &[u8], more: &[u8]) {
     push_many(out, scene.moved_slots, b"slot", b"slots")
 }
 
-/// Returns the fewest slots that must move. These are all slots of leavers and dead nodes, or more, so that
-/// each joiner gets its share, rounded down.
+/// Returns the fewest slots that must move.
+///
+/// These are all slots of leavers and dead nodes, or more, so that each joiner gets its share, rounded down.
 pub fn fewest_moves(ring: &Ring, scene: &Scene, present: &Present) -> u32 {
     let total = ring.q().saturating_mul(ring.n());
     let share = match total.checked_div(count_living(ring, scene, present)) {
@@ -82,7 +82,7 @@ fn count_living(ring: &Ring, scene: &Scene, present: &Present) -> u32 {
     count
 }
 
-/// Counts the members in the end that answer.
+/// Counts the final members that answer.
 pub fn count_members(ring: &Ring, scene: &Scene, present: &Present) -> u32 {
     let mut count = 0u32;
     for node in 0..small(ring.nodes().len()) {

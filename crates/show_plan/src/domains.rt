@@ -1,4 +1,4 @@
-//! How the slots of partitions are spread over racks.
+//! How slots are spread over racks.
 
 use helpers::Labels;
 use ring_names::{Listed, NodeId};

@@ -1,4 +1,4 @@
-//! What remains if nodes fail, besides those that do not answer.
+//! What remains if more nodes fail.
 
 use crate::present::Present;
 use helpers::{at, raise, small};
@@ -16,7 +16,7 @@ fn count_up(row: &[NodeId], present: &Present) -> u32 {
     count
 }
 
-/// Counts the partitions that answer reads and writes without the silent nodes.
+/// Counts the partitions that still answer reads and writes.
 pub fn kept(ring: &Ring, rows: &[Listed<NodeId>], present: &Present) -> u32 {
     let needed = ring.r().max(ring.w());
     let mut count = 0u32;
@@ -28,7 +28,7 @@ pub fn kept(ring: &Ring, rows: &[Listed<NodeId>], present: &Present) -> u32 {
     count
 }
 
-/// Counts the partitions that answer reads and writes if any one more node fails, at worst.
+/// Counts the partitions that answer after one more failure, at worst.
 pub fn kept_by_one(
     alloc: Global,
     ring: &Ring,
@@ -56,13 +56,13 @@ pub fn kept_by_one(
 /// How many partitions two answering nodes share.
 #[derive(Clone, Copy)]
 pub struct Shared {
-    /// The most of any pair.
+    /// The most for a pair.
     pub most: u32,
     /// The sum over all pairs.
     pub sum: u32,
 }
 
-/// Counts the partitions shared by each pair of answering nodes.
+/// Counts the partitions that each pair of answering nodes shares.
 pub fn count_shared(
     alloc: Global,
     ring: &Ring,
@@ -91,7 +91,7 @@ fn up_of(alloc: Global, row: &[NodeId], present: &Present) -> Result<Vec<u32>, R
     Ok(up)
 }
 
-// Counts the pairs of the row. Returns the greatest count so far.
+// Returns the greatest count so far.
 fn count_pairs(counts: &mut [u32], row: &[u32]) -> u32 {
     let mut most = 0u32;
     for first in 0..row.len() {
@@ -105,7 +105,7 @@ fn count_pairs(counts: &mut [u32], row: &[u32]) -> u32 {
     most
 }
 
-/// Returns the number of pairs of nodes.
+/// Returns the number of pairs.
 pub fn all_pairs(nodes: u32) -> u32 {
     let all = u64::from(nodes).saturating_mul(u64::from(nodes.saturating_sub(1))) / 2;
     u32::try_from(all).unwrap_or(u32::MAX)

@@ -1,5 +1,5 @@
-//! A plan in words: its moves and their rounds, what each node owns, gives and takes, and how far a run has come.
-//! Nothing is proved of the words, except what `plan_moves` proves of moves, rounds and owners.
+//! A plan in words: moves, rounds, loads, and how far a run has come. Only moves, rounds and owners are proved, by
+//! `plan_moves`.
 #![tactic(auto)]
 
 mod change;

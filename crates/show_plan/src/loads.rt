@@ -13,9 +13,9 @@ use std::alloc::Global;
 /// Numbers by node.
 #[derive(Drop)]
 pub struct Loads {
-    /// Slots owned before the first step.
+    /// Slots before the first step.
     pub before: Vec<u32>,
-    /// Slots owned after the last step.
+    /// Slots after the last step.
     pub after: Vec<u32>,
     /// Moves whose copies read from the node.
     pub gives: Vec<u32>,
@@ -59,7 +59,7 @@ impl Loads {
         }
     }
 
-    /// Replaces the numbers of chains by the fewest transfers that the plan's order allows, if found.
+    /// Sets the transfers at once to the fewest that the plan's order allows.
     pub fn count_fewest(&mut self, alloc: Global, ring: &Ring, plan: &Plan) -> Result<(), Refusal> {
         let mut order = Order::of(alloc, plan)?;
         let sides = Sides::of(alloc, ring, plan)?;
@@ -89,9 +89,10 @@ impl Loads {
         }
     }
 
-    /// Writes the most transfers of the node at once, and its allowance. Leaves out a side without transfers.
+    /// Writes the most transfers at once, and the allowance.
     ///
-    /// For example `3 at once (bears 4)`, or `2 in at once (bears 2), 1 out at once (bears 2)`.
+    /// For example `3 at once (bears 4)`, or `2 in at once (bears 2), 1 out at once (bears 2)`. Leaves out a side
+    /// without transfers.
     pub fn push_at_once(&self, out: &mut Words, allowance: Allowance, node: u32) {
         let place = node as usize;
         match allowance {
@@ -120,7 +121,6 @@ fn put(numbers: &mut [u32], place: usize, found: Option<u32>) {
     }
 }
 
-// Writes `3 at once (bears 4)`, with these words in the middle. Writes nothing for none.
 fn push_of(out: &mut Words, count: u32, most: u32, words: &[u8]) {
     if count == 0 {
         return;

@@ -1,4 +1,4 @@
-//! The names of nodes, and counts in words.
+//! Names of nodes, and counts in words.
 
 use helpers::{Labels, Words};
 use ring_names::Refusal;
@@ -6,12 +6,12 @@ use ring_table::Ring;
 use std::alloc::Global;
 use std::str;
 
-// The most characters of a name, and how many of a longer one are kept at each end.
+// The most characters, and how many a longer name keeps at each end.
 const MOST: usize = 32;
 
 const KEPT: usize = 15;
 
-/// The names of a ring's nodes in words: their aliases, if they have any.
+/// The names of a ring's nodes, or their aliases.
 #[derive(Clone, Copy)]
 pub struct NodeNames<'a> {
     ring: &'a Ring,
@@ -19,7 +19,7 @@ pub struct NodeNames<'a> {
 }
 
 impl<'a> NodeNames<'a> {
-    /// Takes aliases made by `short_labels`.
+    /// Takes aliases that `short_labels` made.
     pub fn new(ring: &'a Ring, aliases: Option<&'a Labels>) -> NodeNames<'a> {
         NodeNames { ring, aliases }
     }
@@ -37,7 +37,7 @@ impl<'a> NodeNames<'a> {
     }
 }
 
-/// Shortens the labels to at most 32 characters, with `..` in the middle.
+/// Shortens labels to 32 characters, with `..` in the middle.
 pub fn short_labels(alloc: Global, labels: &Labels) -> Result<Labels, Refusal> {
     let mut short = Labels::new(alloc);
     for node in 0..helpers::small(labels.numbers().len()) {
@@ -64,7 +64,7 @@ fn short_of(alloc: Global, label: &str) -> Result<String, Refusal> {
     Ok(short)
 }
 
-// Replaces two characters that XML does not allow.
+// XML does not allow these two characters.
 fn shown(letter: char) -> char {
     match letter {
         '\u{fffe}' | '\u{ffff}' => '?',
@@ -72,7 +72,7 @@ fn shown(letter: char) -> char {
     }
 }
 
-/// Writes the names: `a`, `a and b`, `a, b and c`. With more than `most` nodes: `a, b and 7 others`.
+/// Writes `a`, `a and b`, `a, b and c`. With more than `most` nodes: `a, b and 7 others`.
 pub fn push_names(out: &mut Words, names: NodeNames, nodes: &[u32], most: usize) {
     let shown = if nodes.len() > most {
         most.saturating_sub(1)
@@ -98,15 +98,14 @@ pub fn push_names(out: &mut Words, names: NodeNames, nodes: &[u32], most: usize)
     }
 }
 
-/// Writes the number and the word for one or for more.
+/// Writes the number with a word for one or for more.
 pub fn push_many(out: &mut Words, number: u32, one: &[u8], more: &[u8]) {
     out.number(number);
     out.byte(b' ');
     out.text(if number == 1 { one } else { more });
 }
 
-/// Writes the numbers of partitions and slots, and the quorums. `first` and `second` come before the answers to a read
-/// and a write.
+/// Writes partitions and slots, then the quorums after `first` and `second`.
 pub fn push_quorum(out: &mut Words, ring: &Ring, first: &[u8], second: &[u8]) {
     push_many(out, ring.q(), b"partition of ", b"partitions of ");
     push_many(out, ring.n(), b"slot", b"slots");

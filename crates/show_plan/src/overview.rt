@@ -25,15 +25,14 @@ use std::alloc::Global;
 pub enum Shape {
     /// At most 24 nodes, 12 rounds and 6 entries a round, and sums of the rest.
     Short,
-    /// Everything.
     Whole,
 }
 
-/// How much the plan moves, if partitions have sizes.
+/// How much the plan moves.
 #[derive(Clone, Copy)]
 pub struct Sized<'a> {
     pub volumes: &'a Volumes,
-    /// How much one transfer copies in a second, from 1 on, if known.
+    /// What one transfer copies in a second, from 1 on.
     pub rate: Option<u32>,
 }
 
@@ -45,14 +44,11 @@ pub struct View<'a> {
     pub names: NodeNames<'a>,
     pub plan: &'a Plan,
     pub scene: &'a Scene,
-    /// The ring after the last entry of the history, or before the first step.
+    /// The ring after the history, or before the first step.
     pub present: &'a Present,
-    /// How far the history has come.
     pub progress: Option<&'a Progress>,
     pub shape: Shape,
-    /// How much moves, if asked for.
     pub sized: Option<Sized<'a>>,
-    /// The racks of nodes, if known.
     pub racks: Option<&'a Labels>,
 }
 
@@ -81,7 +77,6 @@ fn tell_moves(view: &View, line: &mut Words) {
     push_fewest(view, line)
 }
 
-// Writes whether fewer moves would do.
 fn push_fewest(view: &View, line: &mut Words) {
     let moves = view.scene.move_count();
     let fewest = fewest_moves(view.ring, view.scene, view.present);
@@ -106,7 +101,6 @@ fn tell_round_count(view: &View, line: &mut Words) {
     line.number(view.scene.widest());
 }
 
-// Writes how much moves or remains to move, and how long that takes at least.
 fn tell_sizes(line: &mut Words, sized: Sized) {
     let volumes = sized.volumes;
     line.text(b"  sizes     ");
@@ -137,7 +131,6 @@ fn tell_sizes(line: &mut Words, sized: Sized) {
     }
 }
 
-// How many mirrors open rounds before their copies.
 fn count_early(view: &View) -> u32 {
     let mut early = 0u32;
     for shown in view.scene.shown.moves.as_slice() {
@@ -179,7 +172,7 @@ fn tell_sources(line: &mut Words, listed: u32) {
     line.text(b" listed slots of the partition in place of the owner");
 }
 
-// The spans of slots that answering members own, now and in the end.
+// Of answering members, now and in the end.
 fn spans_of(view: &View) -> (Span, Span) {
     let (mut now, mut then) = (Span::new(), Span::new());
     let loads = &view.scene.loads;
@@ -226,7 +219,6 @@ fn tell_racks(view: &View, line: &mut Words, racks: &Labels) {
     }
 }
 
-// Writes in how many partitions joiners have two or more slots.
 fn tell_joiners(view: &View, line: &mut Words) -> Result<(), Refusal> {
     let rows = view.scene.last_rows.as_slice();
     let joins = view.scene.joins.as_slice();
@@ -241,7 +233,6 @@ fn tell_joiners(view: &View, line: &mut Words) -> Result<(), Refusal> {
     Ok(())
 }
 
-// Writes which silent nodes keep hints, and for how many slots.
 fn tell_hints(view: &View, out: &mut Words, line: &mut Words) -> Result<(), Refusal> {
     let Some(progress) = view.progress else {
         return Ok(());
@@ -339,7 +330,6 @@ fn push_overview(view: &View, out: &mut Words, line: &mut Words) -> Result<(), R
     Ok(())
 }
 
-// Writes what moves, in how many rounds, and what copies read.
 fn push_motion(view: &View, out: &mut Words, line: &mut Words) {
     tell_moves(view, line);
     end_line(out, line, INDENT);
@@ -379,10 +369,9 @@ fn push_summary(view: &View, out: &mut Words, line: &mut Words) -> Result<(), Re
     Ok(())
 }
 
-/// Writes the summary of a plan: joins and leaves, moves and rounds, balance, racks, failures, the table of nodes, and
-/// the history's progress.
+/// Writes the summary of a plan. Fails only with `OutOfMemory`.
 ///
-/// Lines have at most 100 bytes, except rows with long names or large sizes. Fails only with `OutOfMemory`.
+/// Lines have at most 100 bytes, except rows with long names or large sizes.
 pub fn summary(view: &View) -> Result<Vec<u8>, Refusal> {
     let mut out = Words::new(view.alloc);
     let mut line = Words::new(view.alloc);

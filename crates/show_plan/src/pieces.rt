@@ -3,7 +3,7 @@
 use crate::writing::{WIDTH, columns, push_spaces};
 use helpers::Words;
 
-/// A line that is filled with words. What does not fit goes to a new line after the indent.
+/// A line that words fill. The rest goes to a new line.
 #[derive(Clone, Copy)]
 pub struct Flow {
     indent: usize,
@@ -11,7 +11,7 @@ pub struct Flow {
 }
 
 impl Flow {
-    /// A line that is filled up to its indent.
+    /// Returns a line filled up to its indent.
     pub fn new(indent: usize) -> Flow {
         Flow {
             indent,

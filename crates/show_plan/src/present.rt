@@ -1,4 +1,4 @@
-//! A ring after the last entry of a history.
+//! A ring after a history's last entry.
 
 use crate::scene::Scene;
 use crate::shown::Shown;
@@ -9,14 +9,14 @@ use ring_names::{Listed, NodeId, Refusal};
 use ring_table::Ring;
 use std::alloc::Global;
 
-/// The owners, members and silent nodes after the last entry of a history, or before the first step.
+/// The ring after a history, or before the first step.
 #[derive(Drop)]
 pub struct Present {
-    /// The owners, by partition.
+    /// By partition.
     pub rows: Vec<Listed<NodeId>>,
-    /// How many slots each node owns.
+    /// The slots of each node.
     pub owned: Vec<u32>,
-    /// The nodes that do not answer because they are dead or down, ascending.
+    /// The dead or down nodes, ascending.
     pub silent: Vec<u32>,
     is_member: Vec<bool>,
     // by node, from the history
@@ -26,7 +26,7 @@ pub struct Present {
 }
 
 impl Present {
-    /// The ring as the history leaves it, with these nodes dead. Fails only with `OutOfMemory`.
+    /// Returns the ring after the history. Fails only with `OutOfMemory`.
     pub fn of(
         alloc: Global,
         ring: &Ring,
@@ -45,7 +45,7 @@ impl Present {
         Ok(present)
     }
 
-    /// The ring without a plan, with these nodes dead. Fails only with `OutOfMemory`.
+    /// Returns the ring without a plan. Fails only with `OutOfMemory`.
     pub fn at_rest(alloc: Global, ring: &Ring, dead: &[NodeId]) -> Result<Present, Refusal> {
         let rows = rows_now(alloc, ring, &[], None)?;
         let mut present = Present::with_rows(alloc, ring, rows)?;
@@ -123,7 +123,7 @@ impl Present {
         self.is_dead(node) || self.is_down(node)
     }
 
-    /// Returns `dead` or `down`, the reason why the node does not answer.
+    /// Returns `dead` or `down`.
     pub fn silence(&self, node: u32) -> &'static [u8] {
         if self.is_dead(node) { b"dead" } else { b"down" }
     }
@@ -148,7 +148,7 @@ fn is_switched(shown: &Shown, progress: &Progress) -> bool {
     }
 }
 
-// The owners by partition. Moves of a slot are in order, so its last done switch decides.
+// A slot's moves are in order, so its last done switch decides.
 fn rows_now(
     alloc: Global,
     ring: &Ring,

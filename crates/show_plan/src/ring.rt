@@ -18,18 +18,18 @@ use std::alloc::Global;
 
 const INDENT: usize = 12;
 
-/// What is known of nodes and partitions besides the ring's text.
+/// What is known besides the ring's text.
 #[derive(Drop)]
 pub struct Facts {
     pub racks: Option<Labels>,
     pub aliases: Option<Labels>,
-    /// How much each partition stores.
+    /// By partition.
     pub sizes: Option<Vec<u64>>,
     pub dead: Vec<NodeId>,
 }
 
 impl Facts {
-    /// How much each partition stores, if known.
+    /// Returns how much each partition stores.
     pub fn sizes(&self) -> Option<&[u64]> {
         match &self.sizes {
             Some(sizes) => Some(sizes.as_slice()),
@@ -38,19 +38,18 @@ impl Facts {
     }
 }
 
-// A ring, its owners, and what is known of its nodes.
 #[derive(Clone, Copy)]
 struct Rest<'a> {
     alloc: Global,
     ring: &'a Ring,
     present: &'a Present,
     facts: &'a Facts,
-    // how much each node stores, if known
+    // by node
     stored: &'a Option<Vec<u64>>,
 }
 
 impl<'a> Rest<'a> {
-    // The declared names: the table has the aliases in their own column.
+    // Aliases have a column of their own.
     fn names(&self) -> NodeNames<'a> {
         NodeNames::new(self.ring, None)
     }
@@ -143,7 +142,6 @@ fn push_whole(rest: &Rest, out: &mut Words, line: &mut Words) -> Result<(), Refu
     Ok(())
 }
 
-// Writes `4`, or `2 in, 1 out`.
 fn push_bears(out: &mut Words, allowance: Allowance) {
     match allowance {
         Allowance::Joint(most) => out.number(most),
@@ -156,7 +154,6 @@ fn push_bears(out: &mut Words, allowance: Allowance) {
     }
 }
 
-// `in`, `out`, `in, dead` or `out, dead`
 fn state_of(rest: &Rest, node: u32) -> &'static [u8] {
     match (rest.present.is_member(node), rest.present.is_dead(node)) {
         (true, false) => b"in",
@@ -257,10 +254,7 @@ pub fn stored_by(
     }
 }
 
-/// Writes the summary of a ring: its dead nodes, balance, racks and failures, and a table of its nodes.
-///
-/// The table has each node's alias and rack if known, its state (`in`, `out`, `dead`), slots, stored size if partitions
-/// have sizes, and allowance. Fails only with `OutOfMemory`.
+/// Writes the summary of a ring, with a table of nodes. Fails only with `OutOfMemory`.
 pub fn ring_summary(alloc: Global, ring: &Ring, facts: &Facts) -> Result<Vec<u8>, Refusal> {
     let present = Present::at_rest(alloc, ring, facts.dead.as_slice())?;
     let stored = stored_by(alloc, &present, facts.sizes())?;

@@ -9,18 +9,18 @@ use helpers::{Words, at, small};
 use ring_names::Refusal;
 use std::alloc::Global;
 
-// The most rounds of a short list, and how many it shows if there are more.
+// The most rounds of a short list, and how many a shortened list shows.
 const SHORT: u32 = 12;
 
 const SHOWN: u32 = 10;
 
-// In a short list, the most pairs of nodes in a round, and the most slots of a pair.
+// In a short list, the most pairs in a round, and the most slots of a pair.
 const ENTRIES: usize = 6;
 
-// The indent of a round's copies, if rounds have no sizes.
+// The indent of copies without sizes.
 const INDENT: usize = 18;
 
-// The width of the column of sizes, with its spaces; 0 without sizes.
+// 0 without sizes.
 fn size_column(view: &View) -> usize {
     match view.sized {
         Some(Sized { volumes, .. }) => volumes.rounds_width.saturating_add(2),
@@ -28,7 +28,7 @@ fn size_column(view: &View) -> usize {
     }
 }
 
-// A move in the order of the list: by round, by the nodes read, by target. Copies of listed slots are entries of their own.
+// In the list's order: by round, nodes read, target. A copy of listed slots is an entry of its own.
 #[derive(Clone, Copy, PartialEq, Eq, PartialOrd, Ord)]
 struct Placed {
     round: u32,
@@ -65,7 +65,6 @@ fn are_alike(one: &Placed, other: &Placed) -> bool {
     one.round == other.round && one.reads == other.reads && one.to == other.to
 }
 
-// How many moves belong to the first entry.
 fn alike_in_front(order: &[Placed]) -> usize {
     let mut count = 0usize;
     let Some(first) = order.first() else {
@@ -108,7 +107,7 @@ fn push_read(view: &View, out: &mut Words, shown: &Shown) {
     }
 }
 
-// Writes a copy. The first of an entry begins with the nodes.
+// An entry's first copy begins with the nodes.
 fn tell_copy(view: &View, word: &mut Words, shown: &Shown, is_first: bool) {
     word.clear();
     if is_first {
@@ -120,7 +119,6 @@ fn tell_copy(view: &View, word: &mut Words, shown: &Shown, is_first: bool) {
     push_slot(word, shown)
 }
 
-// Writes `and 5 more`.
 fn tell_more(word: &mut Words, count: usize, what: &[u8]) {
     word.clear();
     word.text(b"and ");
@@ -129,7 +127,7 @@ fn tell_more(word: &mut Words, count: usize, what: &[u8]) {
     word.text(what);
 }
 
-// Writes the copies between the same nodes. `word` is a buffer.
+// `word` is a buffer.
 fn push_entry(view: &View, out: &mut Words, flow: &mut Flow, entry: &[Placed], word: &mut Words) {
     let most = match view.shape {
         Shape::Short if entry.len() > ENTRIES => ENTRIES - 1,

@@ -1,4 +1,4 @@
-//! How far a run of a plan has come, in words.
+//! How far a run has come, in words.
 
 use crate::names::push_many;
 use crate::overview::View;
@@ -10,7 +10,6 @@ use ring_names::Slot;
 
 const INDENT: usize = 12;
 
-// Writes what the step does: `mirror 7.0 n13`.
 fn push_step(view: &View, out: &mut Words, number: u32) {
     if number >= view.plan.len() {
         return;
@@ -90,7 +89,7 @@ fn push_open(view: &View, out: &mut Words, progress: &Progress) {
     }
 }
 
-// Writes the first four steps that are ready, and how many more are.
+// Writes the first four ready steps, and how many more there are.
 fn tell_next(view: &View, line: &mut Words, progress: &Progress) {
     line.text(b"  next      ");
     let mut count = 0u32;

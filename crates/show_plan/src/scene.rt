@@ -11,27 +11,26 @@ use ring_names::{Listed, NodeId, Refusal};
 use ring_table::Ring;
 use std::alloc::Global;
 
-/// An approved plan with its moves and rounds, the transfers of each node, and the owners in the end.
+/// An approved plan, with all that is shown of it.
 #[derive(Drop)]
 pub struct Scene {
     pub shown: AllShown,
     /// By step.
     pub rounds: Vec<u32>,
-    /// By round, from 1 on: its copies.
+    /// The copies of each round, from 1 on.
     pub widths: Vec<u32>,
-    /// The nodes that join, in the order of steps.
+    /// In the order of steps.
     pub joins: Vec<u32>,
-    /// The nodes that retire.
     pub leaves: Vec<u32>,
-    /// How many different slots move.
+    /// The different slots that move.
     pub moved_slots: u32,
-    /// The owners in the end, by partition.
+    /// The final owners, by partition.
     pub last_rows: Vec<Listed<NodeId>>,
     pub loads: Loads,
 }
 
 impl Scene {
-    /// What is shown of a plan that the checker accepted. Fails only with `OutOfMemory`.
+    /// Collects what is shown of a plan. Fails only with `OutOfMemory`.
     pub fn of(alloc: Global, approved: &Approved, cert: &Cert) -> Result<Scene, Refusal> {
         let (ring, plan) = (approved.ring(), approved.plan());
         let begun = moves(alloc, ring, plan)?;
@@ -55,7 +54,7 @@ impl Scene {
         })
     }
 
-    /// Returns how many rounds of copies run one after the other.
+    /// Returns how many rounds follow each other.
     pub fn round_count(&self) -> u32 {
         helpers::small(self.widths.len())
     }

@@ -1,4 +1,4 @@
-//! The moves of a plan with their steps.
+//! The moves of a plan, with their steps.
 
 use find_chains::Stays;
 use helpers::{at, row};
@@ -8,7 +8,7 @@ use ring_names::{Refusal, Rows, Slot};
 use ring_table::Ring;
 use std::alloc::Global;
 
-/// A move with its copy and its switch, if the plan has them.
+/// A move with its steps.
 #[derive(Clone, Copy, Debug)]
 pub struct Shown {
     pub slot: Slot,
@@ -21,13 +21,13 @@ pub struct Shown {
     pub round: u32,
     /// The round in which the mirror opens.
     pub opens: u32,
-    /// The row of the nodes that the copy reads.
+    /// The row of the nodes that are read.
     pub reads: Option<usize>,
-    /// Whether the copy reads listed slots instead of the owner.
+    /// Whether the copy reads listed slots, not the owner.
     pub is_listed: bool,
 }
 
-/// The moves in the order of their mirrors, and the nodes that their copies read.
+/// The moves in the order of mirrors, and the nodes that copies read.
 #[derive(Drop)]
 pub struct AllShown {
     pub moves: Vec<Shown>,
@@ -43,7 +43,7 @@ struct Copied<'a> {
 }
 
 impl AllShown {
-    /// Collects the moves with their steps and rounds.
+    /// Collects the moves.
     pub fn of(
         alloc: Global,
         ring: &Ring,
@@ -122,7 +122,7 @@ impl AllShown {
         }
     }
 
-    /// Returns the nodes that the move's copy reads, in the order of the listed slots.
+    /// Returns the nodes that the copy reads, in the order of listed slots.
     pub fn read_by(&self, shown: &Shown) -> &[u32] {
         match shown.reads {
             Some(place) => row(&self.reads, place),
@@ -131,7 +131,7 @@ impl AllShown {
     }
 }
 
-// The slot's open move. Each move begins with a mirror, whose stay comes after those of the ring's owners.
+// A move begins with a mirror, whose stay comes after those of the ring's owners.
 fn open_move(stays: &Stays, owners: usize, slot: Slot) -> Option<usize> {
     stays.mirror_at(slot)?.checked_sub(owners)
 }
@@ -144,7 +144,7 @@ fn push_owner(nodes: &mut Vec<u32>, stays: &Stays, slot: Slot) -> Result<(), Ref
     Ok(())
 }
 
-// The owners of the slots that a copy reads, each once.
+// Lists each node once.
 fn read_nodes(
     alloc: Global,
     stays: &Stays,

@@ -19,7 +19,7 @@ fn silent_by(alloc: Global, present: &Present, is_dead: bool) -> Result<Vec<u32>
     Ok(nodes)
 }
 
-/// Writes which nodes are dead or down, and how many partitions answer without them. There must be such a node.
+/// Writes which nodes are dead or down, and how many partitions still answer. Needs such a node.
 pub fn tell_silent(
     alloc: Global,
     names: NodeNames,
@@ -57,7 +57,7 @@ pub fn tell_silent(
     Ok(())
 }
 
-/// Writes `if one fails`, and the silent nodes besides.
+/// Writes the words, then the silent nodes.
 pub fn push_failing(line: &mut Words, names: NodeNames, present: &Present, words: &[u8]) {
     line.text(words);
     if !present.silent.is_empty() {
@@ -67,7 +67,7 @@ pub fn push_failing(line: &mut Words, names: NodeNames, present: &Present, words
     }
 }
 
-/// Writes a node's name, and why it does not answer: `n07 dead`. Returns the columns used.
+/// Writes `n07`, or `n07 dead`. Returns the columns used.
 pub fn push_node(out: &mut Words, names: NodeNames, present: &Present, node: u32) -> usize {
     let name = names.name(node);
     out.text(name);

@@ -2,7 +2,7 @@
 
 use helpers::Words;
 
-/// The fewest and the most slots of some nodes.
+/// The fewest and the most slots of nodes.
 #[derive(Clone, Copy)]
 pub struct Span {
     least: u32,
@@ -10,7 +10,7 @@ pub struct Span {
 }
 
 impl Span {
-    /// The span of no node.
+    /// Returns the span of no nodes.
     pub fn new() -> Span {
         Span {
             least: u32::MAX,

@@ -1,4 +1,4 @@
-//! The table of the nodes that take part or do not answer.
+//! The table of nodes that take part or do not answer.
 
 use crate::names::{push_many, push_names};
 use crate::overview::{Shape, Sized, View};
@@ -17,20 +17,19 @@ use std::alloc::Global;
 // The most rows of a short table.
 const SHORT: usize = 24;
 
-// The width of the longest bar.
 const BAR: usize = 24;
 
 #[derive(Drop)]
 struct Table {
-    // the nodes of the rows, ascending
+    // ascending
     rows: Vec<u32>,
-    // the nodes that take part without a row
+    // taking part without a row
     hidden: Vec<u32>,
     names: usize,
     at_once: usize,
     // width of a size given or taken
     sizes: usize,
-    // the most slots that a node of a row owns before or after the plan
+    // the most slots of a row's node, before or after
     top: u32,
 }
 
@@ -44,7 +43,7 @@ fn taking_part(view: &View) -> Result<Vec<u32>, Refusal> {
     Ok(nodes)
 }
 
-// The node's rank by its role in the plan. Nodes that do not answer come first.
+// Ranks a role. Silent nodes come first.
 fn kind(view: &View, node: u32) -> usize {
     if view.present.is_silent(node) {
         0
@@ -62,7 +61,7 @@ fn work(scene: &Scene, node: u32) -> u32 {
     gives.saturating_add(at(scene.loads.takes.as_slice(), node as usize))
 }
 
-// The nodes by kind, and in a kind the busiest first.
+// By kind, then the busiest first.
 fn ranked(view: &View, nodes: &[u32]) -> Result<Vec<(usize, u32, u32)>, Refusal> {
     let mut order = Vec::new(view.alloc);
     for node in nodes {
@@ -73,7 +72,7 @@ fn ranked(view: &View, nodes: &[u32]) -> Result<Vec<(usize, u32, u32)>, Refusal>
     Ok(order)
 }
 
-// Takes the kinds in turns: the first of each, then the second of each, and so on.
+// The first node of each kind, then the second, and so on.
 fn in_turns(
     alloc: Global,
     ranked: &[(usize, u32, u32)],
@@ -90,7 +89,6 @@ fn in_turns(
     Ok(turns)
 }
 
-// The first nodes, ascending.
 fn first_of(
     alloc: Global,
     turns: &[(usize, usize, u32)],
@@ -104,7 +102,7 @@ fn first_of(
     Ok(found)
 }
 
-// Chooses the nodes of the rows: the busiest of each kind, in turns.
+// The busiest of each kind.
 fn chosen(view: &View, nodes: &[u32], most: usize) -> Result<Vec<u32>, Refusal> {
     let order = ranked(view, nodes)?;
     let turns = in_turns(view.alloc, order.as_slice())?;
@@ -193,7 +191,7 @@ impl Table {
         line.clear();
     }
 
-    // Writes a bar of slots: `=` for kept, `-` for given and `+` for taken.
+    // Writes `=` for kept slots, `-` for given, `+` for taken.
     fn push_bar(&self, line: &mut Words, before: u32, after: u32) {
         let room = WIDTH.saturating_sub(columns(line.as_slice())).min(BAR);
         let scale = small(room).min(self.top);
@@ -267,7 +265,7 @@ impl Table {
     }
 }
 
-// Writes the node's slots before the first step and after the last.
+// Writes the slots before and after the plan.
 fn push_two(view: &View, line: &mut Words, node: u32) {
     let (loads, place) = (&view.scene.loads, node as usize);
     push_spaces(line, 3);
@@ -280,7 +278,7 @@ fn push_two(view: &View, line: &mut Words, node: u32) {
     line.byte(b' ');
 }
 
-// Writes the node's slots before the first step, now, and after the last step.
+// Writes the slots before, now and after.
 fn push_three(view: &View, line: &mut Words, node: u32) {
     let (loads, place) = (&view.scene.loads, node as usize);
     push_spaces(line, 2);
@@ -296,7 +294,7 @@ fn push_three(view: &View, line: &mut Words, node: u32) {
     push_spaces(line, 2)
 }
 
-// Writes the most transfers of the node at once, or a point. Returns the bytes used.
+// Writes a point for none. Returns the bytes used.
 fn push_at_once(view: &View, line: &mut Words, node: u32) -> usize {
     let begin = line.len();
     if let Some(Node { allowance, .. }) = view.ring.nodes().get(node as usize) {
@@ -317,7 +315,7 @@ fn sign(view: &View, node: u32) -> u8 {
     }
 }
 
-// Writes a number, or a point for 0.
+// Writes a point for 0.
 fn push_count(line: &mut Words, count: u32) {
     if count == 0 {
         return push_right(line, b".", 5);
@@ -346,8 +344,9 @@ fn push_idle(view: &View, out: &mut Words) -> Result<(), Refusal> {
     Ok(())
 }
 
-/// Writes the table of nodes that take part or do not answer: transfers at once, moves, and slots before, now and in
-/// the end. `line` is a buffer.
+/// Writes the table. `line` is a buffer.
+///
+/// Columns are transfers at once, moves, and slots before, now and in the end.
 pub fn push_table(view: &View, out: &mut Words, line: &mut Words) -> Result<(), Refusal> {
     let mut table = Table::of(view)?;
     table.measure(view, line);

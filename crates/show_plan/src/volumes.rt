@@ -13,9 +13,9 @@ use std::alloc::Global;
 /// How much a history leaves to move.
 #[derive(Clone, Copy, Debug)]
 pub struct Left {
-    /// What unfinished copies have to move, without their copied chunks.
+    /// What unfinished copies still have to move, without copied chunks.
     pub moved: u64,
-    /// The most that such copies move on one path of dependencies.
+    /// The most of that on one path of dependencies.
     pub longest: u64,
 }
 
@@ -24,24 +24,24 @@ pub struct Left {
 pub struct Volumes {
     /// The sum of all moves.
     pub moved: u64,
-    /// By node, what copies read from it. A copy of listed slots reads the whole partition from each.
+    /// By node. A copy of listed slots reads the whole partition from each owner.
     pub gives: Vec<u64>,
-    /// By node, what copies write to it.
+    /// By node.
     pub takes: Vec<u64>,
-    /// By round, from 1 on, what its copies move.
+    /// By round, from 1 on.
     pub rounds: Vec<u64>,
     /// The width of a column of these numbers.
     pub rounds_width: usize,
-    /// The most that copies move on one path of dependencies. One transfer must copy that much before the plan can end.
+    /// The most that copies move on one path of dependencies. The plan cannot end before one transfer copies that much.
     ///
     /// Allowances give no better bound: they are chains of copies, which depend on each other.
     pub longest: u64,
-    /// What remains, if a history is known.
+    /// What remains after the history.
     pub left: Option<Left>,
 }
 
 impl Volumes {
-    /// Measures the plan by the sizes of partitions, and what the progress leaves. Fails only with `OutOfMemory`.
+    /// Measures the plan, and what remains. Fails only with `OutOfMemory`.
     pub fn of(
         alloc: Global,
         ring: &Ring,
@@ -82,7 +82,7 @@ impl Volumes {
         }
     }
 
-    /// Returns the least seconds until the plan can end, given what a transfer copies in a second, from 1 on.
+    /// Returns the seconds until the plan can end, at `rate` a second for a transfer, from 1 on.
     pub fn earliest_end(&self, rate: u32) -> u64 {
         let rate = u64::from(rate);
         let longest = match &self.left {
@@ -99,7 +99,7 @@ fn add(words: &mut [u64], place: usize, size: u64) {
     set_word(words, place, sum);
 }
 
-// What remains of a copy: its chunks that are not copied, also after an abort.
+// Copied chunks do not count, even after an abort.
 fn rest_of(size: u64, number: u32, progress: Option<&Progress>) -> u64 {
     let Some(progress) = progress else {
         return size;
@@ -134,7 +134,7 @@ fn left_of(
     })
 }
 
-// The greatest remaining sum of copies on a path of dependencies.
+// The most that remains on a path of dependencies.
 fn longest(
     alloc: Global,
     plan: &Plan,
@@ -157,7 +157,7 @@ fn longest(
     Ok(most)
 }
 
-/// Returns how much each node stores, given owners and sizes.
+/// Returns how much each node stores.
 pub fn stored(
     alloc: Global,
     nodes: usize,

@@ -5,7 +5,7 @@ use helpers::Words;
 /// The widest line, in characters.
 pub const WIDTH: usize = 100;
 
-// The digits of the lower part of a long number.
+// A long number's lower digits.
 const LOW_DIGITS: usize = 9;
 
 /// Returns the columns of a text: one for each character.
@@ -19,7 +19,6 @@ pub fn columns(text: &[u8]) -> usize {
     count
 }
 
-// Whether the byte continues a character of UTF-8.
 fn is_further(byte: u8) -> bool {
     matches!(byte, 0x80..=0xbf)
 }
@@ -29,7 +28,7 @@ pub fn push_spaces(out: &mut Words, count: usize) {
     push_times(out, b' ', count)
 }
 
-/// Writes the byte several times.
+/// Writes the byte `count` times.
 pub fn push_times(out: &mut Words, byte: u8, count: usize) {
     for place in 0..count {
         out.byte(byte);
@@ -87,7 +86,7 @@ fn halves(number: u64) -> (u32, u32) {
     (high, low)
 }
 
-/// Writes the number, which is below 4,294,967,295 times 1,000,000,000.
+/// Writes a number below 4,294,967,295 times 1,000,000,000.
 pub fn push_long(out: &mut Words, number: u64) {
     let (high, low) = halves(number);
     if high > 0 {
@@ -97,7 +96,7 @@ pub fn push_long(out: &mut Words, number: u64) {
     out.number(low);
 }
 
-// Writes a number below 100 with two digits: `05`.
+// Writes a number below 100 as `05`.
 fn push_two_digits(out: &mut Words, number: u64) {
     if number < 10 {
         out.byte(b'0');
@@ -105,7 +104,7 @@ fn push_two_digits(out: &mut Words, number: u64) {
     push_long(out, number);
 }
 
-/// Writes a time: `90 s`, from two minutes on `3 min 56 s`, from an hour on `2 h 05 min`, rounded down.
+/// Writes `90 s`, from two minutes `3 min 56 s`, from an hour `2 h 05 min`, rounded down.
 pub fn push_time(out: &mut Words, seconds: u64) {
     if seconds < 120 {
         push_long(out, seconds);
@@ -125,10 +124,10 @@ pub fn push_time(out: &mut Words, seconds: u64) {
     out.text(b" min")
 }
 
-// The letters of thousands, millions and so on.
+// Thousands, millions and so on.
 const LETTERS: [&[u8]; 6] = [b" k", b" M", b" G", b" T", b" P", b" E"];
 
-/// Writes a number in few digits, rounded down: `9999`, `12.3 k`, `8.5 G`. Each letter is a thousand times the last.
+/// Writes `9999`, `12.3 k` or `8.5 G`, rounded down.
 pub fn push_short(out: &mut Words, number: u64) {
     if number < 10_000 {
         return push_long(out, number);
@@ -157,7 +156,7 @@ pub fn push_long_right(out: &mut Words, number: u64, width: usize) {
     push_long(out, number);
 }
 
-/// Returns the width of a column of these numbers, at least `least`.
+/// Returns the width of a column, at least `least`.
 pub fn width_of(numbers: &[u64], least: usize) -> usize {
     let mut width = least;
     for number in numbers {
@@ -173,7 +172,7 @@ pub fn push_tenths(out: &mut Words, tenths: u32) {
     out.number(tenths % 10);
 }
 
-// The last space with something before it and at most `room` characters.
+// The last space after a word, within `room` characters.
 fn last_space(line: &[u8], room: usize) -> Option<usize> {
     let mut found = None;
     let mut has_word = false;
@@ -192,7 +191,7 @@ fn last_space(line: &[u8], room: usize) -> Option<usize> {
     found
 }
 
-// Writes a line, broken at spaces if too wide. Further lines are indented.
+// Breaks a wide line at spaces and indents the rest.
 fn push_line(out: &mut Words, line: &[u8], indent: usize) {
     let mut rest = line;
     let mut room = WIDTH;
@@ -214,7 +213,7 @@ fn push_line(out: &mut Words, line: &[u8], indent: usize) {
     out.byte(b'\n');
 }
 
-/// Writes and empties the line, broken at spaces if too wide. Further lines are indented.
+/// Writes and empties the line. Breaks a wide line at spaces, and indents the rest.
 pub fn end_line(out: &mut Words, line: &mut Words, indent: usize) {
     push_line(out, line.as_slice(), indent);
     line.clear();
