@@ -1,14 +1,14 @@
-//! Rows for many rounds or many nodes: one for each of the busiest nodes, and one for the others of each kind.
+//! Rows for many nodes: the busiest have their own, the rest of each kind share one.
 
 use crate::order::{KINDS, kind};
 use crate::sheet::Sheet;
 use helpers::{at, small};
 use ring_names::Refusal;
 
-// The most nodes with a row of their own.
+// The most nodes with their own row.
 const NAMED: usize = 27;
 
-/// The row of a node, or of several nodes with one kind.
+/// A row for one node, or for several nodes of one kind.
 #[derive(Clone, Copy)]
 pub struct Band {
     pub node: Option<u32>,
@@ -16,7 +16,7 @@ pub struct Band {
     pub count: u32,
 }
 
-/// The rows, and the row of each node.
+/// The rows, and each node's row.
 #[derive(Drop)]
 pub struct Bands {
     pub bands: Vec<Band>,
@@ -24,7 +24,7 @@ pub struct Bands {
     rows: Vec<u32>,
 }
 
-// How many nodes of each kind get a row, chosen in turns.
+// Kinds take turns.
 fn rooms(sheet: &Sheet, nodes: &[u32]) -> [usize; KINDS] {
     let mut counts = [0usize; KINDS];
     for node in nodes {
@@ -71,7 +71,6 @@ impl Bands {
         Ok(bands)
     }
 
-    // Gives the node a row of its own, or the last one.
     fn add(&mut self, node: u32, kind: u32, is_named: bool, is_first: bool) -> Result<(), Refusal> {
         if is_named || is_first {
             self.bands.push(Band {
@@ -100,7 +99,7 @@ impl Bands {
         false
     }
 
-    /// Returns the row of the node.
+    /// Returns the node's row.
     pub fn row(&self, node: u32) -> Option<usize> {
         match at(self.rows.as_slice(), node as usize) {
             0 => None,

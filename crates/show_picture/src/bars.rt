@@ -8,17 +8,16 @@ use crate::svg::{Area, Point, push_area, push_titled};
 use helpers::{Words, small};
 use show_plan::Shown;
 
-// The classes of words on a filled bar and on a bare one.
+// For words on a filled bar, and on a bare bar.
 const LIGHT: &[u8] = b"b on";
 
 const DARK: &[u8] = b"b";
 
 const ROUND: &[u8] = b" rx=\"3\"";
 
-// How much narrower the words of a bar are than the bar.
+// The pixels of a bar that words leave free.
 const RIM: u32 = 2;
 
-// Writes `5.1`.
 fn slot_word(sheet: &Sheet, shown: &Shown) -> Words {
     let mut word = Words::new(sheet.alloc);
     word.number(shown.slot.partition);
@@ -47,7 +46,7 @@ fn whole_words(sheet: &Sheet, shown: &Shown, takes: bool) -> Words {
     words
 }
 
-// The words of a bar, by room: slot and other node, only the slot, or only the partition.
+// By room: slot and other node, only the slot, or only the partition.
 fn label(sheet: &Sheet, shown: &Shown, takes: bool, room: u32) -> Words {
     let whole = whole_words(sheet, shown, takes);
     if can_fit(whole.as_slice(), room) {
@@ -62,7 +61,7 @@ fn label(sheet: &Sheet, shown: &Shown, takes: bool, room: u32) -> Words {
     partition
 }
 
-/// Whether a bar of this width has room for the number of each moving partition.
+/// Whether such a bar fits each moving partition's number.
 pub fn have_room(sheet: &Sheet, wide: u32) -> bool {
     let mut most = 0u32;
     for shown in sheet.scene.shown.moves.as_slice() {
@@ -95,7 +94,7 @@ fn title(sheet: &Sheet, shown: &Shown) -> Words {
 
 /// Writes the bar of a copy at one of its nodes.
 ///
-/// It is bare while the copy is open, with a part for the marked chunks, and if the copy is left out.
+/// A copy that is open or still to do is bare. An open bar has a part for the copied chunks.
 pub fn push_bar(sheet: &Sheet, out: &mut Words, area: Area, shown: &Shown, takes: bool) {
     let (fill, outline) = if takes {
         (TAKE, b"bare taker".as_slice())

@@ -1,4 +1,4 @@
-//! The cells of a map: how many slots of a row's partitions the nodes of a column own, before and after the plan.
+//! The cells of a map: slots of a row's partitions that a column's nodes own.
 
 use crate::columns::Columns;
 use crate::sheet::Sheet;
@@ -11,29 +11,29 @@ const MOST: u32 = 128;
 /// The number of marks.
 pub const MARKS: usize = 5;
 
-/// Slots that the node owns before and after.
+/// Slots owned before and after.
 pub const KEPT: usize = 0;
 
-/// Slots that it gives, and with a history still owns.
+/// Slots to give. With a history, those still owned.
 pub const GIVEN: usize = 1;
 
-/// Slots that it gave.
+/// Slots already given.
 pub const GONE: usize = 2;
 
-/// Slots that it takes, and with a history owns already.
+/// Slots to take. With a history, those already owned.
 pub const TAKEN: usize = 3;
 
-/// Slots that it is still to take.
+/// Slots still to take.
 pub const DUE: usize = 4;
 
-/// By cell, its slots of each mark.
+/// The slots of each mark, by cell.
 #[derive(Drop)]
 pub struct Cells {
     /// The partitions of a row.
     pub shared: u32,
     pub rows: usize,
     columns: usize,
-    // by mark, then by row, then by column
+    // by mark, then row, then column
     counts: Vec<u32>,
 }
 
@@ -71,7 +71,7 @@ impl Cells {
             .saturating_add(column)
     }
 
-    /// Returns the slots of the mark in the cell.
+    /// Returns the cell's slots of the mark.
     pub fn at(&self, mark: usize, row: usize, column: usize) -> u32 {
         at(self.counts.as_slice(), self.place(mark, row, column))
     }
@@ -143,7 +143,7 @@ fn owners_of<'a>(sheet: &Sheet<'a>, partition: u32, time: Time) -> &'a [NodeId] 
     }
 }
 
-/// By number of slots, at most 7, how many partitions have so many slots at joiners in the end.
+/// Counts partitions by the slots that joiners own in the end, at most 7.
 pub fn joined(sheet: &Sheet) -> [u32; 8] {
     let mut counts = [0u32; 8];
     for row in sheet.scene.last_rows.as_slice() {

@@ -1,4 +1,4 @@
-//! The columns of a map: one for each node, or for several.
+//! The columns of a map.
 
 use crate::sheet::Sheet;
 use helpers::{Labels, at, small};
@@ -7,13 +7,13 @@ use ring_names::{NodeId, Refusal};
 // The most columns of a map.
 const MOST: usize = 60;
 
-/// The column of one node, or of several in one rack, or in none if racks are not asked for.
+/// A column of one node, or of several. Grouped by racks, all are in one rack.
 #[derive(Clone, Copy)]
 pub struct Column {
     /// The first of its nodes.
     pub node: u32,
     pub count: u32,
-    /// The rack's number; 0 if racks are not asked for.
+    /// 0 without racks.
     pub rack: u32,
     pub is_joining: bool,
 }
@@ -22,9 +22,7 @@ pub struct Column {
 #[derive(Drop)]
 pub struct Columns<'a> {
     pub columns: Vec<Column>,
-    /// Which nodes share a column.
     pub sharing: Sharing,
-    /// The racks of nodes, if the map is grouped by them.
     pub racks: Option<&'a Labels>,
     // by node, 1 plus its column, or 0
     places: Vec<u32>,
@@ -34,13 +32,13 @@ pub struct Columns<'a> {
 #[derive(Clone, Copy, Debug, PartialEq, Eq)]
 pub enum Sharing {
     Nobody,
-    /// Those of a rack, joiners apart.
+    /// The nodes of a rack, joiners apart.
     Racks,
-    /// Up to this many, joiners apart.
+    /// Up to this many nodes, joiners apart.
     Counts(u32),
 }
 
-// A node in the order of columns: by rack, joiners of a rack last. If nodes share columns by number, all joiners are last.
+// By rack, its joiners last. If nodes share columns by number, all joiners are last.
 #[derive(Clone, Copy, PartialEq, Eq, PartialOrd, Ord)]
 struct Placed {
     is_last: bool,
@@ -70,7 +68,7 @@ fn place_nodes(sheet: &Sheet, racks: Option<&Labels>) -> Result<Vec<Placed>, Ref
     Ok(placed)
 }
 
-// Counts the racks, those with joiners twice.
+// Racks with joiners count twice.
 fn count_racks(placed: &[Placed]) -> usize {
     let mut count = 0usize;
     let mut last = None;
@@ -83,7 +81,6 @@ fn count_racks(placed: &[Placed]) -> usize {
     count
 }
 
-// Chooses which nodes share a column, so that there are few enough.
 fn choose_sharing(placed: &[Placed], has_racks: bool) -> Sharing {
     if placed.len() <= MOST {
         return Sharing::Nobody;
@@ -96,8 +93,9 @@ fn choose_sharing(placed: &[Placed], has_racks: bool) -> Sharing {
 }
 
 impl<'a> Columns<'a> {
-    /// Makes a column for each node, if at most 60. Otherwise a column has a rack, if racks are asked for and few
-    /// enough, or several nodes; joiners are apart.
+    /// Makes a column for each of at most 60 nodes.
+    ///
+    /// For more nodes a column has a rack, if racks are asked for and few enough, or several nodes. Joiners are apart.
     pub fn of(sheet: &Sheet, racks: Option<&'a Labels>) -> Result<Columns<'a>, Refusal> {
         let mut placed = place_nodes(sheet, racks)?;
         let sharing = choose_sharing(placed.as_slice(), racks.is_some());
@@ -121,7 +119,6 @@ impl<'a> Columns<'a> {
         Ok(columns)
     }
 
-    // Gives the node a column of its own, or the last one.
     fn add(&mut self, one: &Placed) -> Result<(), Refusal> {
         if !self.last_takes(one) {
             self.columns.push(Column {
@@ -152,7 +149,7 @@ impl<'a> Columns<'a> {
         }
     }
 
-    /// Returns the column of the node.
+    /// Returns the node's column.
     pub fn column(&self, node: u32) -> Option<usize> {
         match at(self.places.as_slice(), node as usize) {
             0 => None,

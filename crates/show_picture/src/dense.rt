@@ -1,4 +1,4 @@
-//! A picture of many rounds or many nodes: columns of several rounds each, rows for the busiest nodes, and sums of the others.
+//! A picture with sums: columns of several rounds, rows for the busiest nodes and for the rest.
 
 use crate::bands::{Band, Bands};
 use crate::fitting::{Look, push_fitting};
@@ -16,10 +16,9 @@ use helpers::{Words, at, parts_of, raise, small};
 use ring_names::Refusal;
 use show_plan::{Shown, push_many};
 
-// The most columns.
 const COLUMNS: u32 = 60;
 
-// The bars of all copies: their top and height. Then the first row's top.
+// Top and height of the bars of all copies. Then the first row's top.
 const TOP: u32 = 96;
 
 const ALL: u32 = 74;
@@ -33,15 +32,14 @@ const AT_ONCE: u32 = 118;
 
 const PANEL: u32 = GAP + AT_ONCE + SLOTS + MARGIN;
 
-// The least and the greatest width of the words before the rows.
+// The least and the greatest width before the rows.
 const NARROW: u32 = 90;
 
 const BROAD: u32 = 160;
 
-// By row and column, the copies taken and given, and how many are done.
+// Copies by row and column.
 #[derive(Drop)]
 struct Tally {
-    // the rounds of a column, and the number of columns
     rounds: u32,
     columns: usize,
     takes: Vec<u32>,
@@ -119,7 +117,7 @@ impl Tally {
         }
     }
 
-    // The most copies in a cell of a named or of a summed row, at least 1.
+    // The most copies in a cell of a named or a summed row, at least 1.
     fn most(&self, bands: &Bands, is_named: bool) -> u32 {
         let mut most = 1u32;
         let mut row = 0usize;
@@ -144,13 +142,12 @@ struct Grid {
     right: u32,
     row: u32,
     bottom: u32,
-    // the copies at full height in a named row, and in a summed one, if any
+    // the copies at full height: in a named row, and in a summed row, or 0
     scale: u32,
     sum_scale: u32,
     most: u32,
 }
 
-// The sign before the name of a node of the kind.
 fn sign(kind: u32) -> &'static [u8] {
     match kind {
         0 => b"x ",
@@ -271,7 +268,7 @@ impl Grid {
         )
     }
 
-    // Writes the first rounds of columns, and the heads at the right.
+    // Writes each column's first round, and the heads at the right.
     fn push_heads(&self, sheet: &Sheet, out: &mut Words, tally: &Tally) {
         let every = (tally.columns / 12).max(1);
         for column in 0..tally.columns {
@@ -324,7 +321,6 @@ impl Grid {
         push_slots(sheet, out, node, owned, self.most)
     }
 
-    // Writes a node's most transfers at once, and below how much it gives and takes.
     fn push_work(&self, sheet: &Sheet, out: &mut Words, node: u32, y: u32) {
         let look = Look::new(b"k", 10, b"");
         let x = self.right.saturating_add(GAP);
@@ -339,7 +335,7 @@ impl Grid {
         }
     }
 
-    // Writes the bars of a row: takes upwards, gives downwards.
+    // Takes go upwards, gives downwards.
     fn push_bars(&self, sheet: &Sheet, out: &mut Words, tally: &Tally, numbered: (usize, &Band)) {
         let (number, band) = numbered;
         let scale = if band.node.is_some() {
@@ -364,7 +360,7 @@ impl Grid {
         }
     }
 
-    // Writes the notes below the rows. Returns the picture's height.
+    // Returns the picture's height.
     fn push_notes(&self, sheet: &Sheet, out: &mut Words, tally: &Tally) -> u32 {
         let y = self.bottom.saturating_add(24);
         let next = push_key(out, Point::at(self.left, y), TAKE, b"", b"takes, upwards");
@@ -398,7 +394,7 @@ impl Grid {
     }
 }
 
-// A bar upwards or downwards from the middle of a row.
+// A bar up or down from the middle of a row.
 #[derive(Clone, Copy)]
 struct Bar {
     x: u32,
@@ -408,7 +404,6 @@ struct Bar {
 }
 
 impl Bar {
-    // Writes a bar for copies, some of them done; nothing for none.
     fn push(&self, sheet: &Sheet, out: &mut Words, counts: (u32, u32), is_upwards: bool) {
         let (count, done) = counts;
         if count == 0 {
@@ -436,7 +431,6 @@ impl Bar {
     }
 }
 
-// Writes `rounds 1 to 4: copies 12`.
 fn rounds_words(sheet: &Sheet, tally: &Tally, column: usize, what: &[u8], count: u32) -> Words {
     let first = small(column).saturating_mul(tally.rounds);
     let mut words = Words::new(sheet.alloc);

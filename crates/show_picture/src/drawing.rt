@@ -12,10 +12,12 @@ const ROUNDS: u32 = 40;
 
 const LANES: u32 = 90;
 
-/// Draws a plan, and how far a run has come, as SVG. The same plan has the same bytes. Fails only with `OutOfMemory`.
+/// Draws a plan, and how far a run has come, as SVG.
 ///
-/// Shows every copy up to 40 rounds and 90 lanes, if each bar has room for its partition's number. Otherwise shows
-/// sums, in at most 60 columns and 31 rows.
+/// The same plan has the same bytes. Fails only with `OutOfMemory`.
+///
+/// Shows every copy up to 40 rounds and 90 lanes, if each bar fits its partition's number. Otherwise shows sums, in at
+/// most 60 columns and 31 rows.
 pub fn picture(sheet: &Sheet) -> Result<Vec<u8>, Refusal> {
     let nodes = in_order(sheet)?;
     if sheet.scene.round_count() > ROUNDS || nodes.len() > LANES as usize {

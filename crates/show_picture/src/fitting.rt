@@ -4,10 +4,10 @@ use crate::svg::{Point, push_begin, push_escaped, push_measure};
 use crate::widths::width;
 use helpers::Words;
 
-// The least size of words, in pixels.
+// In pixels.
 const LEAST: u32 = 10;
 
-/// The class of words, their font size, and further attributes, each after a space.
+/// A class, a font size, and more attributes, each after a space.
 #[derive(Clone, Copy)]
 pub struct Look<'a> {
     pub class: &'a [u8],
@@ -16,13 +16,13 @@ pub struct Look<'a> {
 }
 
 impl<'a> Look<'a> {
-    /// Words of the class and size, with attributes.
+    /// Returns the look.
     pub fn new(class: &'a [u8], size: u32, more: &'a [u8]) -> Look<'a> {
         Look { class, size, more }
     }
 }
 
-// The greatest size from 10 pixels on in which the words fit.
+// From 10 pixels on.
 fn size_for(look: Look, words: &[u8], room: u32) -> Option<u32> {
     let mut found = None;
     for size in LEAST..look.size.saturating_add(1) {
@@ -39,7 +39,7 @@ fn push_size(out: &mut Words, size: u32) {
     out.text(b"px\"");
 }
 
-/// Writes words into a room: in their own size, in a smaller one from 10 pixels on, or narrowed.
+/// Writes words into a room: if need be smaller, down to 10 pixels, or narrowed.
 pub fn push_fitting(out: &mut Words, at: Point, look: Look, words: &Words, room: u32) {
     push_begin(out, at);
     out.text(b" class=\"");
@@ -65,7 +65,7 @@ fn push_narrow(out: &mut Words, size: u32, room: u32) {
     out.text(b" lengthAdjust=\"spacingAndGlyphs\"");
 }
 
-/// Whether the words fit at their least size, narrowed by at most a fifth.
+/// Whether the words fit at the least size, narrowed by at most a fifth.
 pub fn can_fit(words: &[u8], room: u32) -> bool {
     width(words, LEAST).saturating_mul(4) <= room.saturating_mul(5)
 }

@@ -1,4 +1,4 @@
-//! The frame around the rows of a picture.
+//! The frame around a picture's rows.
 
 use crate::fitting::{Look, push_fitting};
 use crate::sheet::Sheet;
@@ -11,7 +11,7 @@ use show_plan::{
     fewest_moves, push_change, push_many, push_moves, push_names, push_quorum, push_short,
 };
 
-// The width of the bar of progress.
+// The width of the progress bar.
 const BAR: u32 = 210;
 
 /// The greatest width of words.
@@ -38,7 +38,7 @@ fn tell_ring(sheet: &Sheet, out: &mut Words) {
     }
 }
 
-/// Returns the title of a picture, and the words below.
+/// Returns the title, and the words below.
 pub fn caption_of(sheet: &Sheet) -> Caption {
     let mut caption = Caption {
         title: Words::new(sheet.alloc),
@@ -49,7 +49,7 @@ pub fn caption_of(sheet: &Sheet) -> Caption {
     caption
 }
 
-/// Writes the title, the words below, and how many steps are done.
+/// Writes the title, the words below, and the progress.
 pub fn push_frame(sheet: &Sheet, out: &mut Words, caption: &Caption) {
     // Bold words are wider by about an eighth.
     let title = Look::new(b"t", 19, b"");
@@ -66,7 +66,6 @@ pub fn push_frame(sheet: &Sheet, out: &mut Words, caption: &Caption) {
     push_progress(sheet, out)
 }
 
-// Writes how much moves or remains, if partitions have sizes.
 fn push_sizes(sheet: &Sheet, out: &mut Words) {
     let Some(volumes) = sheet.volumes else {
         return;
@@ -111,7 +110,7 @@ fn push_progress(sheet: &Sheet, out: &mut Words) {
     push_said(out, right, b" class=\"s\" text-anchor=\"end\"", &words)
 }
 
-/// Writes a patch of the class with its meaning. Returns the place for the next.
+/// Writes a patch with its meaning. Returns the next patch's place.
 pub fn push_key(out: &mut Words, at: Point, class: &[u8], more: &[u8], words: &[u8]) -> Point {
     let patch = Area {
         x: at.x,
@@ -125,7 +124,7 @@ pub fn push_key(out: &mut Words, at: Point, class: &[u8], more: &[u8], words: &[
     Point::at(x.saturating_add(width(words, 11)).saturating_add(20), at.y)
 }
 
-/// Returns the class of a node's name. Colour and weight show the role; nodes that do not answer are crossed out.
+/// Returns the class of a node's name. Colour and weight show the role; silent nodes are crossed out.
 pub fn name_class(sheet: &Sheet, node: u32) -> &'static [u8] {
     match (sheet.is_silent(node), sheet.leaves(node), sheet.joins(node)) {
         (false, true, _) => b"n leaves",
@@ -137,7 +136,7 @@ pub fn name_class(sheet: &Sheet, node: u32) -> &'static [u8] {
     }
 }
 
-/// Writes the name of a node, ending at the place.
+/// Writes a node's name, ending at the place.
 pub fn push_name(sheet: &Sheet, out: &mut Words, at: Point, node: u32, room: u32) {
     let look = Look::new(name_class(sheet, node), 12, b" text-anchor=\"end\"");
     let mut words = Words::new(sheet.alloc);
@@ -151,7 +150,7 @@ pub fn push_name(sheet: &Sheet, out: &mut Words, at: Point, node: u32, room: u32
     push_fitting(out, at, look, &words, room)
 }
 
-/// Writes the members that do nothing, if any.
+/// Writes which members do nothing.
 pub fn push_idle(sheet: &Sheet, out: &mut Words, at: Point) -> Result<(), Refusal> {
     let mut idle = Vec::new(sheet.alloc);
     for node in 0..small(sheet.ring.nodes().len()) {

@@ -1,4 +1,4 @@
-//! A picture with every copy: rows for nodes, columns for rounds, and a bar for each copy of a node.
+//! A picture with every copy.
 
 use crate::bars::{have_room, push_bar};
 use crate::fitting::{Look, push_fitting};
@@ -16,7 +16,7 @@ use helpers::Words;
 use ring_names::Refusal;
 use show_plan::Shown;
 
-// The height of a lane, and the least of a row.
+// The height of a lane, and the least height of a row.
 const LANE: u32 = 19;
 
 const ROW: u32 = 44;
@@ -29,7 +29,7 @@ const TOP: u32 = 112;
 
 const GAP: u32 = 16;
 
-// The least and the greatest width of the words before the rows.
+// The least and the greatest width before the rows.
 const NARROW: u32 = 100;
 
 const BROAD: u32 = 190;
@@ -42,7 +42,7 @@ struct Row {
     lanes: u32,
 }
 
-/// The places of the rows and columns.
+/// The places of rows and columns.
 #[derive(Drop)]
 pub struct Plot {
     rows: Vec<Row>,
@@ -148,7 +148,6 @@ impl Plot {
         push_rule(out, from, Point::at(self.right, line))
     }
 
-    // Writes a node's name, role, most transfers at once, and sizes.
     fn push_role(&self, sheet: &Sheet, out: &mut Words, node: u32, middle: u32) {
         let (role, at_once, sizes) = sides_of(sheet, node);
         let first = match count_said(&role, &at_once, &sizes) {
@@ -164,7 +163,7 @@ impl Plot {
         let _ = self.push_side(out, y, &sizes);
     }
 
-    // Writes small words before a row, if any. Returns the next place.
+    // Returns the next place.
     fn push_side(&self, out: &mut Words, y: u32, words: &Words) -> u32 {
         out.heed(words);
         if words.len() == 0 {
@@ -177,7 +176,6 @@ impl Plot {
         y.saturating_add(12)
     }
 
-    // The bar of a copy in a row's lane.
     fn area(&self, row: &Row, round: u32, lane: u32) -> Area {
         let spare = row.height.saturating_sub(row.lanes.saturating_mul(LANE)) / 2;
         Area {
@@ -192,7 +190,7 @@ impl Plot {
         }
     }
 
-    // Writes the notes below the rows. Returns the picture's height.
+    // Returns the picture's height.
     fn push_notes(&self, sheet: &Sheet, out: &mut Words) -> Result<u32, Refusal> {
         let y = self.bottom.saturating_add(18);
         let start = Point::at(self.left, y);
@@ -220,7 +218,6 @@ const LINES: [&[u8]; 2] = [
     b"a copy begins as soon as the steps are done that it waits for.",
 ];
 
-// Writes what the bars mean in a run.
 fn push_done_keys(out: &mut Words, start: Point) {
     let round = b" rx=\"2\"";
     let next = push_key(out, start, SOME, round, b"copied");
@@ -228,7 +225,6 @@ fn push_done_keys(out: &mut Words, start: Point) {
     push_key(out, next, b"bare edge", round, b"still to do");
 }
 
-// Writes what the bars mean in a plan without a run.
 fn push_plan_keys(out: &mut Words, start: Point) {
     let round = b" rx=\"2\"";
     let next = push_key(out, start, GIVE, round, b"gives a slot");
@@ -260,7 +256,6 @@ fn count_said(role: &Words, at_once: &Words, sizes: &Words) -> u32 {
         .saturating_add(u32::from(sizes.len() > 0))
 }
 
-// Writes `joins`, or `down, leaves, never more than`.
 fn role_of(sheet: &Sheet, node: u32, has_bound: bool) -> Words {
     let parts = [
         (sheet.is_silent(node), sheet.present.silence(node)),
@@ -280,7 +275,6 @@ fn role_of(sheet: &Sheet, node: u32, has_bound: bool) -> Words {
     words
 }
 
-// Writes the bars of a copy, one for each of its nodes.
 fn push_copy(sheet: &Sheet, out: &mut Words, plot: &Plot, lanes: &mut Lanes, shown: &Shown) {
     push_part(sheet, out, plot, lanes, (shown, shown.to));
     for node in sheet.scene.shown.read_by(shown) {

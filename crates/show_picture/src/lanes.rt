@@ -5,7 +5,7 @@ use helpers::{at, raise};
 use ring_names::Refusal;
 use show_plan::Shown;
 
-/// By row and round, the copies counted so far.
+/// The copies counted so far, by row and round.
 #[derive(Drop)]
 pub struct Lanes {
     // by row, then by round
@@ -47,7 +47,7 @@ impl Lanes {
             .saturating_add(round as usize)
     }
 
-    /// Counts a copy of a row and a round. Returns its lane: the count before.
+    /// Counts a copy. Returns its lane: the count before.
     pub fn take(&mut self, row: usize, round: u32) -> u32 {
         let place = self.place(row, round);
         let lane = at(self.busy.as_slice(), place);

@@ -1,4 +1,4 @@
-//! A map of owners: rows for partitions, columns for nodes, and cells for the slots owned before or after the plan.
+//! A map of owners: a row for partitions, a column for nodes.
 
 use crate::cells::{Cells, DUE, GIVEN, GONE, KEPT, MARKS, TAKEN, joined};
 use crate::columns::{Column, Columns, Sharing};
@@ -11,13 +11,12 @@ use helpers::{Labels, Words, at, parts_of, small};
 use ring_names::Refusal;
 use show_plan::push_many;
 
-// The place of rack names; the names of columns begin below.
+// The place of rack names. Columns' names begin below.
 const HEAD: u32 = 98;
 
-// The room for the names of columns.
+// The room for columns' names.
 const NAMES: u32 = 120;
 
-// The greatest width of a column, and the place of the first.
 const WIDEST: u32 = 58;
 
 // Narrower columns have small names.
@@ -98,7 +97,6 @@ impl Grid {
         push_area(out, ground, class, b"")
     }
 
-    // Writes a column's name upwards.
     fn push_label(&self, sheet: &Sheet, out: &mut Words, place: usize, named: (&Column, &Words)) {
         let (column, words) = named;
         let is_small = self.column < NARROW;
@@ -118,7 +116,7 @@ impl Grid {
         push_fitting(out, Point::at(x, y), look, words, NAMES / 9 * 8)
     }
 
-    // Writes the columns, and the name of each rack over its first.
+    // A rack's name is over its first column.
     fn push_columns(&self, sheet: &Sheet, out: &mut Words, columns: &Columns) {
         let mut place = 0usize;
         let mut last = None;
@@ -151,7 +149,7 @@ impl Grid {
         }
     }
 
-    // Writes a column's cells of one mark as one shape.
+    // A column's cells of one mark are one shape.
     fn push_cells(&self, out: &mut Words, cells: &Cells, column: usize, mark: usize) {
         let mut is_open = false;
         for row in 0..cells.rows {
@@ -176,7 +174,7 @@ impl Grid {
         }
     }
 
-    // Writes the part of a cell between two numbers of slots.
+    // Writes a cell's part from one number of slots to another.
     fn push_cell(&self, out: &mut Words, place: (usize, usize), slots: (u32, u32)) {
         let (row, column) = place;
         let (from, to) = slots;
@@ -199,7 +197,7 @@ impl Grid {
         out.byte(b'z');
     }
 
-    // Writes the notes below the rows. Returns the picture's height.
+    // Returns the picture's height.
     fn push_notes(&self, sheet: &Sheet, out: &mut Words, columns: &Columns, cells: &Cells) -> u32 {
         let y = self.bottom.saturating_add(26);
         push_keys(sheet, out, Point::at(MARGIN, y));
@@ -318,10 +316,9 @@ fn joiners_words(sheet: &Sheet) -> Words {
     words
 }
 
-/// Draws the owners before and after the plan, as SVG, by node, grouped by rack if asked for. Fails only with
-/// `OutOfMemory`.
+/// Draws the owners before and after the plan, as SVG. Fails only with `OutOfMemory`.
 ///
-/// Above 128 partitions rows share, above 60 nodes columns do.
+/// Groups nodes by rack if asked for. Above 128 partitions, partitions share rows; above 60 nodes, nodes share columns.
 pub fn map_picture(sheet: &Sheet, racks: Option<&Labels>) -> Result<Vec<u8>, Refusal> {
     let columns = Columns::of(sheet, racks)?;
     let cells = Cells::of(sheet, &columns)?;

@@ -4,7 +4,7 @@ use crate::sheet::Sheet;
 use helpers::small;
 use ring_names::Refusal;
 
-// A node with a row, ordered by kind, then the busiest first.
+// By kind, then the busiest first.
 #[derive(Clone, Copy, PartialEq, Eq, PartialOrd, Ord)]
 struct Ranked {
     kind: u32,
@@ -15,7 +15,7 @@ struct Ranked {
 /// The number of kinds of nodes.
 pub const KINDS: usize = 4;
 
-/// Returns 0 for a node that does not answer, 1 for a leaver, 2 for a joiner, and 3 for one that stays.
+/// Returns 0 for a silent node, 1 for a leaver, 2 for a joiner, 3 for any other.
 pub fn kind(sheet: &Sheet, node: u32) -> u32 {
     if sheet.is_silent(node) {
         0
@@ -28,7 +28,7 @@ pub fn kind(sheet: &Sheet, node: u32) -> u32 {
     }
 }
 
-/// Returns the nodes that take part or do not answer, by kind, the busiest of each first.
+/// Returns the nodes with a row, by kind, then the busiest first.
 pub fn in_order(sheet: &Sheet) -> Result<Vec<u32>, Refusal> {
     let mut ranked = Vec::new(sheet.alloc);
     for node in 0..small(sheet.ring.nodes().len()) {
@@ -48,7 +48,7 @@ pub fn in_order(sheet: &Sheet) -> Result<Vec<u32>, Refusal> {
     Ok(nodes)
 }
 
-/// Returns the places of moves with copies, in the order of their copies.
+/// Returns the moves with copies, in the order of copies.
 pub fn by_copy(sheet: &Sheet) -> Result<Vec<u32>, Refusal> {
     let mut order = Vec::new(sheet.alloc);
     let mut place = 0u32;

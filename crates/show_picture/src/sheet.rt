@@ -7,7 +7,7 @@ use ring_table::Ring;
 use show_plan::{NodeNames, Present, Scene, Shown, Volumes, push_short};
 use std::alloc::Global;
 
-/// An approved plan with what is shown of it, and a run's progress, if any.
+/// An approved plan, and a run's progress, if any.
 #[derive(Clone, Copy)]
 pub struct Sheet<'a> {
     pub alloc: Global,
@@ -15,15 +15,14 @@ pub struct Sheet<'a> {
     pub names: NodeNames<'a>,
     pub plan: &'a Plan,
     pub scene: &'a Scene,
-    /// The ring after the last entry of the history, or before the first step.
+    /// The ring after the history, or before the first step.
     pub present: &'a Present,
     pub progress: Option<&'a Progress>,
-    /// How much moves, if partitions have sizes.
     pub volumes: Option<&'a Volumes>,
 }
 
 impl<'a> Sheet<'a> {
-    /// Returns the move at the place.
+    /// Returns the move.
     pub fn shown(&self, place: u32) -> Option<&Shown> {
         self.scene.shown.moves.as_slice().get(place as usize)
     }
@@ -43,7 +42,7 @@ impl<'a> Sheet<'a> {
         self.present.is_silent(node)
     }
 
-    /// Writes how much the node gives and takes: `gives 8.5 G, takes 120`. Empty without sizes or moves.
+    /// Writes `gives 8.5 G, takes 120`. Empty without sizes or moves.
     pub fn sizes(&self, node: u32) -> Words {
         let mut text = Words::new(self.alloc);
         let Some(volumes) = self.volumes else {
@@ -71,7 +70,7 @@ impl<'a> Sheet<'a> {
         gives.saturating_add(at(self.scene.loads.takes.as_slice(), node as usize))
     }
 
-    /// Writes the node's most transfers at once, and its allowance: `3 at once (bears 4)`.
+    /// Writes the most transfers at once, and the allowance: `3 at once (bears 4)`.
     pub fn at_once(&self, node: u32) -> Words {
         let mut text = Words::new(self.alloc);
         if let Some(declared) = self.ring.nodes().get(node as usize) {

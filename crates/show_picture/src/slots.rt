@@ -1,4 +1,4 @@
-//! Bars of the slots that a node owns: at first, now and in the end.
+//! Bars of the slots that a node owns.
 
 use crate::fitting::{Look, push_fitting};
 use crate::sheet::Sheet;
@@ -9,7 +9,7 @@ use helpers::{Words, at, parts_of};
 // The width of the longest bar.
 const BAR: u32 = 70;
 
-// The greatest width of the numbers after a bar.
+// The greatest width of numbers.
 const NUMBERS: u32 = 86;
 
 /// The greatest width of bar and numbers.
@@ -36,9 +36,10 @@ pub fn slots_head(sheet: &Sheet) -> &'static [u8] {
     b"slots owned, now \xe2\x86\x92 then"
 }
 
-/// Writes a grey bar of kept slots, with taken ones in colour or given ones in outline, and the numbers: `16 → 13`.
+/// Writes a bar and `16 → 13`, with a history `16 → 14 → 13`.
 ///
-/// With a history they are `16 → 14 → 13`, and a line through the bar shows the slots owned now.
+/// Kept slots are grey, taken slots in colour, given slots in outline. With a history, a line shows the slots owned
+/// now.
 pub fn push_slots(sheet: &Sheet, out: &mut Words, node: u32, at_place: Point, most: u32) {
     let loads = &sheet.scene.loads;
     let before = at(loads.before.as_slice(), node as usize);
@@ -64,7 +65,6 @@ pub fn push_slots(sheet: &Sheet, out: &mut Words, node: u32, at_place: Point, mo
     push_numbers(sheet, out, at_place, node)
 }
 
-// Writes a line at the slots owned now, if they differ from the end.
 fn push_now(sheet: &Sheet, out: &mut Words, node: u32, at_place: Point, most: u32) {
     let loads = &sheet.scene.loads;
     let before = at(loads.before.as_slice(), node as usize);
@@ -82,7 +82,7 @@ fn push_now(sheet: &Sheet, out: &mut Words, node: u32, at_place: Point, most: u3
     push_area(out, line, INK, b"")
 }
 
-// Writes `16 → 13`, with a history `16 → 14 → 13`, or one number if nothing changes.
+// Writes one number if nothing changes.
 fn push_numbers(sheet: &Sheet, out: &mut Words, place: Point, node: u32) {
     let loads = &sheet.scene.loads;
     let before = at(loads.before.as_slice(), node as usize);

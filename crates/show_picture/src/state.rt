@@ -9,9 +9,9 @@ pub enum State {
     /// There is no run.
     Planned,
     Copied,
-    /// It is open, with this many of its 16 chunks copied.
+    /// Open, with this many of 16 chunks copied.
     Open(u32),
-    /// It is still to do.
+    /// Still to do.
     Left,
 }
 

@@ -1,6 +1,6 @@
-//! The looks of shapes and words, by class, on light and dark pages.
+//! The looks of shapes and words, on light and dark pages.
 
-/// The ground of a picture.
+/// A picture's ground.
 pub const PAGE: &[u8] = b"page";
 
 /// What is given.
@@ -21,11 +21,10 @@ pub const INK: &[u8] = b"ink";
 /// Copies of any kind.
 pub const SOME: &[u8] = b"some";
 
-/// Copies that are still to do.
+/// Copies still to do.
 pub const PALE: &[u8] = b"pale";
 
-/// The rules of the classes. Words are at least 10 pixels high. White on orange or blue has a contrast of at least 4.5
-/// on both pages.
+/// The rules of the classes. Words have at least 10 pixels. White on orange or blue has a contrast of at least 4.5.
 pub const STYLE: &[u8] = b"<style>
 text{font-family:'DejaVu Sans',Verdana,sans-serif;fill:#16202c}
 .t{font-size:19px;font-weight:bold}.s,.n{font-size:12px}.b,.h{font-size:11px}.c,.k{font-size:10px}

@@ -1,4 +1,4 @@
-//! Shapes as SVG. Coordinates are whole pixels, so that the same picture has the same bytes.
+//! Shapes as SVG. Coordinates are whole pixels, so the same picture has the same bytes.
 
 use crate::style::{PAGE, STYLE};
 use helpers::Words;
@@ -26,20 +26,20 @@ pub struct Point {
 }
 
 impl Point {
-    /// Makes a place from its distance to the left and to the top.
+    /// Returns the place.
     pub fn at(x: u32, y: u32) -> Point {
         Point { x, y }
     }
 }
 
-/// The title over a picture, and the words below it.
+/// The title, and the words below.
 #[derive(Drop)]
 pub struct Caption {
     pub title: Words,
     pub about: Words,
 }
 
-/// Adds an attribute with a number: ` x="12"`.
+/// Adds ` x="12"`.
 pub fn push_measure(out: &mut Words, name: &[u8], number: u32) {
     out.byte(b' ');
     out.text(name);
@@ -48,7 +48,6 @@ pub fn push_measure(out: &mut Words, name: &[u8], number: u32) {
     out.byte(b'"');
 }
 
-// Writes a rectangle without its closing.
 fn push_open(out: &mut Words, area: Area, class: &[u8], more: &[u8]) {
     out.text(b"<rect");
     push_measure(out, b"x", area.x);
@@ -61,13 +60,13 @@ fn push_open(out: &mut Words, area: Area, class: &[u8], more: &[u8]) {
     out.text(more);
 }
 
-/// Writes a rectangle of the class, with attributes, each after a space.
+/// Writes a rectangle. Each attribute follows a space.
 pub fn push_area(out: &mut Words, area: Area, class: &[u8], more: &[u8]) {
     push_open(out, area, class, more);
     out.text(b"/>\n");
 }
 
-/// Writes text with references for the marks of SVG, which an alias may have.
+/// Writes text, escaped: an alias may have SVG's special characters.
 pub fn push_text(out: &mut Words, text: &[u8]) {
     for byte in text {
         match *byte {
@@ -80,7 +79,7 @@ pub fn push_text(out: &mut Words, text: &[u8]) {
     }
 }
 
-/// Writes the text of a buffer, escaped.
+/// Writes a buffer's text, escaped.
 pub fn push_escaped(out: &mut Words, words: &Words) {
     push_text(out, words.as_slice());
     out.heed(words);
@@ -101,7 +100,7 @@ pub fn push_begin(out: &mut Words, at: Point) {
     push_measure(out, b"y", at.y);
 }
 
-/// Writes words at a place, with attributes, each after a space.
+/// Writes words at a place. Each attribute follows a space.
 pub fn push_words(out: &mut Words, at: Point, attributes: &[u8], words: &[u8]) {
     push_begin(out, at);
     out.text(attributes);
@@ -110,7 +109,7 @@ pub fn push_words(out: &mut Words, at: Point, attributes: &[u8], words: &[u8]) {
     out.text(b"</text>\n");
 }
 
-/// Writes the words of a buffer at a place.
+/// Writes a buffer's words at a place.
 pub fn push_said(out: &mut Words, at: Point, attributes: &[u8], words: &Words) {
     push_words(out, at, attributes, words.as_slice());
     out.heed(words);
@@ -126,7 +125,7 @@ pub fn push_rule(out: &mut Words, from: Point, to: Point) {
     out.text(b" class=\"rule\"/>\n");
 }
 
-/// Writes a whole picture around its shapes. Screen readers read the caption.
+/// Writes a whole picture. Screen readers read the caption.
 pub fn push_picture(out: &mut Words, height: u32, caption: &Caption, shapes: &Words) {
     out.text(b"<svg xmlns=\"http://www.w3.org/2000/svg\" viewBox=\"0 0 ");
     out.number(WIDE);

@@ -1,6 +1,6 @@
 //! The width of text.
 
-// Hundredths of the font's size for a character's first byte: widths of DejaVu Sans, rounded up. Further bytes count 0.
+// In hundredths of the font's size: DejaVu Sans, rounded up. Only a character's first byte counts.
 fn width_of(byte: u8) -> u32 {
     match byte {
         0x80..=0xbf => 0,
@@ -25,7 +25,7 @@ fn width_of(byte: u8) -> u32 {
     }
 }
 
-/// Returns the pixels that the text takes at the font size, rounded up.
+/// Returns the text's pixels at the font size, rounded up.
 pub fn width(text: &[u8], size: u32) -> u32 {
     let mut hundredths = 0u32;
     for byte in text {
