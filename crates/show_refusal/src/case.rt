@@ -1,4 +1,4 @@
-//! A bundle whose texts are valid, and whose plan is refused.
+//! A bundle with valid texts and a refused plan.
 
 use crate::ends::Ends;
 use find_chains::slot_of;
@@ -22,7 +22,7 @@ pub struct Case<'a> {
     pub ends: &'a Ends,
 }
 
-// The line without its dependencies.
+// Cuts the dependencies off.
 fn head(line: &[u8]) -> &[u8] {
     let Some(place) = place_of(line, b"after") else {
         return line;
@@ -40,40 +40,40 @@ impl<'a> Case<'a> {
             .saturating_add(5)
     }
 
-    /// Returns the line of a step.
+    /// Returns the step's line.
     pub fn step_line(&self, step: u32) -> u32 {
         self.plan_line().saturating_add(1).saturating_add(step)
     }
 
-    /// Returns the first line of the certificate.
+    /// Returns the certificate's first line.
     pub fn cert_line(&self) -> u32 {
         self.plan_line()
             .saturating_add(self.plan.len())
             .saturating_add(2)
     }
 
-    /// Returns the line of a fact.
+    /// Returns the fact's line.
     pub fn fact_line(&self, fact: u32) -> u32 {
         self.cert_line().saturating_add(1).saturating_add(fact)
     }
 
-    /// Returns the line of a chain.
+    /// Returns the chain's line.
     pub fn chain_line(&self, chain: u32) -> u32 {
         self.fact_line(small(self.cert.facts.len()))
             .saturating_add(chain)
     }
 
-    /// Returns the last line of the certificate.
+    /// Returns the certificate's last line.
     pub fn cert_end(&self) -> u32 {
         self.chain_line(small(self.cert.chains.len()))
     }
 
-    /// Returns the line of a node.
+    /// Returns the node's line.
     pub fn node_line(&self, node: u32) -> u32 {
         node.saturating_add(4)
     }
 
-    /// Returns the name of a node.
+    /// Returns the node's name.
     pub fn name(&self, node: u32) -> &'a [u8] {
         match self.ring.nodes().get(node as usize) {
             Some(node) => node.name.as_slice(),
@@ -90,12 +90,11 @@ impl<'a> Case<'a> {
         }
     }
 
-    /// Returns the slot of a step, if it has one.
+    /// Returns the step's slot, if it has one.
     pub fn slot(&self, number: u32) -> Option<Slot> {
         slot_of(self.step(number)?)
     }
 
-    // How many of the slot's steps come before the step.
     fn place(&self, slot: Slot, number: u32) -> u32 {
         let mut count = 0u32;
         for other in self.plan.slot_steps(slot) {
@@ -127,7 +126,7 @@ impl<'a> Case<'a> {
         Ok(Some(stage))
     }
 
-    /// Whether one step is known to come before the other, by a direct dependency or a fact.
+    /// Whether a direct dependency or a fact orders the two steps.
     pub fn is_ordered(&self, first: u32, second: u32) -> bool {
         if second >= self.plan.len() {
             return false;
@@ -135,17 +134,17 @@ impl<'a> Case<'a> {
         self.plan.depends(first, second) || self.ends.has(first, second)
     }
 
-    /// Marks the line of a faulty step.
+    /// Marks a faulty step.
     pub fn fault(&self, said: &mut Said, number: u32) {
         said.fault_with(self.step_line(number), b"step #", &[], &[number])
     }
 
-    /// Marks the line of a step that belongs to the fault.
+    /// Marks a step that belongs to the fault.
     pub fn beside(&self, said: &mut Said, number: u32) {
         said.beside_with(self.step_line(number), b"step #", &[], &[number])
     }
 
-    /// Mends a step by another dependency, an earlier step.
+    /// Mends a step by one more dependency.
     pub fn wait(&self, said: &mut Said, number: u32, more: u32) {
         let line = self.step_line(number);
         said.put(line);

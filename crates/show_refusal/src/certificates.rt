@@ -7,7 +7,7 @@ use ring_names::{NodeId, Refusal};
 use ring_table::{Allowance, NodeSide, Side};
 use show_why::{Said, field};
 
-// The first two adjacent steps of a path that are not known to be ordered, and their place.
+// The first two adjacent steps without a known order, and their place.
 fn gap(case: Case, path: &[u32], is_fact: bool) -> Option<(usize, u32, u32)> {
     for place in 1..path.len() {
         let (first, second) = (path[place - 1], path[place]);
@@ -58,7 +58,7 @@ fn chain_word(case: Case, node: u32, role: Role) -> &'static [u8] {
     }
 }
 
-// Marks the first six chains of the node, or of its side.
+// Marks the first six.
 fn show_chains(case: Case, said: &mut Said, node: u32, side: Option<Side>) {
     let mut count = 0u32;
     for place in 0..case.cert.chains.len() {
@@ -71,7 +71,7 @@ fn show_chains(case: Case, said: &mut Said, node: u32, side: Option<Side>) {
     }
 }
 
-/// Reports a copy that is missing from the chains of one of its nodes.
+/// Reports a copy that is missing from a node's chains.
 pub fn cover_missing(case: Case, said: &mut Said, node: u32, number: u32) -> Result<(), Refusal> {
     let name = case.name(node);
     said.title_with(b"no chain of @ has its copy, step #", &[name], &[number]);
@@ -91,7 +91,6 @@ pub fn cover_missing(case: Case, said: &mut Said, node: u32, number: u32) -> Res
     Ok(())
 }
 
-// Whether the side counts a step in which the node has the role.
 fn counts(side: Side, role: Option<Role>) -> bool {
     match side {
         Side::Both => role.is_some(),
@@ -100,7 +99,7 @@ fn counts(side: Side, role: Option<Role>) -> bool {
     }
 }
 
-// The first step of a chain that is not one of the node's copies.
+// The first step that is not a copy of the node.
 fn misfit(case: Case, of: NodeSide, steps: &[u32]) -> Result<Option<u32>, Refusal> {
     let roles = roles(case, of.node)?;
     for step in steps {
@@ -111,7 +110,7 @@ fn misfit(case: Case, of: NodeSide, steps: &[u32]) -> Result<Option<u32>, Refusa
     Ok(None)
 }
 
-/// Reports a chain with a step that is not one of the node's copies, or with two that are not in order.
+/// Reports a foreign step in a chain, or two steps without an order.
 pub fn chain_broken(case: Case, said: &mut Said, number: u32) -> Result<(), Refusal> {
     said.title_with(b"chain # is not in order", &[], &[number]);
     if number as usize >= case.cert.chains.len() {
@@ -144,7 +143,7 @@ pub fn chain_broken(case: Case, said: &mut Said, number: u32) -> Result<(), Refu
     Ok(())
 }
 
-// Mends the chain by removing the step, or the chain if it was the only one.
+// Removes the step, or the chain if it has no other.
 fn shorten(case: Case, said: &mut Said, number: u32, step: u32) {
     if number as usize >= case.cert.chains.len() {
         return;
@@ -166,7 +165,6 @@ fn shorten(case: Case, said: &mut Said, number: u32, step: u32) {
     said.add(b"\n")
 }
 
-// Reports two steps of a chain that are not in order.
 fn tell_link(case: Case, said: &mut Said, first: u32, second: u32) {
     case.beside(said, first);
     said.beside_with(
@@ -205,7 +203,7 @@ fn count_chains(case: Case, of: NodeSide) -> u32 {
     count
 }
 
-// The node's side with too many chains, how many it has, and how many it may have.
+// The crowded side, its chains, and the most it may have.
 fn crowded(case: Case, node: u32) -> Option<(NodeSide, u32, u32)> {
     for side in [Side::Both, Side::Take, Side::Give] {
         let of = NodeSide {
@@ -222,18 +220,18 @@ fn crowded(case: Case, node: u32) -> Option<(NodeSide, u32, u32)> {
     None
 }
 
-/// What may lower the number of a node's chains.
+/// What may lower the number of chains.
 #[derive(Clone, Copy, Debug, PartialEq, Eq)]
 pub enum Remedy {
-    /// Unknown: no other certificate was sought, or the search does not tell.
+    /// No other certificate was sought, or the search does not tell.
     Unknown,
-    /// Another certificate, which the search finds and the checker accepts.
+    /// Another certificate, which the checker accepts.
     Certificate,
-    /// Only another plan: no certificate has few enough.
+    /// Only another plan: no certificate has few enough chains.
     Plan,
 }
 
-/// Reports a node with more chains than its allowance, and what may mend that.
+/// Reports a node with more chains than its allowance.
 pub fn too_many_chains(case: Case, said: &mut Said, node: u32, remedy: Remedy) {
     let Some((of, count, most)) = crowded(case, node) else {
         return said.title(b"a node has more chains than its allowance");
@@ -264,7 +262,6 @@ pub fn too_many_chains(case: Case, said: &mut Said, node: u32, remedy: Remedy) {
     join_chains(case, said, of)
 }
 
-// Suggests to join two chains of the side. Joins the last two, if there are two.
 fn join_chains(case: Case, said: &mut Said, of: NodeSide) {
     said.note(
         b"Each chain is one transfer at a time. Join two: let the first copy of one wait for the last of the other.",
@@ -275,7 +272,7 @@ fn join_chains(case: Case, said: &mut Said, of: NodeSide) {
     }
 }
 
-// Mends by appending one chain to the other, if possible.
+// Appends one chain to the other, if possible.
 fn put_behind(case: Case, said: &mut Said, first: usize, second: usize) {
     if first >= case.cert.chains.len() || second >= case.cert.chains.len() {
         return;

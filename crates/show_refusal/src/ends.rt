@@ -10,7 +10,7 @@ pub struct Ends {
 }
 
 impl Ends {
-    /// Collects the ends of the facts. Costs a sort.
+    /// Collects the ends. Costs a sort.
     pub fn of(alloc: Global, facts: &Rows) -> Result<Ends, Refusal> {
         let mut pairs = Vec::new(alloc);
         for place in 0..facts.len() {

@@ -1,4 +1,4 @@
-//! Nodes that hold slots when they must not, and nodes that are not members.
+//! Nodes that must not hold slots, and nodes that are not members.
 
 use crate::case::Case;
 use find_chains::{Stay, Stays};
@@ -14,7 +14,7 @@ fn all_stays(case: Case) -> Result<Stays, Refusal> {
     Ok(stays)
 }
 
-// Whether the stay began before the step and is not over by then.
+// Whether the stay began before the step and is not known to end before it.
 fn lasts(case: Case, stay: Stay, number: u32) -> bool {
     let has_begun = match stay.begun {
         Some(begun) => begun < number,
@@ -27,7 +27,7 @@ fn lasts(case: Case, stay: Stay, number: u32) -> bool {
     has_begun && !is_over
 }
 
-// The node's first stay at the slot that lasts at the step.
+// The first stay that lasts at the step.
 fn stay_with(case: Case, stays: &Stays, node: NodeId, slot: Slot, number: u32) -> Option<Stay> {
     let mut found = None;
     let mut next = stays.latest_at(slot, node.0);
@@ -115,7 +115,6 @@ fn tell_exit(case: Case, said: &mut Said, name: &[u8], found: Stay, number: u32)
     }
 }
 
-// Reports when the node enters and leaves the other slot, and what it must wait for.
 fn tell_stay(case: Case, said: &mut Said, name: &[u8], found: Stay, number: u32) {
     tell_entry(case, said, name, found);
     tell_exit(case, said, name, found, number);
@@ -138,7 +137,7 @@ fn used(case: Case, number: u32) -> Option<NodeId> {
     }
 }
 
-/// Reports a step that needs a node to be a member when it is not.
+/// Reports a step whose node must be a member and is not.
 pub fn not_joined(case: Case, said: &mut Said, number: u32) {
     let Some(node) = used(case, number) else {
         return said.title(b"a node is not a member when a step needs it");
@@ -158,7 +157,7 @@ pub fn not_joined(case: Case, said: &mut Said, number: u32) {
     case.wait(said, number, join)
 }
 
-// What a node holds when it retires: slots without a drop, and drops that the retirement does not wait for.
+// Slots without a drop, and drops that the retirement does not wait for.
 #[derive(Drop)]
 struct Left {
     slots: Vec<Slot>,
@@ -176,7 +175,6 @@ impl Left {
     }
 }
 
-// What the node holds without a drop before its retirement.
 fn find_left(case: Case, node: NodeId, number: u32) -> Result<Left, Refusal> {
     let stays = all_stays(case)?;
     let mut left = Left {
@@ -196,7 +194,7 @@ fn find_left(case: Case, node: NodeId, number: u32) -> Result<Left, Refusal> {
     Ok(left)
 }
 
-// Reports which slots a node holds without a drop, as far as a few lines can.
+// Stops after about 500 bytes of notes.
 fn tell_slots(said: &mut Said, slots: &[Slot]) {
     for slot in slots {
         said.note_with(
@@ -210,7 +208,7 @@ fn tell_slots(said: &mut Said, slots: &[Slot]) {
     }
 }
 
-// Marks the first six drops that a retirement does not wait for.
+// Marks the first six.
 fn tell_drops(case: Case, said: &mut Said, drops: &[u32]) {
     for drop in &drops[..drops.len().min(6)] {
         said.beside_with(

@@ -1,11 +1,11 @@
-//! How a node takes part in the copies of a plan.
+//! How a node takes part in copies.
 
 use crate::case::Case;
 use find_chains::Stays;
 use plan_text::{Source, Step};
 use ring_names::{NodeId, Refusal, Slot};
 
-/// A node's role in a copy: the mirror, or an owner that is read.
+/// A node's role in a copy: mirror, or owner that is read.
 #[derive(Clone, Copy, Debug, PartialEq, Eq)]
 pub enum Role {
     Takes,
@@ -36,7 +36,7 @@ fn role_in(stays: &Stays, node: NodeId, step: &Step) -> Option<Role> {
     if gives { Some(Role::Gives) } else { None }
 }
 
-/// Returns the node's role in each step of the plan. Costs a walk over the plan.
+/// Returns the node's role in each step. Costs a walk over the plan.
 pub fn roles(case: Case, node: NodeId) -> Result<Vec<Option<Role>>, Refusal> {
     let mut stays = Stays::of(case.alloc, case.ring)?;
     let mut found = Vec::new(case.alloc);
@@ -48,7 +48,7 @@ pub fn roles(case: Case, node: NodeId) -> Result<Vec<Option<Role>>, Refusal> {
     Ok(found)
 }
 
-/// Returns the role in the step, if the plan has it.
+/// Returns the role in the step.
 pub fn role_at(roles: &[Option<Role>], number: u32) -> Option<Role> {
     match roles.get(number as usize) {
         Some(role) => *role,

@@ -6,7 +6,7 @@ use plan_text::Step;
 use ring_names::{NodeId, Refusal, Slot};
 use show_why::Said;
 
-// Why the step does not fit the stage; the node is `@`.
+// `@` is the node.
 fn cause(step: &Step, stage: &Stage) -> &'static [u8] {
     match step {
         Step::Switch(_) if stage.mirror.is_none() => {
@@ -39,7 +39,6 @@ fn node_of(step: &Step) -> Option<NodeId> {
     }
 }
 
-// Reports who has what of the slot in the stage.
 fn tell_stage(case: Case, said: &mut Said, slot: Slot, stage: &Stage) {
     said.add_note_with(
         b"  In front of it slot #.# is owned by @",
@@ -62,7 +61,6 @@ fn tell_stage(case: Case, said: &mut Said, slot: Slot, stage: &Stage) {
     said.add_note(b".\n")
 }
 
-// Reports that a copy is missing between the slot's mirror and the switch.
 fn tell_copy(said: &mut Said, slot: Slot, before: u32) {
     let numbers = [slot.partition, slot.index, before];
     let note = b"A copy is missing in between, as `copy # # owner after #`;";

@@ -20,7 +20,7 @@ pub struct Read<'a> {
     pub ring: &'a Ring,
     pub plan: &'a Plan,
     pub cert: &'a Cert,
-    /// What may lower the number of chains, if there are too many.
+    /// What may lower the number of chains.
     pub remedy: Remedy,
 }
 
