@@ -1,4 +1,4 @@
-//! The ring that a plan leaves, or what a history has done of it.
+//! The ring that a plan leaves, or that a history has reached.
 
 ghost use Rattle.std.specs.Prelude.{◌≡◌, ◌≤◌, ◌⊎◌, length, IfOk};
 ghost use Rattle.plan_runs.specs.World.{World as TheWorld};
@@ -20,7 +20,7 @@ use ring_names::{NodeId, Refusal, Slot};
 use ring_table::{Ring, write_ring};
 use std::alloc::Global;
 
-// By slot, the step that set a mirror that is not switched yet.
+// By slot, the step that set a mirror without a switch so far.
 #[derive(Drop)]
 struct Open {
     rows: Vec<Vec<Option<u32>>>,
@@ -51,7 +51,6 @@ impl Open {
         }
     }
 
-    // The steps that set mirrors that are not switched yet, by slot.
     fn steps(&self, alloc: Global) -> Result<Vec<u32>, Refusal> {
         let mut steps = Vec::new(alloc);
         for row in self.rows.as_slice() {
@@ -65,7 +64,7 @@ impl Open {
     }
 }
 
-// The steps that set mirrors that are not switched yet: of the whole plan, or of its finished steps.
+// Of the whole plan, or of its finished steps.
 fn open_steps(
     alloc: Global,
     approved: &Approved,
@@ -85,7 +84,7 @@ fn open_steps(
     open.steps(alloc)
 }
 
-// Refuses a mirror that is not switched as `WrongStage` at the first step that set one.
+// An open move is `WrongStage` at the first step that set a mirror.
 fn ask_switched(
     alloc: Global,
     approved: &Approved,
@@ -102,7 +101,7 @@ fn ask_switched(
     }
 }
 
-/// Returns the lesser of the numbers that are there.
+/// Returns the lesser number, or the only one.
 pub(crate) fn earlier(one: Option<u32>, other: Option<u32>) -> Option<u32> {
     match (one, other) {
         (Some(one), Some(other)) => Some(one.min(other)),
@@ -123,7 +122,6 @@ fn members_now(alloc: Global, ring: &Ring, store: &World) -> Result<Vec<bool>, R
     Ok(members)
 }
 
-// Writes the ring to which a history has led. A slot with a mirror is `WrongStage` at the step that set it.
 fn ring_now(alloc: Global, approved: &Approved, history: &[Entry]) -> Result<Vec<u8>, Refusal>
     requires { length history.now ≤ 1000000 }
     ensures { IfOk result (λ text. IsLeftAt approved.now.ring approved.now.plan history.now text.items) }
@@ -146,21 +144,21 @@ fn after_history(alloc: Global, bytes: &[u8]) -> Result<Vec<u8>, Refusal>
     ring_now(alloc, &found.approved, bundle.history.as_slice())
 }
 
-// Writes the ring that a bundle's plan leaves. A slot with a mirror is `WrongStage` at the step that sets it.
 fn ring_left(alloc: Global, found: &Study, bytes: &[u8]) -> Result<Vec<u8>, Refusal>
     requires { IsPlanOf bytes.now found.now.approved.ring found.now.approved.plan }
     ensures { IfOk result (λ text. IsLeftBy bytes.now text.items) }
 {
     let approved = &found.approved;
-    // The plan is approved, which the prover knows once it is read.
+    // Reading the plan tells the prover that it is approved.
     let _ = approved.plan();
     ask_switched(alloc, approved, None)?;
     write_ring(alloc, &ring_after(alloc, approved)?)
 }
 
-/// Writes the ring that a bundle's plan leaves, or its history if it has one.
+/// Writes the ring that the plan leaves, or that its history has reached.
 ///
-/// A move that begins and does not end is `WrongStage` at the step that sets the mirror, because a ring cannot say it. Other refusals are those of `studied`.
+/// An open move is `WrongStage` at the step that sets its mirror, because a ring cannot say it. Other refusals are
+/// those of `studied`.
 pub fn after_bundle(alloc: Global, bytes: &[u8]) -> Result<Vec<u8>, Refusal>
     ensures after { IfOk result (λ text. IsLeftNow bytes.now text.items ⊎ IsLeftBy bytes.now text.items) }
 {
@@ -174,7 +172,9 @@ pub fn after_bundle(alloc: Global, bytes: &[u8]) -> Result<Vec<u8>, Refusal>
     }
 }
 
-/// Adds why `after_bundle` refuses a bundle with `WrongStage`: each open move of a history with its steps that are left, or what is wrong with the plan.
+/// Adds why `after_bundle` refuses a bundle with `WrongStage`.
+///
+/// Lists the open moves, with the steps to do if there is a history. Otherwise says what is wrong with the plan.
 pub fn push_open(alloc: Global, out: &mut Words, bytes: &[u8], step: u32) -> Result<(), Refusal> {
     match studied(alloc, bytes, &Options::new(alloc)) {
         Ok(found) => {
@@ -188,7 +188,7 @@ pub fn push_open(alloc: Global, out: &mut Words, bytes: &[u8], step: u32) -> Res
     push_words_of(alloc, out, bytes, &Refusal::WrongStage(step))
 }
 
-// Says which moves are open. Returns whether some are.
+// Returns whether some move is open.
 fn push_open_of(alloc: Global, out: &mut Words, found: &Study) -> Result<bool, Refusal> {
     let (ring, plan) = (found.approved.ring(), found.approved.plan());
     let progress = match &found.history {
@@ -220,16 +220,13 @@ fn push_open_of(alloc: Global, out: &mut Words, found: &Study) -> Result<bool, R
     Ok(true)
 }
 
-// Says how a store comes to rest.
 const REST: &[u8; 118] =
     b"  To end these and begin no other: `ringplan around --rest FILE` prints a plan. Do its steps, then ask `after` of it.\n";
 
-// Adds the words for one or for several, with the number.
 fn push_many(out: &mut Words, number: u32, one: &[u8], more: &[u8]) {
     out.fill(if number == 1 { one } else { more }, &[], &[number])
 }
 
-// A move that a step has begun.
 fn push_move(out: &mut Words, ring: &Ring, plan: &Plan, progress: Option<&Progress>, step: u32) {
     let Some((slot, node)) = mirror_of(plan, step) else {
         return;
@@ -246,7 +243,7 @@ fn push_move(out: &mut Words, ring: &Ring, plan: &Plan, progress: Option<&Progre
     out.byte(b'\n');
 }
 
-// The slot's unfinished steps after that one, up to its switch.
+// The slot's unfinished steps after `step`, up to its switch.
 fn push_left(out: &mut Words, plan: &Plan, progress: &Progress, slot: Slot, step: u32) {
     let mut words: &[u8] = b"; to do: #";
     for number in plan.slot_steps(slot) {
@@ -260,7 +257,7 @@ fn push_left(out: &mut Words, plan: &Plan, progress: &Progress, slot: Slot, step
     }
 }
 
-/// Returns the slot of a step, if it has one.
+/// Returns the step's slot, if it has one.
 pub(crate) fn slot_of(plan: &Plan, number: u32) -> Option<Slot> {
     if number >= plan.len() {
         return None;

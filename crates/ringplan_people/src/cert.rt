@@ -13,7 +13,6 @@ use std::alloc::Global;
 const GIVEN_UP: &[u8; 268] =
     b"refused: the search for fewer chains was given up after 100,000,000 looks\n  Some node has more chains than it may have transfers open. Fewer may be enough, so a certificate may exist.\n  Let copies of that node wait directly for earlier ones: then no search is needed.\n";
 
-// Writes the ring, a plan that leads to the goal ring, and its certificate.
 fn planned(alloc: Global, bytes: &[u8]) -> Result<Vec<u8>, Refusal>
     ensures { IfOk result (λ text. IsBundleOf bytes.now text.items) }
 {
@@ -21,7 +20,6 @@ fn planned(alloc: Global, bytes: &[u8]) -> Result<Vec<u8>, Refusal>
     found.bundle(alloc)
 }
 
-// A certificate for a bundle with a change: a plan is made first.
 fn cert_of_change(alloc: Global, bytes: &[u8]) -> Result<Vec<u8>, Refusal>
     ensures { IfOk result (λ text. IsCertOf bytes.now text.items) }
 {
@@ -29,7 +27,7 @@ fn cert_of_change(alloc: Global, bytes: &[u8]) -> Result<Vec<u8>, Refusal>
     cert_bundle(alloc, text.as_slice())
 }
 
-/// Does what `cert_bundle` does. For a bundle with a change, a plan is made first.
+/// Does what `cert_bundle` does. For a change, makes a plan first.
 pub(crate) fn cert_of(alloc: Global, bytes: &[u8]) -> Result<Vec<u8>, Refusal>
     ensures certified { IfOk result (λ text. IsCertOf bytes.now text.items) }
 {
@@ -39,7 +37,7 @@ pub(crate) fn cert_of(alloc: Global, bytes: &[u8]) -> Result<Vec<u8>, Refusal>
     }
 }
 
-// Looks for a certificate for the plan of a bundle that may have a change. None if there is no plan, or a text is at fault.
+// None if there is no plan, or a text is at fault.
 fn found_of(alloc: Global, bytes: &[u8]) -> Result<Option<Vec<u8>>, Refusal> {
     let found = match kind_of(bytes) {
         Kind::Change => match planned(alloc, bytes) {
@@ -55,7 +53,9 @@ fn found_of(alloc: Global, bytes: &[u8]) -> Result<Option<Vec<u8>>, Refusal> {
     }
 }
 
-/// Adds why there is no certificate: the search was given up, the checker refuses the one that was found, or none was sought.
+/// Adds why there is no certificate.
+///
+/// The search was given up, the checker refuses what it found, or no certificate was sought.
 pub(crate) fn push_why_none(
     alloc: Global,
     out: &mut Words,
@@ -68,7 +68,6 @@ pub(crate) fn push_why_none(
     }
 }
 
-// Adds why the checker refuses the certificate of the text.
 fn push_why_not(
     alloc: Global,
     out: &mut Words,

@@ -11,7 +11,6 @@ use ring_table::Ring;
 use show_why::{Page, Said, push_printed, tell_text};
 use std::alloc::Global;
 
-// How many partitions a refusal names.
 const NAMED: usize = 20;
 
 // Adds which partitions cannot be read, and why that matters.
@@ -38,7 +37,6 @@ fn push_unread(out: &mut Words, ring: &Ring, unread: &[u32], most: usize) {
     );
 }
 
-// Says that the rings declare a node differently.
 fn push_other_node(out: &mut Words, goal: &Goal, node: u32) {
     let declared = if (node as usize) < goal.ring.nodes().len() {
         &goal.ring
@@ -52,7 +50,6 @@ fn push_other_node(out: &mut Words, goal: &Goal, node: u32) {
     )
 }
 
-// Says why no plan can lead there.
 fn push_unfit(out: &mut Words, goal: &Goal, unread: &[u32], unfit: Unfit) {
     let ring = &goal.ring;
     match unfit {
@@ -113,7 +110,7 @@ fn count_living(ring: &Ring, dead: &[NodeId]) -> u32 {
     count
 }
 
-// Takes so many lines off the refusal's line number.
+// Subtracts `lines` from the line number.
 fn behind(refusal: &Refusal, lines: u32) -> Option<Refusal> {
     match refusal {
         Refusal::BadLine(line) => Some(Refusal::BadLine(line.checked_sub(lines)?)),
@@ -127,7 +124,6 @@ fn behind(refusal: &Refusal, lines: u32) -> Option<Refusal> {
     }
 }
 
-// Says what there is to say of a bundle without a plan.
 const NO_CHANGE: &[u8; 160] =
     b"refused: a change is missing after the ring\n  A change is `change 1`, lines `join <node>`, then lines `leave <node>`, and `end`. Or the goal ring stands there.\n";
 
@@ -141,7 +137,7 @@ fn begins_a_ring(text: &[u8]) -> bool {
         || line == b"ring 3\n".as_slice()
 }
 
-// Says what is wrong with a text. Lines of the second ring are counted from its first.
+// Lines of the second ring are counted from its first.
 fn push_fault(
     alloc: Global,
     out: &mut Words,
@@ -192,7 +188,7 @@ fn is_behind(inside: &Refusal) -> bool {
     )
 }
 
-// Says why there is no plan, or which name is unknown, by the rings.
+// Says why there is no plan, or which name is unknown.
 fn push_by_goal(
     alloc: Global,
     out: &mut Words,
@@ -210,7 +206,7 @@ fn push_by_goal(
     }
 }
 
-// Says that too few members would be left. Returns whether that is so.
+// Returns whether too few members would be left.
 fn push_few_left(
     alloc: Global,
     out: &mut Words,
@@ -240,7 +236,7 @@ fn wanted_with(
     Ok((wanted, dead))
 }
 
-/// Adds which dead nodes leave although the change does not say so.
+/// Adds which dead nodes leave unasked.
 pub fn push_dead_leavers(
     alloc: Global,
     out: &mut Words,
@@ -264,7 +260,7 @@ pub fn push_dead_leavers(
     Ok(())
 }
 
-/// Adds which partitions stay as they are, because they cannot be read.
+/// Adds which unread partitions stay as they are.
 pub fn push_left(
     alloc: Global,
     out: &mut Words,

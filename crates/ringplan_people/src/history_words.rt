@@ -13,7 +13,6 @@ use ring_names::Refusal;
 use show_why::{Page, Said};
 use std::alloc::Global;
 
-// Why an event could not have happened.
 fn reason(code: u32) -> &'static [u8] {
     match code {
         0 => b"its reply would be another",
@@ -66,7 +65,7 @@ struct Recorded {
     history: Vec<Entry>,
 }
 
-// Reads the plan and the history of a bundle. None if a text is refused or the checker says no.
+// None if a text is refused or the checker says no.
 fn replayed(alloc: Global, bytes: &[u8]) -> Result<Option<Recorded>, Refusal> {
     let bundle = match read_replay(alloc, bytes) {
         Ok(bundle) => bundle,
@@ -88,7 +87,7 @@ fn replayed(alloc: Global, bytes: &[u8]) -> Result<Option<Recorded>, Refusal> {
     }
 }
 
-// The number of the line after the first parts.
+// The line after the first parts.
 fn line_behind(bytes: &[u8], parts: u32) -> u32 {
     let page = Page {
         bytes: &bytes[..front(bytes, parts)],
@@ -107,7 +106,7 @@ fn step_of(event: &Event) -> Option<u32> {
     }
 }
 
-// Says which step the event is of, and the reply that was due.
+// Says which step the event is of, and which reply was due.
 fn tell_entry(
     alloc: Global,
     said: &mut Said,
@@ -138,7 +137,7 @@ fn tell_entry(
     }
 }
 
-// Says what the reply should have been, and where the differing puts came from.
+// Says which reply was due, and how the differing puts came.
 fn tell_reply(
     alloc: Global,
     said: &mut Said,
@@ -152,7 +151,7 @@ fn tell_reply(
     trail.tell(alloc, said, wrong, reply)
 }
 
-// The reply to an event after those entries. None if it is refused.
+// The reply after those entries. None if it is refused.
 fn due(
     alloc: Global,
     approved: &Approved,
@@ -168,7 +167,7 @@ fn due(
     }
 }
 
-// The reply of the world to the event. None if it is refused.
+// None if the event is refused.
 fn reply_of(world: &mut World, event: &Event) -> Result<Option<Reply>, Refusal> {
     if world.puts() == u32::MAX || world.gets() == u32::MAX {
         return Ok(None);
@@ -179,7 +178,7 @@ fn reply_of(world: &mut World, event: &Event) -> Result<Option<Reply>, Refusal> 
     }
 }
 
-/// Hands on `OutOfMemory`, and leaves out every other refusal.
+/// Returns `OutOfMemory`, and ignores any other refusal.
 pub(crate) fn unless_memory(refusal: Refusal) -> Result<(), Refusal>
     ensures { OnOk result (refusal ≢ OutOfMemory) }
 {
@@ -189,7 +188,6 @@ pub(crate) fn unless_memory(refusal: Refusal) -> Result<(), Refusal>
     Ok(())
 }
 
-// Hands on `OutOfMemory`, and makes every other refusal no reply.
 fn none_unless_memory(refusal: Refusal) -> Result<Option<Reply>, Refusal> {
     unless_memory(refusal)?;
     Ok(None)

@@ -1,4 +1,4 @@
-//! What is wrong with a layout's text, in words.
+//! What is wrong with a layout, in words.
 
 use helpers::Words;
 use layout_text::read_layout;
@@ -6,7 +6,7 @@ use ring_names::Refusal;
 use show_why::{Page, Said, tell_layout};
 use std::alloc::Global;
 
-// Adds the mend and what comes of it, unless the mended text is refused as before.
+// Adds the mend and its result, unless the same refusal follows.
 fn push_mend(
     alloc: Global,
     out: &mut Words,
@@ -41,7 +41,7 @@ fn is_at(refusal: &Refusal, number: u32) -> bool {
     }
 }
 
-/// Says what is wrong with a layout: a title, the line, notes and a mend.
+/// Returns what is wrong with a layout, with a mend.
 pub fn layout_fault(alloc: Global, bytes: &[u8], refusal: &Refusal) -> Result<Vec<u8>, Refusal> {
     let mut said = Said::new(alloc);
     tell_layout(alloc, &mut said, bytes, refusal)?;

@@ -1,4 +1,4 @@
-//! What people read of bundles: plans in words and pictures, why a bundle is refused, and the ring that a plan leaves.
+//! Answers for people: plans in words and pictures, why a bundle is refused, and the ring that a plan leaves.
 #![tactic(auto)]
 
 mod after;

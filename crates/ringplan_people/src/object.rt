@@ -1,4 +1,4 @@
-//! Objects of JSON that are made member by member.
+//! JSON objects.
 
 ghost use Rattle.std.specs.Prelude.{◌≡◌, IfOk};
 
@@ -7,7 +7,7 @@ use ringplan_jobs::Answer;
 use serde_json::{Map, Value, put};
 use std::alloc::Global;
 
-/// A JSON object that is made member by member.
+/// A JSON object, made member by member.
 #[derive(Drop)]
 pub(crate) struct Object {
     alloc: Global,
@@ -47,7 +47,7 @@ impl Object {
         self.put(name, Value::from(number))
     }
 
-    /// Adds a number of up to 64 bits.
+    /// Adds a number of 64 bits.
     pub fn long(&mut self, name: &str, number: u64) -> Result<(), Refusal> {
         self.put(name, Value::from(number))
     }
@@ -64,7 +64,7 @@ impl Object {
         Value::Object(members)
     }
 
-    /// Returns the object as one line, with that status.
+    /// Returns the object as one line.
     pub fn answer(self, status: u8) -> Result<Answer, Refusal>
         ensures { IfOk result (λ answer. answer.status ≡ status) }
     {

@@ -15,7 +15,6 @@ enum Paint {
     Good,
 }
 
-// The sequence that begins the paint.
 fn begin_of(paint: Paint) -> &'static [u8] {
     match paint {
         Paint::Nothing => b"",
@@ -28,7 +27,7 @@ fn begin_of(paint: Paint) -> &'static [u8] {
 
 const END: &[u8; 4] = b"\x1b[0m";
 
-// The first byte after an empty margin, if the line has one.
+// The first byte after an empty margin.
 fn mark_of(line: &[u8]) -> Option<u8> {
     let mut has_margin = false;
     for byte in line {
@@ -41,7 +40,7 @@ fn mark_of(line: &[u8]) -> Option<u8> {
     None
 }
 
-// Whether a mend adds the line: a number with a plus after it.
+// Whether a mend adds the line: a number, then a plus.
 fn is_new(line: &[u8]) -> bool {
     let mut has_digit = false;
     for place in 0..line.len() {
@@ -75,7 +74,6 @@ fn paint_of(line: &[u8]) -> Paint {
     }
 }
 
-// Adds the painted line. The line feed is not painted.
 fn push_line(out: &mut Words, line: &[u8]) {
     let begin = begin_of(paint_of(line));
     if begin.is_empty() || !line.ends_with(b"\n") {
@@ -88,7 +86,9 @@ fn push_line(out: &mut Words, line: &[u8]) {
     out.byte(b'\n');
 }
 
-/// Colours the words if `color` asks for it: titles bold, faults red, what belongs to them cyan, mends and a yes green.
+/// Colours the words if `color` asks for it.
+///
+/// Titles are bold, faults red, lines that belong to them cyan, mends and a yes green.
 pub(crate) fn painted(alloc: Global, words: Vec<u8>, color: Color) -> Result<Vec<u8>, Refusal> {
     if color != Color::Always {
         return Ok(words);

@@ -1,4 +1,4 @@
-//! Which racks are known, and which options do not fit a bundle, in words.
+//! Which racks are known, and which options do not fit.
 
 use change_text::{Options, RackRule, read_wanted};
 use helpers::Words;
@@ -23,7 +23,7 @@ pub(crate) fn racking_of(
     racks_of(alloc, ring, members.as_slice(), options)
 }
 
-/// Adds which racks a plan was made by, if the bundle has a change.
+/// Adds which racks a change was planned by.
 pub(crate) fn push_racks(
     alloc: Global,
     out: &mut Words,
@@ -138,12 +138,12 @@ fn push_unparted(out: &mut Words, name: &[u8], byte: u8) {
     out.text(b"  `--racks-behind none` plans without racks, and a layout names them.\n");
 }
 
-/// Whether the refusal may be about the options: an unknown name, or a partition that the ring does not have.
+/// Whether the options may be at fault: an unknown name or partition.
 pub(crate) fn is_of_options(refusal: &Refusal) -> bool {
     matches!(refusal, Refusal::UnknownNode(0) | Refusal::TooLarge(_))
 }
 
-/// Says which option does not fit the ring: a name, a partition, or a missing rack. Returns whether one does not.
+/// Reports a name, a partition or a missing rack that does not fit. Returns whether there is one.
 pub(crate) fn push_misfits(
     alloc: Global,
     out: &mut Words,

@@ -1,4 +1,4 @@
-//! Reports: what is made of a bundle on standard output, or on standard error why nothing is.
+//! Reports: what is made of a bundle, or why nothing is.
 
 ghost use Rattle.std.specs.Prelude.{◌≡◌, ◌≤◌, ◌⊎◌, IfOk};
 ghost use Rattle.plan_bundles.specs.Goals.{IsLedText};
@@ -32,14 +32,14 @@ pub struct Report {
     pub status: u8,
 }
 
-// What standard error says, and whether a plan with steps was made for a goal.
+// What standard error says, and whether a goal's plan has steps.
 #[derive(Drop)]
 struct Notes {
     words: Words,
     has_steps: bool,
 }
 
-// Makes a plan that leads to the goal ring. Notes which dead nodes leave unasked, and whether the plan has steps.
+// Notes which dead nodes leave unasked, and whether the plan has steps.
 fn make_goal(
     alloc: Global,
     bytes: &[u8],
@@ -59,7 +59,6 @@ fn make_goal(
     found.bundle(alloc)
 }
 
-// Makes what is asked for. Adds what standard error says.
 fn make_of(
     alloc: Global,
     making: Making,
@@ -84,7 +83,7 @@ fn make_of(
     }
 }
 
-/// Returns the exit status at a goal: 4 if it asks whether the plan has steps and the plan has, otherwise 0.
+/// Returns the exit status: 4 if `exit` asks for steps and there are some, otherwise 0.
 pub(crate) fn goal_status(exit: Exit, has_steps: bool) -> u8
     ensures { (result ≡ 0) ⊎ ((result ≡ 4) × (exit ≡ Exit.Steps)) }
 {
@@ -121,7 +120,6 @@ fn made(making: Making, output: Vec<u8>, notes: Notes) -> Result<Report, Refusal
     })
 }
 
-// The report of a refusal: its line and those words on standard error.
 fn refused_with(alloc: Global, refusal: Refusal, words: Words) -> Result<Report, Refusal>
     ensures { IfOk result (λ r. IsRefusal refusal r.output.items r.errors.items r.status) }
 {
@@ -186,7 +184,7 @@ fn push_unturned(
     }
 }
 
-// Adds why it was refused, unless `around_bundle` has said it.
+// `around_bundle` itself says why it refuses with `NoPlan`.
 fn said_before(alloc: Global, making: Making, refusal: &Refusal, notes: Notes) -> Words {
     let Notes { words, .. } = notes;
     match (making, refusal) {
@@ -195,11 +193,10 @@ fn said_before(alloc: Global, making: Making, refusal: &Refusal, notes: Notes) -
     }
 }
 
-// Says what goes around dead nodes before the first step.
 const GOAL_DEAD: &[u8; 76] =
     b"  Before the first step `ringplan goal --dead NODE` goes around dead nodes.\n";
 
-// Says why a line is refused that should go on the history, and what to do without a history.
+// Says why a history's next line is refused, and what to do without a history.
 fn push_unbegun(alloc: Global, out: &mut Words, bytes: &[u8], line: u32) -> Result<(), Refusal> {
     let is_over = line > Page { bytes }.count();
     if kind_of(bytes) == Kind::Change {
@@ -275,8 +272,10 @@ fn report_stated(
     Ok(silent(alloc, answer))
 }
 
-/// Returns what is printed for a request: what is made of the bundle on standard output, or the refusal's line and why on standard error.
-/// `why` and a statement print both on standard output. The only refusal is `OutOfMemory`.
+/// Returns what is printed for a request. The only refusal is `OutOfMemory`.
+///
+/// Standard output has what is made. After a refusal, standard error has its line and why. `why` and a statement print
+/// both on standard output.
 pub fn report_bundle(
     alloc: Global,
     making: Making,
@@ -292,7 +291,7 @@ pub fn report_bundle(
     }
 }
 
-/// Returns what is printed if the input could not be read: the refusal's line and why, on standard error.
+/// Returns what is printed if the input could not be read.
 pub fn report_unread(alloc: Global, refusal: Refusal) -> Result<Report, Refusal>
     ensures { IfOk result (λ r. IsRefusal refusal r.output.items r.errors.items r.status) }
 {

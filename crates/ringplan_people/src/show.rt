@@ -23,7 +23,7 @@ use show_plan::{
 };
 use std::alloc::Global;
 
-/// A bundle's plan, and how far its history has come.
+/// A plan, and how far its history has come.
 #[derive(Drop)]
 pub(crate) struct Shown {
     pub scene: Scene,
@@ -31,7 +31,9 @@ pub(crate) struct Shown {
     pub present: Present,
 }
 
-/// Returns how much each partition stores, if the layout has sizes. A partition that the ring does not have is `TooLarge` with its line in the layout.
+/// Returns how much each partition stores, if the layout has sizes.
+///
+/// An unknown partition is `TooLarge` with its line in the layout.
 pub(crate) fn sizes_by(
     alloc: Global,
     ring: &Ring,
@@ -44,7 +46,7 @@ pub(crate) fn sizes_by(
     Ok(Some(sizes))
 }
 
-/// Returns how much a plan moves and its history leaves, if the layout has sizes. Refusals are those of `sizes_by`.
+/// Returns how much moves and remains. Refusals are those of `sizes_by`.
 pub(crate) fn volumes_of(
     alloc: Global,
     found: &Study,
@@ -60,7 +62,7 @@ pub(crate) fn volumes_of(
     Ok(Some(volumes))
 }
 
-/// Returns the dead nodes. A name that the ring does not declare is `UnknownNode(0)`.
+/// Returns the dead nodes. An undeclared name is `UnknownNode(0)`.
 pub(crate) fn dead_of(
     alloc: Global,
     ring: &Ring,
@@ -106,7 +108,7 @@ pub(crate) fn racks_at_rest(
     racks_of(alloc, ring, members.as_slice(), options)
 }
 
-/// Returns what the options say of a ring's nodes and partitions. Unknown names and partitions are refused.
+/// Returns what the options say of nodes and partitions. Unknown names and partitions are refused.
 pub(crate) fn facts_of(
     alloc: Global,
     ring: &Ring,
@@ -121,7 +123,6 @@ pub(crate) fn facts_of(
     })
 }
 
-// The summary of a ring without a plan.
 fn show_ring(alloc: Global, bytes: &[u8], options: &Options) -> Result<Vec<u8>, Refusal>
     ensures shown { OnOk result (IsShown bytes.now) }
 {
@@ -140,17 +141,19 @@ fn show_plain(
 ) -> Result<Vec<u8>, Refusal>
     ensures shown { OnOk result (IsShown bytes.now) }
 {
-    // Nothing stands after the first line `end`.
+    // Nothing follows the ring.
     if front(bytes, 1) == bytes.len() {
         return show_ring(alloc, bytes, options);
     }
     show_plan(alloc, bytes, wish, options, words)
 }
 
-/// Summarizes a bundle's plan if the checker accepts it, with its history's progress and its sizes, or a ring without a plan.
+/// Summarizes an accepted plan with progress and sizes, or a ring without a plan.
 ///
-/// Refusals are those of `studied` and of the ring's reader. An unknown name, or a member without a rack if racks are known, is `UnknownNode(0)`. A partition
-/// that the ring does not have is `TooLarge` with its line in the layout. Adds to the words which racks a change was planned by.
+/// Adds to the words which racks a change was planned by.
+///
+/// Refuses what `studied`, the ring's reader and `sizes_by` refuse. An unknown name is `UnknownNode(0)`; so is a member
+/// without a rack if racks are known.
 pub fn show_bundle(
     alloc: Global,
     bytes: &[u8],
@@ -234,7 +237,7 @@ fn show_plan(
     summary(&view)
 }
 
-/// Draws a bundle's plan as SVG, or the map of its slots, with its history's progress. Refusals and words are those of `show_bundle`.
+/// Draws a plan, or the map of its slots, as SVG. Refusals and words are those of `show_bundle`.
 pub fn draw_bundle(
     alloc: Global,
     bytes: &[u8],

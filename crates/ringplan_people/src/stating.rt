@@ -27,7 +27,7 @@ use show_plan::{Facts, Present, Scene, Volumes, stored_by};
 use show_why::Said;
 use std::alloc::Global;
 
-// What comes of a mended bundle: a word, or the line of a refusal.
+// `accepted`, `planned`, `replayed`, or the next refusal's line.
 fn outcome_value(alloc: Global, outcome: Outcome) -> Result<Value, Refusal> {
     let word: &[u8] = match outcome {
         Outcome::Accepted => b"accepted",
@@ -44,7 +44,7 @@ fn outcome_value(alloc: Global, outcome: Outcome) -> Result<Value, Refusal> {
     text_value(alloc, word)
 }
 
-// The mend: the lines that change, their new text, and what comes of it.
+// The new lines, and what they lead to.
 fn mend_value(alloc: Global, said: &Said, outcome: Outcome) -> Result<Value, Refusal> {
     let mut lines = Vec::new(alloc);
     for place in 0..said.changes() {
@@ -90,7 +90,6 @@ fn refused_answer(object: Object, refusal: &Refusal) -> Result<Answer, Refusal>
     object.answer(status_of(refusal))
 }
 
-// What is stated of a refused bundle: the refusal, the words of `why`, the lines at fault, the promises that its plan keeps, and a mend.
 fn state_refusal(alloc: Global, bytes: &[u8], refusal: &Refusal) -> Result<Answer, Refusal>
     ensures { IfOk result (λ answer. (answer.status ≢ 0) × (answer.status ≤ 3)) }
 {
@@ -129,7 +128,7 @@ fn state_why(alloc: Global, bytes: &[u8]) -> Result<Answer, Refusal>
 {
     match studied(alloc, bytes, &Options::new(alloc)) {
         Ok(found) => {
-            // The plan is approved, which the prover knows once it is read.
+            // Reading the plan tells the prover that it is approved.
             let _ = found.approved.plan();
             state_accepted(alloc, &found)
         }
@@ -143,12 +142,11 @@ struct Nodes<'a> {
     ring: &'a Ring,
     present: &'a Present,
     facts: &'a Facts,
-    // how much each node stores, if that is known
+    // by node
     stored: &'a Option<Vec<u64>>,
 }
 
 impl<'a> Nodes<'a> {
-    // The object of a node.
     fn object(&self, node: u32) -> Result<Object, Refusal> {
         let present = self.present;
         let mut object = Object::new(self.alloc);
@@ -178,7 +176,6 @@ fn put_label(
     }
 }
 
-// Adds the node's allowance: one number, or one for each side.
 fn put_allowance(object: &mut Object, ring: &Ring, node: u32) -> Result<(), Refusal> {
     match ring.nodes().get(node as usize) {
         Some(declared) => match declared.allowance {
@@ -231,7 +228,7 @@ fn nodes_value(stated: &Nodes, shown: &Shown, volumes: Option<&Volumes>) -> Resu
     Ok(Value::Array(nodes))
 }
 
-// Adds who joins and leaves, and how much moves in how many rounds.
+// Adds who joins and leaves, how much moves, and the rounds.
 fn put_change(
     object: &mut Object,
     alloc: Global,
@@ -244,7 +241,7 @@ fn put_change(
     object.number("rounds", scene.round_count())
 }
 
-// Adds how much a plan moves, what its history leaves, and when that ends at the earliest.
+// Adds how much moves and remains, and the earliest end.
 fn put_volumes(
     object: &mut Object,
     alloc: Global,
@@ -315,7 +312,6 @@ fn plan_object(
     Ok(object)
 }
 
-// Which option does not fit the bundle.
 fn state_misfit(
     alloc: Global,
     bytes: &[u8],
@@ -385,7 +381,7 @@ fn state_plan(alloc: Global, bytes: &[u8], wish: Wish, options: &Options) -> Res
 {
     match studied(alloc, bytes, options) {
         Ok(found) => {
-            // The plan is approved, which the prover knows once it is read.
+            // Reading the plan tells the prover that it is approved.
             let _ = found.approved.plan();
             state_studied(alloc, bytes, &found, wish, options)
         }
@@ -402,7 +398,7 @@ fn state_shown(
     ensures yes { IfOk result (λ answer. answer.status ≡ 0 → IsShown bytes.now) }
     ensures few { IfOk result (λ answer. answer.status ≤ 3) }
 {
-    // Nothing stands after the first line `end`.
+    // Nothing follows the ring.
     if front(bytes, 1) == bytes.len() {
         return state_ring(alloc, bytes, options);
     }
@@ -451,9 +447,11 @@ fn state_goal(alloc: Global, bytes: &[u8], options: &Options, exit: Exit) -> Res
     }
 }
 
-/// States what `why`, `show` or `goal` says as one line of JSON, with the same exit status.
+/// States what `why`, `show` or `goal` says as one line of JSON.
 ///
-/// A refusal has the members of a check's answer and `words`. `why` and `show` add the lines at fault and a mend. The only refusal is `OutOfMemory`.
+/// The exit status is the same. The only refusal is `OutOfMemory`.
+///
+/// A refusal has the members of a check's answer and `words`. `why` and `show` add the lines at fault and a mend.
 pub fn state_bundle(
     alloc: Global,
     statement: Statement,

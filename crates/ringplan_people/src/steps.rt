@@ -1,4 +1,4 @@
-//! The steps of a bundle's plan, for those who carry them out on a store of their own.
+//! The steps of a plan, for use with another store.
 
 ghost use Rattle.std.specs.Prelude.{◌≡◌, List, IfOk};
 ghost use Rattle.ring_table.specs.Value.{RingValue};
@@ -24,7 +24,7 @@ fn steps_of(alloc: Global, approved: &Approved) -> Result<Vec<u8>, Refusal>
     write_steps(alloc, approved.ring(), approved.plan())
 }
 
-/// Writes the steps of a bundle's plan as lines of JSON, if the checker accepts it. A history changes nothing. Refusals are those of `studied`.
+/// Writes a plan's steps as lines of JSON. A history changes nothing. Refusals are those of `studied`.
 pub fn steps_bundle(
     alloc: Global,
     bytes: &[u8],
@@ -46,7 +46,7 @@ fn moves_of(alloc: Global, approved: &Approved) -> Result<Vec<u8>, Refusal>
     write_moves(alloc, approved.ring(), approved.plan())
 }
 
-/// Writes the slots that a bundle's plan moves as lines of JSON. Refusals are those of `studied`.
+/// Writes the slots that move as lines of JSON. Refusals are those of `studied`.
 pub fn moves_bundle(
     alloc: Global,
     bytes: &[u8],

@@ -23,7 +23,7 @@ use std::alloc::Global;
 pub struct Study {
     pub approved: Approved,
     pub cert: Cert,
-    /// A run of the plan, if the bundle has a history.
+    /// A run of the plan.
     pub history: Option<Vec<Entry>>,
 }
 
@@ -46,7 +46,7 @@ pub(crate) fn accepted(alloc: Global, ring: Ring, plan: Plan, cert: Cert) -> Res
     }
 }
 
-/// Reads and checks a bundle with a plan and without a history.
+/// Reads and checks a bundle without a history.
 pub(crate) fn study_plan(alloc: Global, bytes: &[u8]) -> Result<Study, Refusal>
     ensures of { IfOk result (λ s. IsPlanOf bytes.now s.approved.ring s.approved.plan) }
     ensures history { IfOk result (λ s. s.history ≡ None) }
@@ -84,9 +84,10 @@ fn study_history(alloc: Global, bytes: &[u8]) -> Result<Study, Refusal>
     })
 }
 
-/// Reads and checks a bundle. For one with a change, a plan is made first, by the options.
+/// Reads and checks a bundle. For a change, makes a plan first.
 ///
-/// Refused are the first fault of the texts, what `wish_bundle` or the checker refuses, and a history that is not a run of the plan.
+/// Refuses the first fault of the texts, what `wish_bundle` or the checker refuses, and a history that is not a run of
+/// the plan.
 pub fn studied(alloc: Global, bytes: &[u8], options: &Options) -> Result<Study, Refusal>
     ensures of { IfOk result (λ s. IsStudyOf bytes.now s.approved.ring s.approved.plan) }
     ensures history { IfOk result

@@ -16,7 +16,7 @@ const ENTRIES: usize = 2;
 
 const STEPS: usize = 3;
 
-/// The entries of a history before a wrong reply, the line of the first, and their plan.
+/// A history before a wrong reply, its first line, and its plan.
 #[derive(Clone, Copy)]
 pub(crate) struct Trail<'a> {
     pub ring: &'a Ring,
@@ -25,14 +25,14 @@ pub(crate) struct Trail<'a> {
     pub line: u32,
 }
 
-// A put that only one of two replies has. It is missing if only the reply that was due has it.
+// A put of only one of two replies. It is missing if only the due reply has it.
 #[derive(Clone, Copy)]
 struct Differing {
     put: u32,
     is_missing: bool,
 }
 
-// Where a get looked: the slot of a read with the key's chunk, or all that the get has read.
+// What a get looked at: a slot and the key's chunk, or all its reads.
 #[derive(Clone, Copy)]
 enum Looked {
     Slot(Slot, u32),
@@ -81,7 +81,6 @@ fn key_of(history: &[Entry], get: u32) -> Option<&Key> {
     None
 }
 
-// The place of the entry that started the put.
 fn start_of(history: &[Entry], put: u32) -> Option<usize> {
     let mut left = put;
     for (place, entry) in history.iter().enumerate() {
@@ -123,7 +122,7 @@ impl<'a> Trail<'a> {
         }
     }
 
-    // Whether the entry brought the put to where the get looked.
+    // Whether the entry brought the put to what the get looked at.
     fn brings(&self, entry: &Entry, source: Looked, put: u32) -> bool {
         match source {
             Looked::Reads(get) => is_find(entry, get, put),
@@ -136,7 +135,7 @@ impl<'a> Trail<'a> {
         }
     }
 
-    // Whether the entry is a step of the slot, a copy of its chunk, or a handoff of hints to it.
+    // Whether the entry is a step of the slot, a copy of its chunk, or a handoff to it.
     fn is_of_slot(&self, event: &Event, slot: Slot, chunk: u32) -> bool {
         match event {
             Event::Do(step) | Event::CloseCopy(step) => slot_of(self.plan, *step) == Some(slot),
@@ -218,7 +217,10 @@ impl<'a> Trail<'a> {
         }
     }
 
-    /// Shows for each differing put of a read or the end of a get its line and the entries that brought it. For a read also the slot's last entries.
+    /// Shows the differing puts of a read, or of a get's end.
+    ///
+    /// For each put shows its line, and the entries that brought the put. For a read also shows the slot's last
+    /// entries.
     pub(crate) fn tell(
         &self,
         alloc: Global,

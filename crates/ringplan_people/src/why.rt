@@ -41,11 +41,10 @@ pub(crate) enum Outcome {
     Replayed,
     /// Another refusal.
     Next(Refusal),
-    /// The refusal that came before, or there is no mend.
+    /// The same refusal as before, or there is no mend.
     Same,
 }
 
-// Checks a mended bundle that was refused so before.
 fn asked(alloc: Global, mended: &[u8], was: &Refusal) -> Result<Outcome, Refusal>
     ensures yes { IfOk result (λ o. o ≡ Outcome.Accepted → TextsKeepPromises mended.now) }
 {
@@ -78,7 +77,7 @@ fn next(refusal: Refusal, was: &Refusal) -> Result<Outcome, Refusal>
     })
 }
 
-// Adds the mend and what comes of it, unless the mended bundle is refused as before.
+// Adds the mend and what it leads to, unless it leads to the same refusal.
 fn push_mend(
     alloc: Global,
     out: &mut Words,
@@ -120,7 +119,7 @@ fn push_next(alloc: Global, out: &mut Words, refusal: Refusal) -> Result<(), Ref
     Ok(())
 }
 
-// Says why a bundle is refused whose texts are in order.
+// For bundles with valid texts.
 fn tell_read(
     alloc: Global,
     said: &mut Said,
@@ -134,10 +133,9 @@ fn tell_read(
     }
 }
 
-// Longer texts are not searched for another certificate, which may take the square of their steps.
+// Longer texts are not searched: a search may take the square of the steps.
 const SOUGHT: usize = 65_536;
 
-// What may mend a plan that is refused because a node has too many chains.
 fn remedy_of(alloc: Global, texts: &[u8], refusal: &Refusal) -> Result<Remedy, Refusal> {
     let Refusal::TooManyChains(node) = refusal else {
         return Ok(Remedy::Unknown);
@@ -188,7 +186,7 @@ fn members_left(wanted: &Wanted) -> u32 {
     members
 }
 
-/// Says that too few live members would be left. Returns whether that is so.
+/// Returns whether too few live members would be left, and reports it.
 pub(crate) fn push_few(
     alloc: Global,
     out: &mut Words,
@@ -209,7 +207,7 @@ pub(crate) fn push_few(
     Ok(true)
 }
 
-/// Says that so many members are too few for the slots of a partition.
+/// Says that a partition has more slots than there are members.
 pub(crate) fn push_too_few(alloc: Global, out: &mut Words, members: u32, slots: u32) {
     let mut said = Said::new(alloc);
     tell_few(&mut said, members, slots);
@@ -225,7 +223,6 @@ fn tell_no_plan(alloc: Global, said: &mut Said, bytes: &[u8]) -> Result<(), Refu
     Ok(())
 }
 
-// Says whether too few members are left, or only that no plan was found.
 fn tell_few(said: &mut Said, members: u32, slots: u32) {
     if members >= slots {
         said.title(b"the planner found no plan");
@@ -240,7 +237,7 @@ fn tell_few(said: &mut Said, members: u32, slots: u32) {
     said.note(b"Let fewer nodes leave, or more join.")
 }
 
-/// Adds why a bundle is refused so. Keeps what is said in `said`, and returns what comes of its mend.
+/// Adds why a bundle is refused. Fills `said`, and returns what its mend leads to.
 pub(crate) fn push_why(
     alloc: Global,
     out: &mut Words,
@@ -254,7 +251,7 @@ pub(crate) fn push_why(
     push_said(alloc, out, said, bytes, refusal)
 }
 
-// Adds what is said and its mend. Returns what comes of the mend.
+// Returns what the mend leads to.
 fn push_said(
     alloc: Global,
     out: &mut Words,
@@ -269,7 +266,7 @@ fn push_said(
     Ok(Outcome::Same)
 }
 
-/// Adds why a bundle is refused so: nothing if its line says all.
+/// Adds why a bundle is refused. Nothing if the refusal's line says all.
 pub fn push_words_of(
     alloc: Global,
     out: &mut Words,
@@ -306,7 +303,6 @@ pub(crate) fn push_accepted(out: &mut Words, found: &Study) {
     }
 }
 
-// The answer: what was found, these lines and these words.
 fn answer_with(
     alloc: Global,
     found: Result<Vec<u8>, Refusal>,
@@ -332,7 +328,6 @@ fn answer_accepted(alloc: Global, found: &Study, color: Color) -> Result<Answer,
     answer_with(alloc, Ok(yes), b"", words, color)
 }
 
-// The answer to a plan that the checker refused.
 fn answer_turned(
     alloc: Global,
     bytes: &[u8],
@@ -386,14 +381,14 @@ fn why_read(alloc: Global, bytes: &[u8], bundle: Bundle, color: Color) -> Result
     }
 }
 
-// Adds why a bundle with a change or a history is accepted or refused. Returns the refusal.
+// For a bundle with a change or a history.
 fn push_more(alloc: Global, out: &mut Words, bytes: &[u8]) -> Result<Option<Refusal>, Refusal>
     ensures { IfOk result (λ r. IfNone r (HasApproved bytes.now)) }
 {
     match studied(alloc, bytes, &Options::new(alloc)) {
         Ok(found) => {
             push_accepted(out, &found);
-            // The plan is approved, which the prover knows once it is read.
+            // Reading the plan tells the prover that it is approved.
             let _ = found.approved.plan();
             Ok(None)
         }
@@ -417,7 +412,7 @@ fn why_more(alloc: Global, bytes: &[u8], color: Color) -> Result<Answer, Refusal
     answer_with(alloc, found, b"", words, color)
 }
 
-// Why a bundle is accepted or refused that is not a ring, a plan and a certificate.
+// For a bundle that is not a ring, a plan and a certificate.
 fn why_unread(
     alloc: Global,
     bytes: &[u8],
@@ -439,9 +434,12 @@ fn why_unread(
     }
 }
 
-/// Says what the checker answers, and why: its line, then words with the lines concerned and a mend. The status is that of the line.
+/// Answers as the checker does, and says why.
 ///
-/// A bundle with a change is planned first. If a bundle has a history, the words say whether it is a run. Only the words may have colours.
+/// The line and the status are the checker's. Words follow, with the lines concerned and a mend. Only the words may
+/// have colours.
+///
+/// For a change, makes a plan first. For a history, says whether it is a run.
 pub fn why_bundle(alloc: Global, bytes: &[u8], color: Color) -> Result<Answer, Refusal>
     ensures why { IfOk result (λ a. IsWhy bytes.now a.output.items a.status) }
     ensures few { IfOk result (λ a. a.status ≤ 3) }

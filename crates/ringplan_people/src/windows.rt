@@ -20,7 +20,9 @@ use std::alloc::Global;
 const TOO_MANY: &[u8; 123] =
     b"refused: the windows have more than 67,108,864 bytes together, as each has the whole ring\n  Let a window have more rounds.\n";
 
-/// Cuts a bundle's plan into windows, or returns one of these, as `cut_plan` does. A history changes nothing. Refusals are those of `studied` and `cut_plan`.
+/// Cuts a plan into windows, or returns one window.
+///
+/// A history changes nothing. Refusals are those of `studied` and `cut_plan`.
 pub fn windows_bundle(
     alloc: Global,
     bytes: &[u8],
@@ -55,7 +57,7 @@ pub fn push_windows_words(
     }
 }
 
-// Says that there is no such window, if the plan itself is accepted.
+// For a plan that is itself accepted.
 fn push_no_window(
     alloc: Global,
     out: &mut Words,
