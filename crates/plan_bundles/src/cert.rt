@@ -1,4 +1,4 @@
-//! Certificates for a ring and a plan. What follows the two texts is ignored.
+//! Certificates for a ring and a plan. The rest of a bundle is ignored.
 
 ghost use Rattle.std.specs.Prelude.{◌≡◌, IfOk};
 ghost use Rattle.texts.specs.Judging.{Gives, map_ok};
@@ -24,14 +24,12 @@ pub(crate) struct Front {
     pub(crate) plan: Plan,
 }
 
-// A certificate, and the text of ring, plan and certificate.
 #[derive(Drop)]
 struct Candidate {
     found: Outcome,
     text: Vec<u8>,
 }
 
-// Reads the ring, then the plan. A ring's fault comes first.
 #[tactic(auto, unfolding(crate::specs::Certs::front_at))]
 fn read_both(alloc: Global, lines: &mut Lines) -> Result<Front, Refusal>
     ensures read { Reads result lines.new (front_at lines.old) }
@@ -50,7 +48,7 @@ fn read_front(alloc: Global, bytes: &[u8]) -> Result<Front, Refusal>
     read_both(alloc, &mut lines)
 }
 
-// Finds a certificate, without asking the checker.
+// Does not ask the checker.
 fn found(alloc: Global, ring: &Ring, plan: &Plan) -> Result<Candidate, Refusal>
     requires { PlanSuits ring.now plan.now }
     ensures { IfOk result (λ f. f.text.items ≡ front_text ring.now plan.now f.found.cert) }
@@ -60,7 +58,6 @@ fn found(alloc: Global, ring: &Ring, plan: &Plan) -> Result<Candidate, Refusal>
     Ok(Candidate { found, text })
 }
 
-// Returns the texts with the certificate that was found, if the checker accepts the plan with it.
 fn certified(alloc: Global, front: Front) -> Result<Vec<u8>, Refusal>
     requires { PlanSuits front.ring front.plan }
     ensures { IfOk result (λ text. IsCertifiedBy front.ring front.plan text.items) }
@@ -73,22 +70,20 @@ fn certified(alloc: Global, front: Front) -> Result<Vec<u8>, Refusal>
     }
 }
 
-/// Reads a ring and a plan, and returns them with a certificate. What follows the plan is not read.
+/// Reads a ring and a plan, and returns them with a certificate.
 ///
-/// The certificate has paths of dependencies, and the fewest chains that the plan's order allows.
+/// Its chains are the fewest that the plan's order allows.
 ///
-/// Fails with the first fault of the two texts, then with the checker's refusal.
-///
-/// If a node has too many chains because the search for fewer was given up, fails with `NoPlan`.
+/// Fails with the first fault of the texts, then as the checker does. Fails with `NoPlan` if a node has too many chains
+/// because the search was given up.
 pub fn cert_bundle(alloc: Global, bytes: &[u8]) -> Result<Vec<u8>, Refusal>
-    // The ring and the plan are the input's. The checker accepts the plan with the certificate, so the plan keeps its promises.
     ensures certified { IfOk result (λ text. IsCertifiedText bytes.now text.items) }
 {
     let front = read_front(alloc, bytes)?;
     certified(alloc, front)
 }
 
-/// Reads a ring and a plan, and returns them with the best certificate found. The checker is not asked.
+/// Returns a ring and a plan with the best certificate found. Does not ask the checker.
 pub fn found_bundle(alloc: Global, bytes: &[u8]) -> Result<Vec<u8>, Refusal>
     ensures { IfOk result (λ text. IsClaimedText bytes.now text.items) }
 {
@@ -97,7 +92,7 @@ pub fn found_bundle(alloc: Global, bytes: &[u8]) -> Result<Vec<u8>, Refusal>
     Ok(text)
 }
 
-/// If the checker refused a found certificate for a node's chains, adds that fewer are impossible, if so.
+/// For `TooManyChains`, adds that no certificate has fewer chains, if so.
 pub fn push_excess(
     alloc: Global,
     out: &mut Words,

@@ -25,7 +25,7 @@ impl<'a> Windows<'a> {
         at(&self.of_groups, group as usize)
     }
 
-    // Puts the step's group in this window, unless it comes later.
+    // Keeps a later window. Returns whether the window changed.
     fn raise(&mut self, step: u32, window: u32) -> bool {
         let group = at(self.of_steps, step as usize) as usize;
         if at(&self.of_groups, group) >= window {
@@ -35,7 +35,7 @@ impl<'a> Windows<'a> {
         true
     }
 
-    // Puts each group in the window of its copy's round, counted from 1.
+    // Puts each group in the window of its copy's round, from 1.
     fn begin(&mut self, rounds: &[u32], width: u32) {
         let plan = self.plan;
         for number in 0..plan.len() {
@@ -48,7 +48,7 @@ impl<'a> Windows<'a> {
         }
     }
 
-    // Puts each group no earlier than those that its steps wait for. Returns whether one was too early.
+    // Puts each group no earlier than the groups that it waits for. Returns whether one moved.
     fn pass(&mut self) -> bool {
         let plan = self.plan;
         let mut is_raised = false;
@@ -64,7 +64,7 @@ impl<'a> Windows<'a> {
         is_raised
     }
 
-    // Repeats passes until no step is too early. If that takes too long, makes one window.
+    // After too many passes, makes one window.
     fn settle(&mut self) {
         for _ in 0..PASSES {
             if !self.pass() {
@@ -138,10 +138,10 @@ fn pieces(alloc: Global, windows: &Windows) -> Result<Pieces, Refusal> {
     Ok(cutting.pieces)
 }
 
-/// Cuts the plan into windows of `width` rounds of copies. The steps that hand a slot on stay together, with
-/// their drop.
+/// Cuts the plan into windows of `width` rounds of copies.
 ///
-/// A step keeps only dependencies in its own window; earlier ones are done.
+/// The steps that move a slot stay together, with their drop. A step keeps only dependencies in its own window; earlier
+/// steps are done.
 pub fn cut(
     alloc: Global,
     ring: &Ring,

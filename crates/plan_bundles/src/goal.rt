@@ -19,7 +19,7 @@ use ring_names::{Listed, NodeId, Refusal};
 use ring_table::Ring;
 use std::alloc::Global;
 
-/// Returns the named nodes, in order. Fails with `UnknownNode(0)` if the ring does not declare a name.
+/// Returns the named nodes. An undeclared name is `UnknownNode(0)`.
 pub fn nodes_of(alloc: Global, ring: &Ring, names: &[Vec<u8>]) -> Result<Vec<NodeId>, Refusal>
     ensures { IfOk result (λ v. AreNamed ring.now (map (λ name. name.items) names.now) v.items) }
 {
@@ -65,11 +65,9 @@ pub fn dead_by(alloc: Global, options: &Options) -> Result<Vec<Vec<u8>>, Refusal
     Ok(names)
 }
 
-/// Reads two rings, and finds a plan from the first to the second, around the dead nodes. If unread partitions are
-/// left, their slots stay.
+/// Reads two rings, and finds a plan from the first to the second, around dead nodes.
 ///
-/// Fails with the first fault of the rings. Then fails with `UnknownNode(0)` for a name that the first ring
-/// does not declare, and as `reach` does.
+/// Fails with the first fault of the rings, then with `UnknownNode(0)` for an undeclared name, then as `reach` does.
 pub fn goal_bundle(
     alloc: Global,
     bytes: &[u8],
@@ -194,7 +192,7 @@ fn wished_ring(
     ring.with(alloc, rows.as_slice(), members.as_slice())
 }
 
-// Checks the owners against the layout's sizes, if it has any. Fails with `NoPlan` if a slot may not have its owner.
+// Fails with `NoPlan` if the sizes do not allow a slot's owner.
 fn ask_sized(
     alloc: Global,
     ring: &Ring,
@@ -217,19 +215,16 @@ fn ask_sized(
     Err(Refusal::NoPlan)
 }
 
-/// Reads a ring and a change, and finds a plan that makes the change, around the dead nodes, by weight and with racks
-/// apart. Dead members leave in any case.
+/// Reads a ring and a change, and finds a plan for it, around dead nodes, which leave.
 ///
-/// If unread partitions are left, their slots stay.
+/// Chooses owners by weight, with racks apart. With sizes, a slot moves only from a leaver or, if it has keys, to a
+/// joiner that is not above its share.
 ///
-/// With sizes in the layout, only slots of leavers get new owners, and slots with keys if the joiner is not
-/// above its share.
+/// Fails with the first fault of the texts. Fails with `UnknownNode(0)` for an undeclared name, or for a member without
+/// a rack if racks are known.
 ///
-/// Fails with the first fault of the texts. Fails with `UnknownNode(0)` for a name that the ring does not
-/// declare, or a member without a rack if racks are known.
-///
-/// Fails with `TooLarge` and the layout's line for an unknown partition, with `NoPlan` if too few members
-/// remain, and as `reach` does.
+/// Fails with `TooLarge` and the layout's line for an unknown partition, with `NoPlan` if too few members remain, and
+/// as `reach` does.
 pub fn wish_bundle(alloc: Global, bytes: &[u8], options: &Options) -> Result<Proposed, Refusal>
     ensures reached { IfOk result (IsWishReached bytes.now options.now) }
 {
@@ -244,7 +239,6 @@ pub fn wish_bundle(alloc: Global, bytes: &[u8], options: &Options) -> Result<Pro
     reach(alloc, ring, &goal, nodes.as_slice())
 }
 
-// The ring of a bundle and its goal ring, as read or wished for.
 fn read_aim(alloc: Global, bytes: &[u8], options: &Options) -> Result<Goal, Refusal> {
     if kind_of(bytes) != Kind::Change {
         return read_goal(alloc, bytes);
@@ -257,7 +251,7 @@ fn read_aim(alloc: Global, bytes: &[u8], options: &Options) -> Result<Goal, Refu
     Ok(Goal { ring, wanted })
 }
 
-/// Returns the ring of a bundle, the goal ring, and the unread partitions, ascending.
+/// Returns the ring, the goal ring, and the unread partitions, ascending.
 pub fn goal_of(
     alloc: Global,
     bytes: &[u8],
@@ -277,8 +271,7 @@ pub fn goal_of(
     Ok((Goal { ring, wanted }, unread))
 }
 
-/// Finds a plan to the goal ring: by `goal_bundle` from two rings, around dead nodes, or by `wish_bundle` from a ring
-/// and a change.
+/// Finds a plan to the goal ring: by `goal_bundle` or, for a change, by `wish_bundle`.
 pub fn led_bundle(alloc: Global, bytes: &[u8], options: &Options) -> Result<Proposed, Refusal>
     ensures led { IfOk result (IsLed bytes.now options.now) }
 {

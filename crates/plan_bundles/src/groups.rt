@@ -1,4 +1,4 @@
-//! Groups of steps that stay together: those that hand a slot on, with the drop that follows.
+//! Groups of steps that stay together: the steps that move a slot, with their drop.
 
 use find_chains::Stays;
 use helpers::at;
@@ -7,7 +7,7 @@ use ring_names::Refusal;
 use ring_table::Ring;
 use std::alloc::Global;
 
-/// By step the number of its group, and the number of groups.
+/// Each step's group, and the number of groups.
 #[derive(Drop)]
 pub struct Groups {
     pub of_steps: Vec<u32>,
@@ -41,8 +41,8 @@ impl Groups {
     }
 }
 
-// The earlier step of the same group. A copy and a switch follow their mirror; a drop follows the switch by which its
-// node left the slot.
+// An earlier step of the group. Copy and switch follow their mirror; a drop follows the switch that took the slot from
+// the drop's node.
 fn leader(stays: &Stays, step: &Step) -> Option<u32> {
     match step {
         Step::Copy(slot, _) | Step::Switch(slot) => stays.stay(stays.mirror_at(*slot))?.begun,

@@ -1,4 +1,4 @@
-//! Whether some plans are the windows of a plan.
+//! Checks that some plans are the windows of a plan.
 
 ghost use Rattle.std.specs.Prelude.{◌≡◌, ◌<◌, ℕ, nat_le, true, IsTrue, IfOk, Some, map, length};
 ghost use Rattle.std.specs.List.{list_all};
@@ -9,7 +9,7 @@ use plan_text::Plan;
 use ring_names::Refusal;
 use std::alloc::Global;
 
-/// The window of a step, and its number there.
+/// A step's window, and its number there.
 #[derive(Clone, Copy, Debug)]
 pub(crate) struct Place {
     pub window: u32,
@@ -21,12 +21,12 @@ pub(crate) struct Pieces {
     pub plans: Vec<Plan>,
     /// By step of the whole plan.
     pub places: Vec<Place>,
-    /// By window, the numbers of its steps in the whole plan.
+    /// By window, its steps in the whole plan.
     pub steps: Vec<Vec<u32>>,
 }
 
 impl Pieces {
-    /// No windows.
+    /// Returns pieces without windows.
     pub fn new(alloc: Global) -> Pieces {
         Pieces {
             plans: Vec::new(alloc),
@@ -48,7 +48,7 @@ fn place_of(places: &[Place], step: u32) -> Place
     }
 }
 
-/// Returns the steps that are in the window, by their numbers there.
+/// Returns the steps in the window, by their numbers there.
 pub(crate) fn waits_in(
     alloc: Global,
     places: &[Place],
@@ -73,7 +73,6 @@ fn are_before(places: &[Place], window: u32, steps: &[u32]) -> bool
         .all(|step| place_of(places, *step).window <= window)
 }
 
-// Whether the step keeps its dependencies in the window, and has the others in earlier ones.
 fn waits_alike(
     alloc: Global,
     plan: &Plan,
@@ -126,7 +125,6 @@ fn is_alone(pieces: &Pieces, step: u32) -> bool
     }
 }
 
-// Whether each step of the plan is in its window, the only step at its place.
 fn are_placed(alloc: Global, plan: &Plan, pieces: &Pieces) -> Result<bool, Refusal>
     ensures { IfOk result (λ is. IsTrue is → (n : ℕ) → n < length plan.now
         → IsPlaced plan.now pieces.now.plans.items (window_by pieces.now.places.items) (number_by pieces.now.places.items) n

@@ -1,4 +1,4 @@
-//! Racks and aliases, from the layout or from the names of nodes.
+//! Racks and aliases, from the layout or from nodes' names.
 
 use change_text::{Options, RackRule};
 use helpers::{Labels, Words, at, is_set, put, raise, set, small, suffix};
@@ -11,13 +11,12 @@ use std::alloc::Global;
 /// How racks are known.
 #[derive(Clone, Copy, Debug, PartialEq, Eq)]
 pub enum Known {
-    /// From the layout.
     Named,
     /// From what follows the last such byte in a node's name.
     Behind(u8),
-    /// Not at all, after a search.
+    /// Unknown after a search.
     Unknown,
-    /// Not at all, by option.
+    /// Unknown by option.
     Off,
 }
 
@@ -28,10 +27,8 @@ pub struct Racking {
     pub known: Known,
 }
 
-// The most racks that are named.
 const MOST: u32 = 6;
 
-// Writes `r1, r2, r3`, and how many others there are.
 fn push_names(out: &mut Words, racks: &Labels) {
     let shown = racks.count().min(MOST);
     for number in 0..shown {
@@ -84,7 +81,7 @@ fn unknown() -> Racking {
     }
 }
 
-/// By node, whether it is a member or joins.
+/// Returns which nodes are members or join.
 pub fn members_with(alloc: Global, ring: &Ring, joins: &[NodeId]) -> Result<Vec<bool>, Refusal> {
     let mut members = Vec::new(alloc);
     for node in ring.nodes() {
@@ -96,7 +93,7 @@ pub fn members_with(alloc: Global, ring: &Ring, joins: &[NodeId]) -> Result<Vec<
     Ok(members)
 }
 
-/// By node, whether it is a member or joins by the plan.
+/// Returns which nodes are members or join by the plan.
 pub fn members_by(alloc: Global, ring: &Ring, plan: &Plan) -> Result<Vec<bool>, Refusal> {
     let mut members = members_with(alloc, ring, &[])?;
     for node in 0..small(members.len()) {
@@ -107,7 +104,6 @@ pub fn members_by(alloc: Global, ring: &Ring, plan: &Plan) -> Result<Vec<bool>, 
     Ok(members)
 }
 
-// Which facts name nodes.
 #[derive(Clone, Copy, PartialEq, Eq)]
 enum Naming {
     Racks,
@@ -135,8 +131,7 @@ fn has(entries: &[Entry], naming: Naming) -> bool {
     false
 }
 
-// By node, 1 plus the place of its fact of this kind, or 0. Fails with `UnknownNode(0)` for a name that the ring does
-// not declare.
+// By node, 1 plus the place of its fact, or 0. An undeclared name is `UnknownNode(0)`.
 fn places(
     alloc: Global,
     ring: &Ring,
@@ -157,7 +152,7 @@ fn places(
     Ok(places)
 }
 
-// The label of each node by facts of this kind. Fails with `UnknownNode(0)` if a node must have one and has none.
+// Fails with `UnknownNode(0)` if a node must have a label and has none.
 fn labels(
     alloc: Global,
     ring: &Ring,
@@ -186,7 +181,7 @@ fn labels(
     Ok(labels)
 }
 
-// The racks after this byte in names, if each member has one.
+// None if a member's name has no rack after the byte.
 fn behind(
     alloc: Global,
     ring: &Ring,
@@ -228,7 +223,6 @@ fn count(alloc: Global, members: &[bool], racks: &Labels) -> Result<(u32, u32), 
     Ok((count, used))
 }
 
-// Whether no rack has more than `most` slots of a partition.
 fn are_spread(ring: &Ring, racks: &Labels, most: u32) -> bool {
     for row in ring.rows() {
         for owner in row.as_slice() {
@@ -246,7 +240,7 @@ fn are_spread(ring: &Ring, racks: &Labels, most: u32) -> bool {
     true
 }
 
-// Whether these look like racks: at least 2, at most half as many as members, and each partition is spread over them.
+// Racks are at least 2, at most half as many as members, and partitions are spread over them.
 fn is_likely(
     alloc: Global,
     ring: &Ring,
@@ -262,7 +256,7 @@ fn is_likely(
     Ok(are_spread(ring, racks, most))
 }
 
-// The racks in names, if exactly one separator shows likely ones.
+// The racks in names, if exactly one separator shows likely racks.
 fn shown(alloc: Global, ring: &Ring, members: &[bool]) -> Result<Racking, Refusal> {
     let mut found = unknown();
     for byte in SEPARATORS {
@@ -281,10 +275,9 @@ fn shown(alloc: Global, ring: &Ring, members: &[bool]) -> Result<Racking, Refusa
     Ok(found)
 }
 
-/// Returns the racks by the options. `members` marks the nodes that are members or join.
+/// Returns the racks by the options. `members` marks members and joiners.
 ///
-/// Fails with `UnknownNode(0)` for a name that the ring does not declare, or a member without a rack when
-/// others have one.
+/// Fails with `UnknownNode(0)` for an undeclared name, or for a member without a rack if others have one.
 pub fn racks_of(
     alloc: Global,
     ring: &Ring,
@@ -340,7 +333,7 @@ pub fn unracked(
     Ok(None)
 }
 
-/// Returns the aliases, if the layout has any. Fails with `UnknownNode(0)` for a name that the ring does not declare.
+/// Returns the layout's aliases, if any. An undeclared name is `UnknownNode(0)`.
 pub fn aliases_of(alloc: Global, ring: &Ring, layout: &Layout) -> Result<Option<Labels>, Refusal> {
     let entries = layout.entries.as_slice();
     if !has(entries, Naming::Aliases) {
@@ -360,7 +353,7 @@ fn node_of(fact: &Fact) -> Option<&[u8]> {
     }
 }
 
-/// Returns the layout's first fact about a node or partition that the ring does not have.
+/// Returns the first fact about an unknown node or partition.
 pub fn misfit<'a>(ring: &Ring, layout: &'a Layout) -> Option<&'a Entry> {
     for entry in layout.entries.as_slice() {
         let fits = match (&entry.fact, node_of(&entry.fact)) {
@@ -375,8 +368,9 @@ pub fn misfit<'a>(ring: &Ring, layout: &'a Layout) -> Option<&'a Entry> {
     None
 }
 
-/// Checks that the layout fits the ring. Fails with `UnknownNode(0)` for an unknown node, and with `TooLarge` and the
-/// layout's line for an unknown partition.
+/// Checks that the layout fits the ring.
+///
+/// An unknown node is `UnknownNode(0)`. An unknown partition is `TooLarge` with the layout's line.
 pub fn ask_layout(ring: &Ring, layout: &Layout) -> Result<(), Refusal> {
     match misfit(ring, layout) {
         None => Ok(()),

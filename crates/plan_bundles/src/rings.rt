@@ -28,8 +28,7 @@ fn members_left(alloc: Global, ring: &Ring, plan: &Plan) -> Result<Vec<bool>, Re
     Ok(members)
 }
 
-/// Returns the ring after the plan: its last owners as owners, and as members those that were or joined and did not
-/// retire. The rest stays.
+/// Returns the ring after the plan: new owners and members, all else unchanged.
 pub fn ring_after(alloc: Global, approved: &Approved) -> Result<Ring, Refusal>
     ensures { IfOk result (λ v. v ≡ ring_left approved.now.ring approved.now.plan) }
 {

@@ -1,17 +1,16 @@
 //! A bound on the bytes of windows, known before they are made.
 //!
-//! Each window begins with a ring's text. These rings differ only in owners and members (`ring_after`). So their texts
-//! differ only in two places: a node's line ends with `in`, or with `out`, a byte longer. A slot's owner is a name, at
-//! least as long as the shortest. So the first ring's text, less a byte for each node and with the shortest name for
-//! each owner, is no longer than any window.
+//! Each window begins with a ring's text, and the rings differ only in owners and members (`ring_after`). An `in` is a
+//! byte shorter than an `out`, and an owner's name is at least as long as the shortest name. So no window is shorter
+//! than the first ring's text, less a byte for each node, with the shortest name for each owner.
 
 use ring_names::{NodeId, Refusal};
 use ring_table::{Node, Ring};
 
-/// The most bytes of a plan's windows together, as for a bundle.
+/// The most bytes of a plan's windows together.
 pub const MAX_WINDOWS: usize = 67_108_864;
 
-/// The bytes of the windows so far, how many windows remain, and the fewest bytes of each.
+/// The bytes so far, the windows that remain, and the fewest bytes of each.
 #[derive(Clone, Copy, Debug)]
 pub struct Room {
     made: usize,
@@ -35,7 +34,7 @@ impl Room {
         self.left = self.left.saturating_sub(1);
     }
 
-    /// Fails with `TooLarge(0)` if the windows so far and those that remain need too many bytes.
+    /// Fails with `TooLarge(0)` if all windows need too many bytes.
     pub fn ask(&self) -> Result<(), Refusal> {
         let left = self.left.saturating_mul(self.fewest);
         if self.made.saturating_add(left) > MAX_WINDOWS {
@@ -45,7 +44,6 @@ impl Room {
     }
 }
 
-// The fewest bytes of a window, by the first ring's text.
 fn fewest_bytes(ring: &Ring, text: &[u8]) -> usize {
     let nodes = ring.nodes();
     let shortest = shortest_name(nodes);

@@ -1,4 +1,4 @@
-//! The sections of a bundle, by their `end` lines.
+//! A bundle's sections, by their `end` lines.
 
 ghost use Rattle.std.specs.Prelude.{◌≤◌, length};
 
@@ -7,9 +7,8 @@ use memchr::memchr;
 /// What follows a bundle's ring.
 #[derive(Clone, Copy, Debug, PartialEq, Eq)]
 pub enum Kind {
-    /// A change of the ring's members.
     Change,
-    /// A plan and its certificate only.
+    /// A plan and its certificate.
     Plan,
     /// A plan, its certificate and more, which should be a history.
     History,
@@ -29,7 +28,7 @@ fn is_end(text: &[u8], start: usize, end: usize) -> bool {
     start <= end && end <= text.len() && &text[start..end] == b"end\n".as_slice()
 }
 
-/// Returns the bytes of the first sections: up to that many lines `end`, or all bytes if there are fewer.
+/// Returns how many bytes the first sections have. With fewer sections, all bytes.
 pub fn front(text: &[u8], sections: u32) -> usize
     ensures { result ≤ length text.now }
 {

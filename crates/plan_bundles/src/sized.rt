@@ -32,7 +32,7 @@ fn load_at(loads: &[u64], place: usize) -> u64
     }
 }
 
-/// Whether the place has a flag that is set.
+/// Whether the place's flag is set.
 pub fn is_flagged(flags: &[bool], place: usize) -> bool
     ensures { result ≡ is_flagged flags.now place }
 {
@@ -42,7 +42,7 @@ pub fn is_flagged(flags: &[bool], place: usize) -> bool
     }
 }
 
-/// Returns the owners of the partition's slots, or none if there is no such partition.
+/// Returns the partition's owners, or none.
 pub fn row_at(rows: &[Listed<NodeId>], partition: usize) -> &[NodeId]
     ensures { result.now ≡ row_at rows.now partition }
 {
@@ -141,7 +141,7 @@ fn is_at_most(one: u64, by: u64, other: u64, times: u32) -> Option<bool>
     Some(first <= second)
 }
 
-// The joining nodes, the stored sizes and their sum, and the weights and their sum.
+// The joiners, the stored sizes and weights, and their sums.
 #[derive(Clone, Copy)]
 struct Shares<'a> {
     joins: &'a [NodeId],
@@ -258,7 +258,7 @@ fn may_rows(
     true
 }
 
-/// The size of each partition, and the weight of each node.
+/// Sizes by partition, and weights by node.
 #[derive(Drop)]
 pub struct Measures {
     pub sizes: Vec<u64>,
@@ -283,7 +283,7 @@ pub fn are_kept(
     Ok(may_rows(leavers.as_slice(), takers.as_slice(), sizes, before, after))
 }
 
-// Sets the size of a fact. Fails with the fact's line if the ring does not have the partition.
+// Fails with the fact's line for an unknown partition.
 fn put_size(all: &mut Vec<u64>, entry: &Entry) -> Result<(), Refusal>
     ensures { OnOk result (all.new.items ≡ with_size all.old.items entry.now.fact) }
 {
@@ -308,8 +308,9 @@ fn put_sizes(all: &mut Vec<u64>, entries: &[Entry]) -> Result<(), Refusal>
     put_sizes(all, more)
 }
 
-/// Returns the sizes of partitions: 1 unless the layout has one. Fails with `TooLarge` and the layout's line for an
-/// unknown partition.
+/// Returns each partition's size: 1 unless the layout has one.
+///
+/// An unknown partition is `TooLarge` with the layout's line.
 pub fn sizes_of(alloc: Global, partitions: u32, layout: &Layout) -> Result<Vec<u64>, Refusal>
     ensures { IfOk result (λ all. all.items ≡ sizes_by (replicate partitions 1) layout.now.entries) }
 {
@@ -335,7 +336,7 @@ pub fn has_sizes(layout: &Layout) -> bool
         .any(|entry| is_size(&entry.fact))
 }
 
-// Sets the weight of a fact. Fails with `UnknownNode(0)` for a name that the ring does not declare.
+// Fails with `UnknownNode(0)` for an undeclared name.
 fn put_weight(all: &mut Vec<u32>, ring: &Ring, fact: &Fact) -> Result<(), Refusal>
     ensures { OnOk result (all.new.items ≡ with_weight (names_of ring.now) all.old.items fact.now) }
 {
@@ -362,7 +363,7 @@ fn put_weights(all: &mut Vec<u32>, ring: &Ring, entries: &[Entry]) -> Result<(),
     put_weights(all, ring, more)
 }
 
-/// Returns the weights of the ring's nodes: 1 unless the layout has one.
+/// Returns each node's weight: 1 unless the layout has one.
 pub fn weights_of(alloc: Global, ring: &Ring, layout: &Layout) -> Result<Vec<u32>, Refusal>
     ensures { IfOk result (λ all. all.items
         ≡ weights_by (names_of ring.now) (replicate (length ring.now.nodes) 1) layout.now.entries) }

@@ -90,10 +90,10 @@ fn without_unread(
     wanted.with(alloc, rows.as_slice(), members.as_slice())
 }
 
-/// Returns the wanted ring, but if unread partitions are left, with their slots as they are. Owners stay
-/// members.
+/// Returns the wanted ring. If unread partitions are left, their slots stay.
 ///
-/// A partition is unread if a dead node should hand on a slot and fewer owners live than a read asks.
+/// A partition is unread if a dead node should hand on a slot and fewer owners live than a read asks. Owners stay
+/// members.
 pub fn wanted_by(
     alloc: Global,
     unreadable: Unreadable,

@@ -20,7 +20,6 @@ use ring_names::Refusal;
 use ring_table::{Ring, write_ring};
 use std::alloc::Global;
 
-// The text of a window, and the ring that it leaves.
 #[derive(Drop)]
 struct Window {
     text: Vec<u8>,
@@ -53,14 +52,13 @@ pub fn is_same_ring(alloc: Global, one: &Ring, other: &Ring) -> Result<bool, Ref
     Ok(text.as_slice() == write_ring(alloc, other)?.as_slice())
 }
 
-// What is kept of the texts of windows.
 #[derive(Drop)]
 enum Asked {
-    // All, one after the other.
+    // All, in order.
     All(Vec<u8>),
-    // None yet: so many windows precede the wanted one.
+    // None yet: so many windows precede the wanted window.
     After(u32),
-    // The wanted one.
+    // The wanted window.
     Found(Vec<u8>),
 }
 
@@ -112,7 +110,7 @@ struct Windows {
     next: Ring,
 }
 
-// Makes the windows of the plans. Fails with `TooLarge(0)` as soon as too many bytes are certain.
+// Fails with `TooLarge(0)` once too many bytes are certain.
 fn all_windows(
     alloc: Global,
     first: Ring,
@@ -135,15 +133,13 @@ fn all_windows(
     Ok(Windows { asked, next })
 }
 
-/// Cuts an approved plan into windows of `width` rounds of copies. Returns all, or only one, counted from 1.
+/// Cuts an approved plan into windows of `width` rounds of copies.
 ///
-/// Each is a ring, a plan and its certificate, over the ring that the window before leaves. The steps that hand
-/// a slot on stay in one window.
+/// Returns all windows, or only one, counted from 1. The steps that move a slot stay in one window.
 ///
 /// Fails as the checker does for a window, or with `NoPlan` if there is no such window.
 ///
-/// Fails with `TooLarge(0)` if the windows exceed `MAX_WINDOWS` bytes, before any is made if numbers and
-/// lengths show it.
+/// Fails with `TooLarge(0)` above `MAX_WINDOWS` bytes. If numbers and lengths show this, it makes no window first.
 pub fn cut_plan(
     alloc: Global,
     approved: &Approved,
