@@ -26,7 +26,6 @@ impl Search<'_> {
         false
     }
 
-    // Returns whether a slot of the partition got another end.
     fn part(&mut self, partition: u32) -> Result<bool, Refusal> {
         let mut has_parted = false;
         for index in 0..self.task.ring.n() {
@@ -35,8 +34,7 @@ impl Search<'_> {
         Ok(has_parted)
     }
 
-    // Retargets or leaves out the slot's last move, if it has not begun and fewer slots share a rack then. Returns
-    // whether it did.
+    // Retargets or leaves out the slot's last move, if fewer slots then share a rack.
     fn part_slot(&mut self, slot: Slot) -> Result<bool, Refusal> {
         let place = self.last_left(slot);
         let (Some(found), Some(it)) = (place, self.moves.at(place)) else {

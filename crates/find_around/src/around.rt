@@ -1,4 +1,4 @@
-//! The search as a whole and its input.
+//! The search and its input.
 
 use crate::crowding::Crowd;
 use crate::entries::Begun;
@@ -27,44 +27,44 @@ pub struct Task<'a> {
     pub alloc: Global,
     pub ring: &'a Ring,
     pub plan: &'a Plan,
-    /// The plan's certificate. Its chains say which copies share an allowance.
+    /// Its chains say which copies share an allowance.
     pub cert: &'a Cert,
     /// A run of the plan.
     pub history: &'a [Entry],
-    /// How much of the plan is still to be done.
+    /// How much is still to be done.
     pub extent: Extent,
     /// Slots that stay with their owners.
     pub left: &'a [Slot],
-    /// The nodes that are dead from now on.
+    /// Nodes that are dead from now on.
     pub dead: &'a [NodeId],
-    /// Slots whose mirrors hold puts that their owners lack: their copies must not start over.
+    /// Slots whose mirrors hold puts that their owners lack. Their copies must not start over.
     pub ahead: &'a [Slot],
     /// The racks of nodes, if known.
     pub racks: Option<&'a Labels>,
-    /// Whether mirrors may be undone. Mirrors of slots that stay are undone in any case.
+    /// Whether mirrors may be undone. Mirrors of slots that stay always are.
     pub back: Back,
-    /// Whether the report has a line for each slot, or only sums by node.
+    /// Whether to report each slot, or only sums by node.
     pub shape: Shape,
 }
 
-/// How far a search goes. After a refused plan, the next one goes less far.
+/// How far a search goes: less far after each refused plan.
 #[derive(Clone, Copy, Debug, PartialEq, Eq)]
 pub enum Reach {
     /// Keeps all moves that can still be done.
     Far,
-    /// Like `Far`, but in partitions with a dead node or a slot that stays, only moves that have begun.
+    /// Like `Far`. In partitions with a dead node or a slot that stays, keeps only begun moves.
     Near,
     /// Keeps only moves whose copies are done or have all chunks.
     Full,
 }
 
-/// The new plan, and what became of the old plan's steps.
+/// The new plan, and what became of the old steps.
 #[derive(Drop)]
 pub struct Around {
     pub plan: Plan,
-    /// By step of the new plan, its number in the old one.
+    /// By new step, its old number.
     pub olds: Vec<u32>,
-    /// By step of the old plan, its number in the new one. None if its entries go, or if it has not begun.
+    /// By old step, its new number. None if its entries go, or if it has not begun.
     pub numbers: Vec<Option<u32>>,
     pub is_same: bool,
     /// What becomes of slots and nodes, one line each.
@@ -78,36 +78,33 @@ pub(crate) struct Search<'a> {
     pub(crate) progress: Progress,
     pub(crate) moves: Moves,
     pub(crate) hints: Hints,
-    /// By node.
     pub(crate) dead: Vec<bool>,
     pub(crate) ahead: BTreeSet<Slot>,
-    /// By partition, whether no more moves begin there.
+    /// By partition, whether no more moves begin.
     pub(crate) resting: Vec<bool>,
     pub(crate) crowd: Crowd,
-    /// By step.
     pub(crate) begun: Vec<bool>,
     /// By step, whether it is left out.
     pub(crate) gone: Vec<bool>,
     /// By step, whether it is a copy that starts over.
     pub(crate) fresh: Vec<bool>,
-    /// By step, whether it is a mirror that is undone.
+    /// By step, whether it is an undone mirror.
     pub(crate) taken: Vec<bool>,
-    /// By step, whether it is a mirror that a begun step of another move depends on.
+    /// By step, whether another move's begun step depends on this mirror.
     pub(crate) awaited: Vec<bool>,
-    /// Dependencies beyond those of the old plan.
+    /// Dependencies that the old plan lacks.
     pub(crate) more: Needs,
-    /// By copy, what it lists instead of the old plan's list.
+    /// By copy, its new sources.
     pub(crate) listings: BTreeMap<u32, Listing>,
-    /// By node: copies newly given to it to serve, and slots owned in the end.
+    /// By node, copies newly read from it; then slots owned in the end.
     pub(crate) load: Vec<u32>,
     pub(crate) owned: Vec<u32>,
-    /// By node, 1 plus the last partition in which it was busy; then 1 plus the last partition searched for that.
+    /// By node, 1 plus the last partition in which it was busy. Then 1 plus the last partition searched.
     pub(crate) busy: Vec<u32>,
     pub(crate) looked_at: u32,
-    /// By node, 1 plus the place of the last slot for which it was found to keep another slot's hint.
+    /// By node, the last slot that it cannot take, by place plus 1. It keeps another slot's hint.
     pub(crate) keeping: Vec<u32>,
     pub(crate) is_changed: bool,
-    /// By slot, what to report.
     pub(crate) sayings: BTreeMap<Slot, Saying>,
     pub(crate) words: Words,
 }
@@ -182,7 +179,7 @@ impl<'a> Search<'a> {
         }
     }
 
-    /// Whether the step stays in the history: it is done, or is a begun copy that continues.
+    /// Whether the step is done, or a begun copy that continues.
     pub(crate) fn is_fixed(&self, step: u32) -> bool {
         self.is_done(step)
             || (is_set(self.begun.as_slice(), step)
@@ -207,10 +204,9 @@ impl<'a> Search<'a> {
     }
 }
 
-/// Finds another plan that the history is a run of, without undone and restarted steps. If nothing changes,
-/// returns the old plan.
+/// Finds another plan. The history, without undone and restarted steps, is a run of it.
 ///
-/// Named slots stay; no remaining step involves a dead node.
+/// If nothing changes, returns the old plan. Named slots stay; no remaining step involves a dead node.
 ///
 /// Fails with `NoPlan` or `OutOfMemory`. Costs a pass over plan and history, and sorting.
 pub fn find_around(task: Task, reach: Reach) -> Result<Around, Refusal> {

@@ -1,4 +1,4 @@
-//! Maps the steps of a plan to those of the plan chosen to replace it.
+//! Maps steps to those of the plan chosen instead.
 
 use crate::around::Task;
 use crate::entries::Begun;
@@ -51,7 +51,7 @@ fn key_of(step: &Step) -> Key {
     }
 }
 
-// The steps of a plan by key, the last one first.
+// A plan's steps by key, the last one first.
 #[derive(Drop)]
 struct ByKey {
     alloc: Global,
@@ -101,7 +101,7 @@ fn slots_ahead(task: &Task) -> Result<BTreeSet<Slot>, Refusal> {
     Ok(ahead)
 }
 
-// Drops the numbers of mirrors ahead of their owners whose copies have begun and are new in the chosen plan.
+// Drops the numbers of mirrors ahead of their owners, if their begun copies are new in the chosen plan.
 fn take_back(task: &Task, chosen: &Plan, kept: &mut Kept, begun: &[bool]) -> Result<(), Refusal> {
     let ahead = slots_ahead(task)?;
     let fresh = kept.fresh_copies(task.alloc, chosen)?;
@@ -124,7 +124,6 @@ fn take_back(task: &Task, chosen: &Plan, kept: &mut Kept, begun: &[bool]) -> Res
 }
 
 impl Kept {
-    // The slots that the chosen plan copies by steps new to the task's plan.
     fn fresh_copies(&self, alloc: Global, chosen: &Plan) -> Result<BTreeSet<Slot>, Refusal> {
         let mut fresh = BTreeSet::new(alloc);
         for step in 0..chosen.len() {
@@ -141,7 +140,6 @@ impl Kept {
         matches!(self.numbers.get(step as usize), Some(Some(_)))
     }
 
-    // Whether the step's counterpart in the chosen plan depends on a step that is not done.
     fn waits(&self, chosen: &Plan, step: u32, done: &[bool]) -> bool {
         let Some(Some(number)) = self.numbers.get(step as usize) else {
             return false;
@@ -157,7 +155,7 @@ impl Kept {
         false
     }
 
-    // Drops the numbers, and so the entries, of unfinished copies that must now wait for an unfinished step.
+    // Drops the numbers, and so the entries, of unfinished copies that must now wait.
     fn forget_waiting(&mut self, task: &Task, chosen: &Plan, done: &[bool]) {
         for step in 0..task.plan.len() {
             let is_copy = matches!(task.plan.step(step), Step::Copy(_, _));
@@ -193,7 +191,7 @@ struct Keeping {
 }
 
 impl Keeping {
-    // Returns the number of a begun step. A copy has none if its mirror has none.
+    // A copy has no number if its mirror has none.
     fn number_of(&mut self, step: &Step) -> Result<Option<u32>, Refusal> {
         if let Step::Copy(slot, _) = step {
             if self.mirrors.get(slot).copied() == Some(false) {
@@ -216,11 +214,11 @@ impl Keeping {
     }
 }
 
-/// Maps each begun step to the first equal step of the chosen plan that is still free. Costs a pass over both
-/// plans and the history, and sorting.
+/// Maps begun steps to the first free equal steps of `chosen`. Costs a pass over both plans and the history, and
+/// sorting.
 ///
-/// Unfinished copies that must wait get no number. If mirrors may be undone, neither do mirrors ahead of their
-/// owners whose copies change.
+/// Unfinished copies that must wait get no number. If mirrors may be undone, neither do mirrors ahead of their owners
+/// whose copies change.
 pub fn find_kept(task: &Task, chosen: &Plan) -> Result<Kept, Refusal> {
     let Begun { begun, done, .. } = Begun::of(task)?;
     let mut it = Keeping {

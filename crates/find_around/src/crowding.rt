@@ -12,9 +12,9 @@ use std::collections::BinaryHeap;
 pub(crate) struct Crowd {
     // partition, target and mirror; ascending
     arrivals: Vec<(u32, u32, u32)>,
-    // mirrors of moves that were left out, the first on top
+    // mirrors of moves left out, the first on top
     staying: BinaryHeap<u32>,
-    // by the place of a slot, the mirror from which on its moves are left out
+    // by slot, the mirror from which on its moves are left out
     cuts: Vec<u32>,
 }
 
@@ -42,7 +42,6 @@ impl Crowd {
         at(self.cuts.as_slice(), place_of(slot))
     }
 
-    // The place of the first arrival at the node with this mirror or a later one.
     fn first(&self, partition: u32, node: u32, mirror: u32) -> usize {
         match self.arrivals.binary_search(&(partition, node, mirror)) {
             Ok(place) | Err(place) => place,
@@ -58,7 +57,7 @@ impl Crowd {
         }
     }
 
-    /// Notes that the slot's owner keeps it, since the move with this mirror is left out.
+    /// Notes that the slot stays: this mirror's move is left out.
     pub(crate) fn stay(&mut self, mirror: Option<u32>) -> Result<(), Refusal> {
         if let Some(mirror) = mirror {
             self.staying.push(u32::MAX.saturating_sub(mirror))?;
@@ -80,7 +79,7 @@ impl Search<'_> {
         self.remove(it.drop);
     }
 
-    /// Leaves out this move of the slot and all later ones.
+    /// Leaves out this move and the slot's later ones.
     pub(crate) fn leave_out_from(&mut self, from: Option<usize>) -> Result<(), Refusal> {
         let Some(first) = self.moves.at(from) else {
             return Ok(());
@@ -108,7 +107,7 @@ impl Search<'_> {
         Ok(())
     }
 
-    /// Leaves out each move to a node that keeps another slot of the partition, and the later moves of its slot.
+    /// Leaves out moves to nodes that keep another slot of the partition. Their slots' later moves go too.
     pub(crate) fn make_way(&mut self) -> Result<(), Refusal> {
         for turn in 0..u32::MAX {
             let Some(mirror) = self.crowd.pop() else {
@@ -123,7 +122,6 @@ impl Search<'_> {
         Ok(())
     }
 
-    // The next switch that is kept, by which the slot leaves its owner.
     fn next_switch(&self, it: &Move) -> Option<u32> {
         let mut next = it.next;
         for turn in 0..self.moves.len() {
@@ -136,7 +134,7 @@ impl Search<'_> {
         None
     }
 
-    // Leaves out the moves that would reach the owner before its next kept switch.
+    // Leaves out moves that would reach the owner before its next kept switch.
     fn make_way_for(&mut self, it: &Move, mirror: u32) -> Result<(), Refusal> {
         let until = self.next_switch(it);
         let (partition, node) = (it.slot.partition, it.source);
@@ -155,7 +153,6 @@ impl Search<'_> {
         Ok(())
     }
 
-    // Leaves the other move out if it leads to this move's source.
     fn step_aside(&mut self, it: &Move, other: u32) -> Result<(), Refusal> {
         let place = self.moves.of_step(other);
         let Some(late) = self.moves.at(place) else {

@@ -1,4 +1,4 @@
-//! What a history has begun, and the hints that remain after it.
+//! What a history has begun, and the hints that remain.
 
 use crate::around::Task;
 use helpers::put;

@@ -18,7 +18,7 @@ fn has_done(progress: &Progress, step: Option<u32>) -> bool {
     }
 }
 
-// The slot's first move whose switch is to come, or that ends as a mirror that can be undone.
+// The slot's first move with a switch to come, or that ends as a mirror that can be undone.
 fn first_open(moves: &Moves, progress: &Progress, slot: Slot) -> Option<usize> {
     let mut next = moves.first(slot);
     for turn in 0..moves.len() {
@@ -34,7 +34,9 @@ fn first_open(moves: &Moves, progress: &Progress, slot: Slot) -> Option<usize> {
     None
 }
 
-/// Returns the slots asked to stay that no remaining step moves and no node mirrors. Costs a pass over plan and history.
+/// Returns the slots asked to stay that stay anyway. No remaining step moves them, and no node mirrors them.
+///
+/// Costs a pass over plan and history.
 pub fn find_unmoved(task: &Task) -> Result<Vec<Slot>, Refusal> {
     let mut unmoved = Vec::new(task.alloc);
     if task.left.is_empty() {
@@ -61,7 +63,7 @@ impl Search<'_> {
         self.make_way()
     }
 
-    // Keeps the slot with its owner, unless its copy has all chunks: then the move is finished.
+    // A move whose copy has all chunks is finished instead.
     fn leave_slot(&mut self, slot: Slot) -> Result<(), Refusal> {
         let place = first_open(&self.moves, &self.progress, slot);
         let Some(it) = self.moves.at(place) else {
@@ -83,7 +85,7 @@ impl Search<'_> {
         Ok(())
     }
 
-    /// Undoes the slot's mirror, so that the move has not begun.
+    /// Undoes the mirror, so that the move has not begun.
     pub(crate) fn take_back(&mut self, it: &Move) -> Result<(), Refusal> {
         self.note_taken(it.slot, it.target)?;
         if let Some(mirror) = it.mirror {

@@ -1,6 +1,6 @@
-//! Searches for another plan in the middle of a change: around dead nodes, with slots that stay, or only to finish what
-//! has begun. Steps that are done stay, and so do open copies that need no dead node. The rest is planned again, in the
-//! old order if possible. Nothing is proved of the new plan: the checker and the replay judge it.
+//! Searches for another plan during a change: around dead nodes, with slots that stay, or only to finish what has
+//! begun. Done steps stay, and so do open copies that need no dead node. The rest is planned again, in the old order if
+//! possible. Nothing is proved: the checker and the replay judge the plan.
 #![tactic(auto)]
 
 mod apart;

@@ -1,4 +1,4 @@
-//! Dependencies of the new plan: old ones, the order of each slot's steps, and chains for the allowances.
+//! Dependencies of the new plan.
 
 use crate::around::Search;
 use crate::moving::Move;
@@ -11,7 +11,7 @@ use ring_names::{NodeId, Refusal, Slot};
 use ring_table::{Allowance, Side};
 use std::alloc::Global;
 
-// The most steps to pass through that are left out.
+// How many left-out steps may be passed through.
 const LOOKS: u32 = 100_000_000;
 
 // The last copy of each chain, by transfer group. A node has one or two groups.
@@ -19,7 +19,7 @@ const LOOKS: u32 = 100_000_000;
 struct Tails {
     // by group; no more than may be open
     copies: Vec<Vec<u32>>,
-    // by step: 1 plus its place in the order of linking, and the length of the chain that it ends
+    // by step: 1 plus its place in the order, and the length of the chain that it ends
     places: Vec<u32>,
     depths: Vec<u32>,
 }
@@ -43,7 +43,7 @@ pub(crate) fn link(search: &mut Search) -> Result<Needs, Refusal> {
 }
 
 impl Search<'_> {
-    // Keeps each step's dependencies. Those left out are replaced by their own dependencies.
+    // Keeps dependencies. A left-out step is replaced by its own.
     fn keep_needs(&self, needs: &mut Needs) -> Result<(), Refusal> {
         let count = self.task.plan.len();
         let mut seen = vec![in self.task.alloc; 0u32; count as usize]?;
@@ -56,7 +56,7 @@ impl Search<'_> {
         Ok(())
     }
 
-    // Looks at one step. Returns how many looks are left.
+    // Returns how many looks are left.
     fn keep_of(
         &self,
         needs: &mut Needs,
@@ -86,12 +86,12 @@ impl Search<'_> {
         Err(Refusal::NoPlan)
     }
 
-    // Whether the dependency can stay. An undone mirror must not come before a step that is done or begun.
+    // An undone mirror must not precede a step that is done or begun.
     fn stays_before(&self, step: u32, other: u32) -> bool {
         !self.is_gone(other) && !(self.is_fixed(step) && is_set(self.taken.as_slice(), other))
     }
 
-    // Pushes the direct dependencies of `other`, with the new ones unless the step is done or has begun.
+    // Adds new dependencies only if the step is not done and has not begun.
     fn push_waits(&self, stack: &mut Vec<u32>, step: u32, other: u32) -> Result<(), Refusal> {
         if other < self.task.plan.len() {
             stack.extend_from_slice(self.task.plan.deps(other))?;
@@ -147,7 +147,7 @@ impl Search<'_> {
         Ok(())
     }
 
-    // Orders the steps for linking: done ones, begun copies, then the rest, each after its dependencies.
+    // Order: done steps, begun copies, then the rest, each after its dependencies.
     fn line_up(&self, needs: &Needs) -> Result<Vec<u32>, Refusal> {
         let sorted = self.sorted(needs)?;
         let mut order = Vec::new(self.task.alloc);
@@ -168,8 +168,7 @@ impl Search<'_> {
         Ok(order)
     }
 
-    // Gives each copy that has not begun a place in a chain of each of its nodes. A node has at most as many chains as
-    // copies may be open.
+    // Links each copy that has not begun into a chain of each of its nodes, within allowances.
     fn link_copies(&self, needs: &mut Needs) -> Result<(), Refusal> {
         let order = self.line_up(needs)?;
         let mut tails = Tails::of(self.task.alloc, self, order.as_slice())?;
@@ -230,7 +229,7 @@ impl Search<'_> {
         }
     }
 
-    // How many copies of the group may be open.
+    // The group's allowance.
     fn most(&self, group: usize) -> u32 {
         match self.task.ring.nodes().get(group / 2) {
             Some(declared) => match declared.allowance {
@@ -251,7 +250,6 @@ impl Search<'_> {
         Ok(Parties { groups })
     }
 
-    // Adds the groups that a copy with new sources reads from.
     fn push_listed(
         &self,
         groups: &mut Vec<usize>,
@@ -297,7 +295,6 @@ impl Search<'_> {
         Ok(())
     }
 
-    // The last copy of a chain that has begun and is kept.
     fn last_begun(&self, steps: &[u32]) -> Option<u32> {
         let mut last = None;
         for step in steps {
@@ -310,7 +307,7 @@ impl Search<'_> {
 }
 
 impl Tails {
-    // The ends of the certificate's chains, as far as they have begun.
+    // Reads the begun ends of the certificate's chains.
     fn of(alloc: Global, search: &Search, order: &[u32]) -> Result<Tails, Refusal> {
         let steps = search.task.plan.len() as usize;
         let mut tails = Tails {
@@ -343,7 +340,7 @@ impl Tails {
         Ok(tails)
     }
 
-    // Appends the copy to a chain of the group: a new one if allowed, otherwise the shortest. Returns that chain's old end.
+    // Appends the copy to a new chain if allowed, otherwise to the shortest. Returns that chain's old end.
     fn follow(&mut self, group: usize, copy: u32, most: u32) -> Result<Option<u32>, Refusal> {
         let depths = self.depths.as_slice();
         let Some(list) = self.copies.get_mut(group) else {
@@ -363,7 +360,7 @@ impl Tails {
         at(self.places.as_slice(), step as usize) < at(self.places.as_slice(), other as usize)
     }
 
-    // Sets the length of the chain of copies that the step ends.
+    // Sets the length of the chain that the step ends.
     fn sink(&mut self, needs: &Needs, step: u32, is_copy: bool) {
         let mut depth = 0u32;
         for other in needs.row(step) {

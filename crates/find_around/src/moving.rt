@@ -17,7 +17,7 @@ pub(crate) struct Move {
     pub(crate) copy: Option<u32>,
     pub(crate) switch: Option<u32>,
     pub(crate) drop: Option<u32>,
-    /// The places of the slot's next move and of its previous one.
+    /// The slot's next and previous move.
     pub(crate) next: Option<usize>,
     pub(crate) before: Option<usize>,
 }
@@ -26,7 +26,7 @@ pub(crate) struct Move {
 #[derive(Drop)]
 pub(crate) struct Moves {
     all: Vec<Move>,
-    // by the place of a slot, 1 plus the places of its first and its last move; 0 for none
+    // by slot, 1 plus the places of its first and its last move; 0 for none
     firsts: Vec<u32>,
     lasts: Vec<u32>,
     // by step, 1 plus the place of its move
@@ -51,7 +51,6 @@ pub(crate) fn first_owner(ring: &Ring, slot: Slot) -> u32 {
     0
 }
 
-// Returns a move that its mirror begins.
 fn begun_move(slot: Slot, source: u32, target: u32, mirror: u32, before: Option<usize>) -> Move {
     Move {
         slot,
@@ -93,7 +92,6 @@ impl Moves {
         Ok(())
     }
 
-    // A mirror begins a move.
     fn begin(&mut self, ring: &Ring, slot: Slot, node: u32, number: u32) -> Result<(), Refusal> {
         let before = self.last(slot);
         let source = match self.at(before) {
@@ -155,7 +153,6 @@ impl Moves {
         Ok(())
     }
 
-    // Notes the step as the drop of the move by which the node left the slot.
     fn drop_held(&mut self, slot: Slot, node: u32, number: u32) {
         let Some(place) = self.leaving.get(&(slot, node)) else {
             return;

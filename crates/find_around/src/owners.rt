@@ -7,17 +7,17 @@ use ring_names::Slot;
 /// The line after all steps.
 pub(crate) const END: u32 = u32::MAX;
 
-/// How a copy is ordered with the switches of a slot that it lists.
+/// How a copy is ordered with a listed slot's switches.
 #[derive(Clone, Copy, Debug, PartialEq, Eq)]
 pub(crate) enum Way {
     /// As in the old plan.
     InLine,
-    /// Before all switches that are to come.
+    /// Before all switches to come.
     First,
 }
 
 impl Search<'_> {
-    /// The owner after the done steps and those before the line. Line 0 means now.
+    /// Returns the owner after the done steps and those before the line. Line 0 means now.
     pub(crate) fn owner_at(&self, slot: Slot, line: u32) -> u32 {
         let mut owner = first_owner(self.task.ring, slot);
         let mut next = self.moves.first(slot);
@@ -35,7 +35,7 @@ impl Search<'_> {
         owner
     }
 
-    /// The place of the slot's last move whose switch is kept.
+    /// Returns the slot's last move with a kept switch.
     pub(crate) fn last_left(&self, slot: Slot) -> Option<usize> {
         let mut next = self.moves.last(slot);
         for turn in 0..self.moves.len() {
@@ -64,7 +64,7 @@ impl Search<'_> {
         false
     }
 
-    /// How a copy on the line can read the slot, and from which owner.
+    /// Returns how, and from which owner, a copy can read the slot.
     pub(crate) fn readable(&self, slot: Slot, line: u32) -> Option<(Way, u32)> {
         if self.has_dead_hint(slot) {
             return None;
@@ -80,7 +80,6 @@ impl Search<'_> {
         None
     }
 
-    /// How many kept switches of the slot are to come.
     pub(crate) fn switches_left(&self, slot: Slot) -> u32 {
         let mut count = 0u32;
         let mut next = self.moves.last(slot);
@@ -99,7 +98,7 @@ impl Search<'_> {
         count
     }
 
-    /// Whether the node cannot mirror the slot: it keeps a hint for another slot of the partition whose owner is dead.
+    /// Whether another slot's hint bars the node: that slot's owner is dead.
     pub(crate) fn is_barred(&self, slot: Slot, node: u32) -> bool {
         for hint in self.hints.of_partition(slot.partition) {
             if hint.1 == node && hint.0 != slot && self.is_dead(self.owner_at(hint.0, 0)) {

@@ -1,4 +1,4 @@
-//! Copies that now precede a switch that they used to follow, since that leads to a dead node.
+//! Copies that now precede a switch that they used to follow, since it leads to a dead node.
 
 use crate::around::Search;
 use crate::moving::Move;
@@ -7,7 +7,7 @@ use helpers::is_set;
 use ring_names::{Refusal, Slot};
 
 impl Search<'_> {
-    /// By step, whether it follows a switch that this copy, or the mirror of this copy, now precedes.
+    /// Marks steps after a switch that the move's copy now precedes.
     pub(crate) fn passed_by(&self, step: u32) -> Result<Vec<bool>, Refusal> {
         let mut passed = Vec::new(self.task.alloc);
         let Some(it) = self.moves.at(self.moves.of_step(step)) else {
@@ -38,7 +38,7 @@ impl Search<'_> {
                 .any(|other| is_set(passed, *other))
     }
 
-    // The switches that the copy used to follow and now precedes, ascending.
+    // The switches that the copy now precedes, ascending.
     fn switches_after(&self, it: &Move) -> Result<Vec<u32>, Refusal> {
         let mut switches = Vec::new(self.task.alloc);
         let Some(copy) = it.copy else {
@@ -57,7 +57,6 @@ impl Search<'_> {
         Ok(switches)
     }
 
-    // Adds the slot's remaining switches that precede the copy in the old plan.
     fn push_switches(&self, switches: &mut Vec<u32>, slot: Slot, copy: u32) -> Result<(), Refusal> {
         let mut next = self.moves.first(slot);
         for turn in 0..self.moves.len() {

@@ -9,7 +9,7 @@ use ring_names::{NodeId, Refusal, Slot};
 use ringplan_job::Extent;
 
 impl Search<'_> {
-    /// Leaves out the moves that have not begun in resting partitions.
+    /// Leaves out moves that have not begun in resting partitions.
     pub(crate) fn rest(&mut self) -> Result<(), Refusal> {
         self.mark_resting();
         if self.task.extent == Extent::Begun {
@@ -43,7 +43,6 @@ impl Search<'_> {
         put(self.resting.as_mut_slice(), partition, true);
     }
 
-    // Marks the partitions with a slot that stays, or in which a dead node owns, mirrors, is to own or keeps a hint.
     fn mark_touched(&mut self) {
         for slot in self.task.left {
             self.touch(slot.partition);
@@ -84,7 +83,6 @@ impl Search<'_> {
         }
     }
 
-    // Leaves out the remaining joins, and the retirements of these nodes.
     fn leave_joins(&mut self) {
         let plan = self.task.plan;
         for node in 0..small(self.task.ring.nodes().len()) {
@@ -97,7 +95,7 @@ impl Search<'_> {
         }
     }
 
-    // Whether the move has begun and is to be finished. With `--back`, a mirror without any copied chunk is undone instead.
+    // Whether the move has begun and is to end. With `--back`, a mirror without chunks is undone instead.
     fn is_to_end(&self, it: &Move) -> bool {
         let has_chunks = match it.copy {
             Some(copy) => self.is_done(copy) || self.progress.chunks(copy) > 0,
@@ -124,7 +122,6 @@ impl Search<'_> {
         Ok(())
     }
 
-    // Leaves out this move of the slot and all later ones.
     fn rest_from(&mut self, from: Option<usize>, it: &Move) -> Result<(), Refusal> {
         if self.has_done(it.mirror) {
             self.take_back(it)?;
@@ -133,7 +130,6 @@ impl Search<'_> {
         self.note_outcome(it.slot, Outcome::NotBegun)
     }
 
-    /// Leaves out all moves except those whose copies are done or have all chunks.
     pub(crate) fn keep_full(&mut self) -> Result<(), Refusal> {
         self.leave_joins();
         for place in 0..self.moves.len() {

@@ -6,7 +6,6 @@ use helpers::small;
 use ring_names::{NodeId, Refusal, Slot};
 
 impl Search<'_> {
-    /// Leaves out joins and retirements of dead nodes.
     pub(crate) fn part_from_dead(&mut self) {
         let plan = self.task.plan;
         for node in self.task.dead {
@@ -26,7 +25,7 @@ impl Search<'_> {
         }
     }
 
-    /// Leaves out retirements of nodes that still hold a slot, or a hint whose slot's owner is dead.
+    /// Leaves out retirements of nodes with a slot or a dead owner's hint.
     pub(crate) fn keep_holders(&mut self) -> Result<(), Refusal> {
         let mut held = vec![in self.task.alloc; None; self.task.ring.nodes().len()]?;
         self.find_held(held.as_mut_slice());
@@ -51,7 +50,6 @@ impl Search<'_> {
         Ok(())
     }
 
-    // By node, a slot with a dead owner for which it keeps a hint.
     fn find_kept(&self, kept: &mut [Option<Slot>]) {
         for hint in self.hints.all() {
             if self.is_dead(self.last_owner(hint.0)) {
@@ -62,7 +60,7 @@ impl Search<'_> {
         }
     }
 
-    // By node, a slot that it serves in the end or does not drop.
+    // Finds, by node, a slot that it serves in the end or does not drop.
     fn find_held(&self, held: &mut [Option<Slot>]) {
         for partition in 0..self.task.ring.q() {
             for index in 0..self.task.ring.n() {
@@ -71,7 +69,7 @@ impl Search<'_> {
         }
     }
 
-    // Looks at one slot. The drop of a node's last move ends its hold.
+    // Only the drop of a node's last move ends its hold.
     fn find_held_of(&self, held: &mut [Option<Slot>], slot: Slot) {
         hold(held, first_owner(self.task.ring, slot), slot);
         let mut next = self.moves.first(slot);

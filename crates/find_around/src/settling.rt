@@ -7,7 +7,6 @@ use helpers::{is_set, put};
 use plan_runs::Back;
 use ring_names::{NodeId, Refusal, Slot};
 
-// What becomes of a move, as far as the slot's next move needs to know.
 #[derive(Clone, Copy, Debug)]
 enum Fate {
     Goes,
@@ -92,7 +91,7 @@ impl Search<'_> {
         }
     }
 
-    // Decides what becomes of one move, given the slot's owner by then.
+    // `owner` is the slot's owner by then.
     fn settle_move(&mut self, place: usize, it: Move, owner: u32) -> Result<Fate, Refusal> {
         self.moves.lead(place, owner, it.target);
         if owner != it.source && !self.has_done(it.drop) {
@@ -119,7 +118,6 @@ impl Search<'_> {
         Ok(Fate::Goes)
     }
 
-    // Undoes a dead mirror if allowed, and retargets the move unless the partition rests.
     fn settle_dead(&mut self, place: usize, it: &Move, owner: u32) -> Result<Fate, Refusal> {
         if self.task.back == Back::Never || self.has_done(it.copy) {
             self.stick(it)?;
@@ -141,7 +139,7 @@ impl Search<'_> {
         Ok(Fate::Stays)
     }
 
-    // Retargets a move that has not begun, if needed. Returns whether it is kept.
+    // Returns whether the move is kept.
     fn retarget(&mut self, place: usize, it: &Move, owner: u32) -> Result<bool, Refusal> {
         if it.target == owner {
             self.leave_out(it);
@@ -249,7 +247,7 @@ impl Search<'_> {
         }
     }
 
-    // Restarts a move whose copy gets new sources while its mirror is ahead of the owner.
+    // Restarts a move whose mirror is ahead of the owner, since its copy gets new sources.
     fn begin_again(&mut self, it: &Move, place: usize) -> Result<(), Refusal> {
         if self.task.back == Back::Never || self.is_awaited(it) {
             self.stick(it)?;
@@ -263,7 +261,6 @@ impl Search<'_> {
         self.note_outcome(it.slot, Outcome::Again(it.target))
     }
 
-    // Handles a move whose copy has too few readable sources.
     fn leave_unread(&mut self, it: &Move, place: usize) -> Result<(), Refusal> {
         if self.has_done(it.mirror) && self.task.back == Back::Allowed {
             self.take_back(it)?;

@@ -1,4 +1,4 @@
-//! Other sources for a copy: readable slots instead of a dead owner.
+//! Other sources for a copy than a dead owner.
 
 use crate::around::Search;
 use crate::moving::Move;
@@ -14,12 +14,12 @@ pub(crate) struct Listing {
     pub(crate) ways: [Option<Way>; 7],
 }
 
-// A slot that can be listed. The order is that of preference.
+// A slot that can be listed, ordered by preference.
 #[derive(Clone, Copy, Debug, PartialEq, Eq, PartialOrd, Ord)]
 struct Candidate {
-    // how many of its switches are to come
+    // its switches to come
     switches: u32,
-    // how many copies read from its owner already, scaled by what the owner may give at once
+    // copies that read from its owner, scaled by the owner's allowance
     load: u64,
     index: u32,
     owner: u32,
@@ -42,7 +42,7 @@ impl Search<'_> {
         }
     }
 
-    // The slot as a source, if readable. A copy cannot read its own target.
+    // A copy cannot read its own target.
     fn candidate(&self, it: &Move, slot: Slot, copy: u32) -> Option<Candidate> {
         let (way, owner) = self.readable(slot, copy)?;
         if owner == it.target {
@@ -57,7 +57,6 @@ impl Search<'_> {
         })
     }
 
-    // The slots of the partition that the copy may list, the best first.
     fn candidates(&self, it: &Move, copy: u32) -> Result<Vec<Candidate>, Refusal> {
         let mut found = Vec::new(self.task.alloc);
         let partition = it.slot.partition;
@@ -72,7 +71,7 @@ impl Search<'_> {
         Ok(found)
     }
 
-    // Orders the copy and the switches of a slot that it lists.
+    // Orders the copy and a listed slot's switches.
     fn order(&mut self, slot: Slot, copy: u32, way: Way) -> Result<(), Refusal> {
         let mut next = self.moves.first(slot);
         for turn in 0..self.moves.len() {
@@ -130,7 +129,7 @@ impl Search<'_> {
         Ok(true)
     }
 
-    /// Whether the copy reads a slot that cannot be read.
+    /// Whether the copy reads an unreadable slot.
     pub(crate) fn reads_dead(&self, it: &Move) -> bool {
         let Some(copy) = it.copy else {
             return false;
@@ -151,7 +150,7 @@ impl Search<'_> {
         false
     }
 
-    // Whether the slot's owner at the copy's line is dead, or a dead node keeps a hint for it.
+    // Whether the owner at the copy's line, or a keeper of the slot's hints, is dead.
     fn is_unreadable(&self, slot: Slot, copy: u32) -> bool {
         match self.readable(slot, copy) {
             Some((Way::InLine, _)) => false,

@@ -8,10 +8,10 @@ use ring_names::{Refusal, Slot};
 // The most nodes that a sum names.
 const MOST: usize = 16;
 
-// The kinds of fates, in the order of the report.
+// The kinds of fates, in report order.
 const KINDS: u32 = 16;
 
-// The words of a sum: for one slot, for several, before other nodes, and at the end.
+// A sum's words: for one slot, for several, before other nodes, and at the end.
 #[derive(Clone, Copy)]
 struct Phrase {
     one: &'static [u8],
@@ -20,7 +20,7 @@ struct Phrase {
     end: &'static [u8],
 }
 
-// How many slots are of a kind, and how many of these at each node.
+// How many slots have a fate, in all and by node.
 #[derive(Drop)]
 struct Sum {
     count: u32,
@@ -28,7 +28,7 @@ struct Sum {
     others: Vec<u32>,
 }
 
-// A slot's kind, its node, and another node that is concerned.
+// A slot's kind, its node, and another concerned node.
 #[derive(Clone, Copy)]
 struct Part {
     kind: u32,
@@ -162,7 +162,6 @@ impl Search<'_> {
         }
     }
 
-    // The parts of a slot's report: its undone mirror, and its outcome.
     fn parts_of(&self, slot: Slot) -> [Option<Part>; 2] {
         let saying = self.last_saying(slot);
         let taken = match saying.taken {
@@ -209,7 +208,6 @@ impl Search<'_> {
         Ok(sum)
     }
 
-    /// Reports how many slots have each fate, and at which nodes.
     pub(crate) fn say_sums(&mut self) -> Result<(), Refusal> {
         let parts = self.all_parts()?;
         for kind in 0..KINDS {
@@ -237,7 +235,6 @@ impl Search<'_> {
         Ok(())
     }
 
-    // Writes the nodes with their counts, the greatest first.
     fn say_counts(&mut self, counts: &[u32]) -> Result<(), Refusal> {
         let mut order = Vec::new(self.task.alloc);
         for node in 0..counts.len() {

@@ -6,7 +6,7 @@ use helpers::{at, place_of, raise, set, small};
 use ring_names::{NodeId, Slot};
 
 impl Search<'_> {
-    // Marks the nodes that serve a slot of the partition at any time. Looks at each of its moves once.
+    // Marks nodes that serve the partition at any time. Looks at each move once.
     fn mark_busy(&mut self, partition: u32) {
         let stamp = partition.saturating_add(1);
         if self.looked_at == stamp {
@@ -37,7 +37,6 @@ impl Search<'_> {
         }
     }
 
-    // Whether the node may take the slot: a live member that stays, not busy in the partition, without other hints.
     fn may_take(&self, slot: Slot, node: u32) -> bool {
         let plan = self.task.plan;
         let id = NodeId(node);
@@ -49,7 +48,7 @@ impl Search<'_> {
             && at(self.keeping.as_slice(), node as usize) != small(place_of(slot)).saturating_add(1)
     }
 
-    /// How many of these owners share the node's rack.
+    /// Counts these owners in the node's rack.
     pub(crate) fn count_kin(&self, node: u32, owners: &[u32]) -> u32 {
         let Some(racks) = self.task.racks else {
             return 0;
@@ -63,7 +62,7 @@ impl Search<'_> {
         count
     }
 
-    /// The final owners of the partition's other slots.
+    /// Returns the final owners of the partition's other slots.
     pub(crate) fn others(&self, it: &Move) -> [u32; 7] {
         let mut owners = [u32::MAX; 7];
         let partition = it.slot.partition;
@@ -76,8 +75,9 @@ impl Search<'_> {
         owners
     }
 
-    /// The best other target: fewest of the partition's slots in the rack, then fewest slots. None if the owner may
-    /// stay and is as good.
+    /// Returns the best other target. It has the fewest of the partition's slots in its rack, then the fewest slots.
+    ///
+    /// None if the owner may stay and is as good.
     pub(crate) fn other_target(&mut self, it: &Move, owner: u32) -> Option<u32> {
         let owners = self.others(it);
         let mut best = None;

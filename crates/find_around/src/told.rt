@@ -4,42 +4,28 @@ use crate::around::{Reach, Search};
 use ring_names::{Refusal, Slot};
 use ringplan_job::Shape;
 
-/// What becomes of a slot, if not what was planned.
+/// What becomes of a slot, if not as planned. `say_outcome` has the words.
 #[derive(Clone, Copy, Debug, PartialEq, Eq)]
 pub(crate) enum Outcome {
     /// Goes to the first node instead of the second.
     Elsewhere(u32, u32),
-    /// Goes to a dead node, which has all of it.
     Filled(u32),
-    /// Goes to the node though it was to stay: the node has all of it.
     Ended(u32),
-    /// Stays with its owner, as asked.
     Left,
-    /// Stays with its owner, since no more moves begin.
     NotBegun,
-    /// Stays with its owner, since the node cannot take it.
     Untaken(u32),
-    /// Stays with its owner, since the node keeps another slot of the partition.
     Crowded(u32),
-    /// Stays with its owner, since another slot of the partition ends in the node's rack.
     Close(u32),
-    /// Stays with its owner, since too few slots can be read.
     Unread,
-    /// Stays mirrored to the dead node.
     MirroredToDead(u32),
-    /// Stays mirrored to the node, since too few slots can be read.
     MirroredUnread(u32),
-    /// Stays mirrored to the node, which holds puts that the owner lacks.
     MirroredAhead(u32),
-    /// Stays mirrored to the node, since only moves with all chunks are finished.
     MirroredStill(u32),
-    /// Is mirrored to the node again.
     Again(u32),
-    /// Stays with its owner, which is dead.
     AtDead(u32),
 }
 
-/// The report on a slot: the mirror that is undone, and its latest outcome.
+/// A slot's undone mirror, and its latest outcome.
 #[derive(Clone, Copy, Debug)]
 pub(crate) struct Saying {
     pub(crate) taken: Option<u32>,
@@ -74,7 +60,7 @@ impl Search<'_> {
         Ok(())
     }
 
-    /// Notes that a move of the slot is done as planned, maybe after one that went elsewhere.
+    /// Notes that a move is done as planned, maybe after another outcome.
     pub(crate) fn note_planned(&mut self, slot: Slot) -> Result<(), Refusal> {
         let Saying { taken, outcome } = self.saying_of(slot);
         if let Some(Outcome::Filled(_) | Outcome::Untaken(_)) = outcome {
@@ -178,7 +164,6 @@ impl Search<'_> {
         self.words.byte(b'\n');
     }
 
-    /// Reports on all slots: sums by node, and one line each if asked for.
     pub(crate) fn say_of_slots(&mut self) -> Result<(), Refusal> {
         self.say_sums()?;
         match self.task.shape {
@@ -190,7 +175,7 @@ impl Search<'_> {
         }
     }
 
-    /// The final report on the slot, also if it stays with a dead node.
+    /// Returns the final report, also for a dead owner.
     pub(crate) fn last_saying(&self, slot: Slot) -> Saying {
         let Saying { taken, outcome } = self.saying_of(slot);
         let owner = self.last_owner(slot);
@@ -223,7 +208,6 @@ impl Search<'_> {
         count
     }
 
-    /// Reports which moves are missing because no better plan was found.
     pub(crate) fn say_of_reach(&mut self) {
         let count = self.count_resting();
         match self.reach {

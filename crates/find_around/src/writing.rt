@@ -1,4 +1,4 @@
-//! Writes the new plan: the kept steps, in the old order as far as dependencies allow.
+//! Writes the kept steps, in the old order as far as dependencies allow.
 
 use crate::around::Search;
 use crate::needs::Needs;
@@ -17,7 +17,7 @@ pub(crate) struct Written {
     pub(crate) numbers: Vec<Option<u32>>,
 }
 
-// Steps without open dependencies, the first of the old plan on top.
+// Steps without open dependencies, the old plan's first on top.
 #[derive(Drop)]
 struct Ready {
     heap: BinaryHeap<u32>,
@@ -75,7 +75,7 @@ fn listed(alloc: Global, slot: Slot, listing: &Listing) -> Result<Step, Refusal>
 }
 
 impl Search<'_> {
-    // Notes how many steps each kept step waits for, which steps wait for each, and which wait for none. Returns how many are kept.
+    // Returns how many steps are kept.
     fn begin_sorting(
         &self,
         needs: &Needs,
@@ -99,7 +99,7 @@ impl Search<'_> {
         Ok(kept)
     }
 
-    /// Sorts the kept steps by dependencies, then by the old order. Fails with `NoPlan` if there is a cycle.
+    /// Sorts the kept steps by dependencies, then by the old order. Fails with `NoPlan` on a cycle.
     pub(crate) fn sorted(&self, needs: &Needs) -> Result<Vec<u32>, Refusal> {
         let count = self.task.plan.len();
         let mut waits = vec![in self.task.alloc; 0u32; count as usize]?;
@@ -127,7 +127,7 @@ impl Search<'_> {
         Ok(order)
     }
 
-    // By step of the old plan, 1 plus its number in the new one, or 0.
+    // By old step, 1 plus its new number, or 0.
     fn places(&self, olds: &[u32]) -> Result<Vec<u32>, Refusal> {
         let mut places = vec![in self.task.alloc; 0u32; self.task.plan.len() as usize]?;
         for place in 0..olds.len() {
@@ -140,7 +140,7 @@ impl Search<'_> {
         Ok(places)
     }
 
-    // The step's dependencies by their new numbers, ascending, each once.
+    // Dependencies by new numbers, ascending, each once.
     fn after(&self, needs: &Needs, places: &[u32], step: u32) -> Result<Vec<u32>, Refusal> {
         let mut numbers = Vec::new(self.task.alloc);
         for other in needs.row(step) {
