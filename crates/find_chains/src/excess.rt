@@ -1,4 +1,4 @@
-//! Nodes with more open transfers than they bear.
+//! Nodes with more open transfers than allowed.
 
 use crate::order::Order;
 use crate::sides::{Sides, sides_of};
@@ -7,7 +7,7 @@ use ring_names::{NodeId, Refusal};
 use ring_table::{Ring, Side};
 use std::alloc::Global;
 
-/// A side of a node on which some order of the plan runs more copies at once than allowed.
+/// A side of a node that some order of the plan overloads.
 #[derive(Clone, Copy, Debug)]
 pub struct Excess {
     pub side: Side,
@@ -17,7 +17,8 @@ pub struct Excess {
     pub most: u32,
 }
 
-/// Returns the node's first side that exceeds its allowance under every certificate. None if 100,000,000 looks find none.
+/// Returns the node's first side that exceeds its allowance under every certificate. None if 100,000,000 looks find
+/// none.
 pub fn overload(
     alloc: Global,
     ring: &Ring,

@@ -14,21 +14,21 @@ use ring_names::{NodeId, Refusal, Rows};
 use ring_table::{NodeSide, Ring};
 use std::alloc::Global;
 
-/// A certificate, and what is known of nodes with more chains than allowed.
+/// A certificate, and what is known of nodes with too many chains.
 #[derive(Drop)]
 pub struct Outcome {
     pub cert: Cert,
-    /// The first node that has too many chains under every certificate.
+    /// The first node with too many chains under every certificate.
     pub excess: Option<NodeId>,
-    /// Whether the search hit its limit before some node's fewest chains were known.
+    /// Whether looks ran out before some node's fewest chains were known.
     pub is_given_up: bool,
 }
 
 impl Outcome {
     /// Returns what to refuse if the checker refuses this certificate.
     ///
-    /// `TooManyChains` names only a node known to need them; if the search was given up and no such node is
-    /// known, it becomes `NoPlan`.
+    /// `TooManyChains` names only a node known to need them. If the search was given up and none is known, it becomes
+    /// `NoPlan`.
     pub fn refusal(&self, refusal: Refusal) -> Refusal {
         if !self.is_given_up || !matches!(refusal, Refusal::TooManyChains(_)) {
             return refusal;
@@ -40,18 +40,15 @@ impl Outcome {
     }
 }
 
-/// Finds a certificate for the plan, which the checker must judge: paths that its clauses need, and chains that cover
-/// each node's copies.
+/// Finds a certificate: the needed paths, and chains for each node's copies. The checker must judge it.
 ///
-/// A node's chains are a first fit along direct dependencies, or one for each run of a slot's steps. Too many
-/// become the fewest that the plan's order allows.
+/// Chains are a first fit along direct dependencies. If that is too many, they are runs of a slot's steps, then the
+/// fewest possible. The search for the fewest ends after 100,000,000 looks for all nodes.
 ///
-/// The search for the fewest ends after 100,000,000 looks for all nodes.
+/// Paths are shortest ones. Those over 1,024 steps, or not found in 100,000,000 looks, are left out. A certificate too
+/// large for its text is left empty.
 ///
-/// Paths are shortest ones. Those over 1,024 steps, or not found in 100,000,000 looks, are left out. A
-/// certificate too large for its text is left empty.
-///
-/// If steps depend directly on what they need, the cost is about that of reading the plan.
+/// If steps depend directly on what they need, this costs about as much as reading the plan.
 pub fn certificate(alloc: Global, ring: &Ring, plan: &Plan) -> Result<Outcome, Refusal>
     ensures suits { IfOk result (λ f. CertSuits ring.now f.cert) }
     ensures memory { IfErr result (λ e. e ≡ OutOfMemory) }
@@ -62,7 +59,6 @@ pub fn certificate(alloc: Global, ring: &Ring, plan: &Plan) -> Result<Outcome, R
     }
 }
 
-// Empties the certificate if a text cannot say it.
 fn sayable(alloc: Global, ring: &Ring, found: Outcome) -> Outcome
     ensures { CertSuits ring.now result.cert }
 {
@@ -128,7 +124,7 @@ struct Seeking<'a> {
 }
 
 impl<'a> Seeking<'a> {
-    // Returns chains of the node's copies: at most `most`, or as few as possible.
+    // Returns at most `most` chains, or as few as possible.
     fn few(
         &mut self,
         alloc: Global,

@@ -1,5 +1,5 @@
-//! Certificates for plans without one: the fewest chains that a plan's order allows each node, and the paths that the
-//! checker needs. The checker judges them. `Stays` walks over the nodes of each slot, also for other crates.
+//! Makes certificates: the fewest chains that a plan's order allows, and the paths that the checker needs. The checker
+//! judges them. `Stays` lists each slot's nodes.
 #![tactic(auto)]
 
 mod excess;

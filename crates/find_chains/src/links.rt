@@ -4,10 +4,10 @@ use helpers::{at, set, small};
 use ring_names::{Refusal, Rows};
 use std::alloc::Global;
 
-/// By place among a node's copies, the copy that each follows, an earlier one. Each is followed by at most one.
+/// By copy, the earlier copy that it follows. At most one follows each.
 #[derive(Drop)]
 pub(crate) struct Links {
-    // by copy, 1 plus the copy that it follows, and 1 plus the copy that follows it; 0 for none
+    // by copy, 1 plus its predecessor and 1 plus its successor; 0 for none
     follows: Vec<u32>,
     followed: Vec<u32>,
 }
@@ -51,7 +51,7 @@ impl Links {
         count
     }
 
-    /// Returns the chains, ordered by first copy, as step numbers.
+    /// Returns the chains as step numbers, ordered by first copy.
     pub(crate) fn chains(&self, alloc: Global, copies: &[u32]) -> Result<Rows, Refusal> {
         let mut rows = Rows::new(alloc);
         let mut chain = Vec::new(alloc);

@@ -1,4 +1,4 @@
-//! The work that is left.
+//! The work left.
 
 /// How many looks at steps, dependencies and the like are left.
 #[derive(Clone, Copy, Debug)]

@@ -5,7 +5,7 @@ use helpers::{at, set, set_word, small, word};
 use ring_names::Refusal;
 use std::alloc::Global;
 
-/// Copies, and for each a bit set of those that come before it.
+/// Copies, each with a bit set of earlier ones.
 #[derive(Drop)]
 pub(crate) struct Before<'a> {
     pub(crate) copies: &'a [u32],
@@ -21,7 +21,7 @@ pub(crate) struct Matching {
     seen: Vec<u64>,
     asked_by: Vec<u32>,
     queue: Vec<u32>,
-    /// The looks of the last search.
+    /// The last search's looks.
     pub(crate) spent: u64,
 }
 
@@ -61,7 +61,7 @@ impl Matching {
         Ok(())
     }
 
-    // Asks unseen earlier copies of a word. Returns the first that is free.
+    // Asks a word's unseen earlier copies. Returns the first that is free.
     fn ask(&mut self, before: &Before, asking: u32, number: usize) -> Result<Option<u32>, Refusal> {
         let cell = (asking as usize)
             .saturating_mul(before.words)
@@ -86,7 +86,7 @@ impl Matching {
         Ok(None)
     }
 
-    // Links each asking copy to the one it asked for, back to the first.
+    // Links each asking copy to the one asked, back to the first.
     fn turn_over(&mut self, free: u32) {
         let mut copy = free;
         for turn in 0..self.asked_by.len() {

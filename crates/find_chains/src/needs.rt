@@ -8,13 +8,13 @@ use ring_names::{NodeId, Refusal, Slot};
 use ring_table::Ring;
 use std::alloc::Global;
 
-/// Asks for the paths that the checker's clauses on slots and steps need.
+/// Asks for the paths that the checker's clauses need.
 #[derive(Drop)]
 pub(crate) struct Needs<'a> {
     ring: &'a Ring,
     plan: &'a Plan,
     stays: Stays,
-    // by the place of a slot, 1 plus its last step, or 0
+    // by slot, 1 plus its last step, or 0
     lasts: Vec<u32>,
 }
 
@@ -55,7 +55,6 @@ impl<'a> Needs<'a> {
         }
     }
 
-    // A step follows the slot's step before it.
     fn follow(&mut self, paths: &mut Paths, slot: Slot, number: u32) -> Result<(), Refusal> {
         let place = place_of(slot);
         let last = at(self.lasts.as_slice(), place);
@@ -66,7 +65,7 @@ impl<'a> Needs<'a> {
         paths.need(last.saturating_sub(1), number)
     }
 
-    // A mirror follows the switches by which its node left other slots of the partition, and the node's join.
+    // A mirror follows its node's join, and the node's switches away from other slots of the partition.
     fn mirror(
         &self,
         paths: &mut Paths,
@@ -83,7 +82,6 @@ impl<'a> Needs<'a> {
         self.join(paths, node, number)
     }
 
-    // A step follows the switches by which the node left the slot.
     fn leave(
         &self,
         paths: &mut Paths,
@@ -102,7 +100,6 @@ impl<'a> Needs<'a> {
         Ok(())
     }
 
-    // The stay, if there is one and a look is left.
     fn stay(&self, paths: &mut Paths, place: Option<usize>) -> Option<Stay> {
         let stay = self.stays.stay(place)?;
         if paths.look() { Some(stay) } else { None }
@@ -133,7 +130,6 @@ impl<'a> Needs<'a> {
         }
     }
 
-    // A step comes before or after each switch of the slot.
     fn switches(&self, paths: &mut Paths, slot: Slot, number: u32) -> Result<(), Refusal> {
         for step in self.plan.slot_steps(slot) {
             if !paths.look() {
@@ -146,7 +142,7 @@ impl<'a> Needs<'a> {
         Ok(())
     }
 
-    // A retirement follows the node's join, and each drop of what it held.
+    // A retirement follows the node's join and drops.
     fn retire(&self, paths: &mut Paths, node: NodeId, number: u32) -> Result<(), Refusal> {
         self.join(paths, node, number)?;
         let mut next = self.stays.latest_of(node.0);

@@ -9,7 +9,7 @@ use plan_text::Plan;
 use ring_names::{Refusal, Rows};
 use std::alloc::Global;
 
-// The most words of all bit sets, 200 MB. Plans that the checker accepts need no more if the looks suffice.
+// The most words of all bit sets, 200 MB. Accepted plans need no more if the looks suffice.
 const MOST_WORDS: usize = 25_000_000;
 
 /// A plan's order, and the looks that are left.
@@ -17,17 +17,17 @@ const MOST_WORDS: usize = 25_000_000;
 pub struct Order<'a> {
     plan: &'a Plan,
     looks: Looks,
-    // by step, the copies of a word that come before it or are it
+    // by step, a word's copies that come before it or are it
     masks: Vec<u64>,
-    // by word of 64 steps, those whose dependencies are still to be followed
+    // by 64 steps, those whose dependencies are not yet followed
     marks: Vec<u64>,
-    // by step, 1 plus its place among the copies if a chain ends with it, or 0
+    // by step, 1 plus its place among the copies if it ends a chain, or 0
     lasts: Vec<u32>,
-    // by step, the first step of its run
+    // by step, its run's first step
     runs: Vec<u32>,
 }
 
-// Which copy precedes in a chain: a direct dependency, or the last of the run.
+// What precedes a copy in a chain: a direct dependency, or the run's last.
 #[derive(Clone, Copy)]
 enum Rule {
     Direct,
@@ -35,7 +35,7 @@ enum Rule {
 }
 
 impl<'a> Order<'a> {
-    /// Prepares the order of a plan, in one pass.
+    /// Prepares a plan's order, in one pass.
     pub fn of(alloc: Global, plan: &'a Plan) -> Result<Order<'a>, Refusal> {
         Ok(Order {
             plan,
@@ -47,18 +47,18 @@ impl<'a> Order<'a> {
         })
     }
 
-    /// Returns the fewest chains of the copies, which ascend. None if the looks do not suffice.
+    /// Returns the fewest chains of ascending copies. None if the looks do not suffice.
     ///
-    /// As many transfers may be open at once in some order of the plan, and no more in any (Dilworth 1950).
+    /// It equals the most transfers that any order of the plan opens at once (Dilworth 1950).
     pub fn fewest(&mut self, alloc: Global, copies: &[u32]) -> Result<Option<u32>, Refusal> {
         let links = self.links(alloc, copies, 1)?;
         Ok(links.map(|links| links.count()))
     }
 
-    /// Returns chains, ordered by first copy: one for each run of a slot's copies if at most `enough`. None if
-    /// the looks do not suffice.
+    /// Returns one chain for each run of a slot's copies, if at most `enough`.
     ///
-    /// Otherwise returns the fewest, by a matching of copies with later ones (Fulkerson 1956).
+    /// Otherwise returns the fewest, by a matching of copies with later ones (Fulkerson 1956). None if the looks do not
+    /// suffice. Chains are ordered by first copy.
     pub fn chains(
         &mut self,
         alloc: Global,
@@ -72,13 +72,11 @@ impl<'a> Order<'a> {
         })
     }
 
-    /// Returns chains by a first fit along direct dependencies, maybe more than the fewest. Costs a look at each
-    /// dependency of a copy.
+    /// Returns chains by a first fit along direct dependencies. Costs a look at each dependency of a copy.
     pub fn direct(&mut self, alloc: Global, copies: &[u32]) -> Result<Rows, Refusal> {
         self.fit(alloc, copies, Rule::Direct)?.chains(alloc, copies)
     }
 
-    // Appends each copy to the chain that the rule names, or begins a chain.
     fn fit(&mut self, alloc: Global, copies: &[u32], rule: Rule) -> Result<Links, Refusal> {
         let mut links = Links::of(alloc, copies.len())?;
         for place in 0..copies.len() {
@@ -105,7 +103,6 @@ impl<'a> Order<'a> {
         set(self.lasts.as_mut_slice(), step as usize, last);
     }
 
-    // The copy's first direct dependency that ends a chain, or the copy itself.
     fn end_before(&self, copy: u32) -> u32 {
         for dependency in self.deps(copy) {
             if at(self.lasts.as_slice(), *dependency as usize) != 0 {
@@ -126,7 +123,6 @@ impl<'a> Order<'a> {
         at(self.runs.as_slice(), step as usize)
     }
 
-    // Links along runs if these make at most `enough` chains; otherwise as many links as possible, if the looks suffice.
     fn links(
         &mut self,
         alloc: Global,
@@ -153,7 +149,7 @@ impl<'a> Order<'a> {
         self.linked(alloc, &before, links)
     }
 
-    // Spends the looks of a pass for each word, if enough are left.
+    // Spends the looks of a pass, if enough are left.
     fn can_pass(&mut self, copies: &[u32], words: usize) -> bool {
         let last = copies.last().copied().unwrap_or(0);
         let span = last
@@ -163,7 +159,7 @@ impl<'a> Order<'a> {
         copies.len().saturating_mul(words) <= MOST_WORDS && self.looks.spend(looks)
     }
 
-    // The copies and their dependencies from the first copy on, direct or not, the last first.
+    // The copies and all their dependencies from the first copy on, the last first.
     fn awaited_steps(&mut self, alloc: Global, copies: &[u32]) -> Result<Vec<u32>, Refusal> {
         let mut steps = Vec::new(alloc);
         let (first, last) = (at(copies, 0), copies.last().copied().unwrap_or(0));
@@ -190,7 +186,6 @@ impl<'a> Order<'a> {
         }
     }
 
-    // Unmarks and returns the last marked step of a word.
     fn take_last(&mut self, number: usize) -> Option<u32> {
         let marks = word(self.marks.as_slice(), number);
         let bit = 63u32.checked_sub(marks.leading_zeros())?;
@@ -198,7 +193,7 @@ impl<'a> Order<'a> {
         Some(small(number).saturating_mul(64).saturating_add(bit))
     }
 
-    // Finds the copies of a word that come before each copy, in one pass.
+    // Finds, in one pass, a word's copies that come before each copy.
     fn pass(&mut self, before: &mut Before, steps: &[u32], number: usize) {
         let first = at(before.copies, 0);
         let (mut place, mut bit) = (0usize, 1u64);
@@ -217,7 +212,6 @@ impl<'a> Order<'a> {
         }
     }
 
-    // The copies of the word that come before the step.
     fn earlier(&self, step: u32, first: u32) -> u64 {
         let mut mask = 0u64;
         for dependency in self.deps(step) {
@@ -228,7 +222,6 @@ impl<'a> Order<'a> {
         mask
     }
 
-    // Adds as many links as possible, by a search for each copy that follows none.
     fn linked(
         &mut self,
         alloc: Global,

@@ -13,7 +13,7 @@ const MOST_FACTS: usize = 262_144;
 
 const MOST_STEPS: usize = 1024;
 
-// What a search costs, and each step of a path besides looks. It bounds what is kept.
+// The looks for a search, and for each step of a kept path. They bound what is kept.
 const SEARCH: u64 = 64;
 
 const STEP: u64 = 4;
@@ -52,8 +52,7 @@ impl<'a> Paths<'a> {
         self.looks.spend(1)
     }
 
-    /// Finds a path to a later step, unless it depends directly or was asked for before. Paths over 1,024 steps, or
-    /// beyond the looks, are left out.
+    /// Finds a path to a later step, if needed and new. Paths over 1,024 steps, or beyond the looks, are left out.
     pub(crate) fn need(&mut self, first: u32, last: u32) -> Result<(), Refusal> {
         let plan = self.plan;
         if first >= last || last >= plan.len() || plan.depends(first, last) {
@@ -68,7 +67,7 @@ impl<'a> Paths<'a> {
         Ok(())
     }
 
-    // Whether a path exists. Searches backwards, down to the first step.
+    // Searches backwards, down to the first step.
     fn reach(&mut self, first: u32, last: u32) -> Result<bool, Refusal> {
         self.search = self.search.saturating_add(1);
         self.queue.clear();
@@ -85,7 +84,7 @@ impl<'a> Paths<'a> {
         Ok(false)
     }
 
-    // Visits the step's dependencies. Returns whether the first step is one of them.
+    // Returns whether the first step is a dependency.
     fn ask(&mut self, step: u32, first: u32) -> Result<bool, Refusal> {
         let plan = self.plan;
         if step >= plan.len() {

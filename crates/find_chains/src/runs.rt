@@ -1,4 +1,4 @@
-//! Steps of one slot that direct dependencies put in a row.
+//! Steps of one slot, in a row by direct dependencies.
 
 ghost use Rattle.std.specs.Prelude.{◌<◌, length};
 
@@ -7,9 +7,9 @@ use plan_text::{Plan, Step};
 use ring_names::{Refusal, Slot};
 use std::alloc::Global;
 
-/// Returns, by step, the first step of its run. Costs two binary searches for each step.
+/// Returns, by step, its run's first step. Costs two binary searches for each step.
 ///
-/// In a run, each step of a slot depends directly on the slot's step before; other steps are runs of their own.
+/// In a run, each step depends directly on the slot's previous step.
 pub(crate) fn runs_of(alloc: Global, plan: &Plan) -> Result<Vec<u32>, Refusal> {
     let mut runs = vec![in alloc; 0u32; plan.len() as usize]?;
     for number in 0..plan.len() {
@@ -22,7 +22,6 @@ pub(crate) fn runs_of(alloc: Global, plan: &Plan) -> Result<Vec<u32>, Refusal> {
     Ok(runs)
 }
 
-// The slot's step before this one, if it is a direct dependency.
 fn awaited_of_slot(plan: &Plan, number: u32) -> Option<u32>
     requires { number < length plan.now }
 {
@@ -35,7 +34,7 @@ fn awaited_of_slot(plan: &Plan, number: u32) -> Option<u32>
     }
 }
 
-/// Returns the slot of a step, if it has one.
+/// Returns the step's slot, if it has one.
 pub fn slot_of(step: &Step) -> Option<Slot> {
     match step {
         Step::Mirror(slot, _) | Step::Copy(slot, _) | Step::Switch(slot) | Step::Drop(slot, _) =>

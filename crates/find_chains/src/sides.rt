@@ -7,17 +7,17 @@ use ring_names::{NodeId, Refusal, Slot};
 use ring_table::{Allowance, NodeSide, Ring, Side};
 use std::alloc::Global;
 
-/// The copies of each side, ascending, each once.
+/// The copies of each side, ascending.
 #[derive(Drop)]
 pub struct Sides {
-    // by twice the node's number, the copies to it, or all if joint; at the next place, the copies from a split node
+    // at twice the node's number, copies to it, or all if joint; at the next place, copies from a split node
     lists: Vec<Vec<u32>>,
     // by node, whether its allowance has two numbers
     split: Vec<bool>,
 }
 
 impl Sides {
-    /// Collects the copies of a plan in one pass.
+    /// Collects a plan's copies in one pass.
     pub fn of(alloc: Global, ring: &Ring, plan: &Plan) -> Result<Sides, Refusal> {
         let mut sides = Sides::empty(alloc, ring)?;
         let mut stays = Stays::of(alloc, ring)?;
@@ -85,7 +85,6 @@ impl Sides {
         place
     }
 
-    // Adds a copy, unless it is the last already.
     fn add(&mut self, node: u32, side: Side, number: u32) -> Result<(), Refusal> {
         let place = self.place(node, side);
         if let Some(list) = self.lists.get_mut(place) {
@@ -105,7 +104,7 @@ impl Sides {
     }
 }
 
-/// Returns the sides of a node, each with its most open transfers: one for a joint allowance, otherwise two.
+/// Returns the node's sides, each with its most open transfers.
 pub fn sides_of(ring: &Ring, number: usize) -> [Option<(NodeSide, u32)>; 2] {
     let node = NodeId(small(number));
     match ring.nodes().get(number) {

@@ -7,25 +7,26 @@ use ring_table::Ring;
 use std::alloc::Global;
 use std::collections::BTreeMap;
 
-/// A stay of a node at a slot: from the start or a mirror to the switch by which it leaves, and its drop.
+/// A node's stay at a slot, since the start or a mirror.
 #[derive(Clone, Copy, Debug)]
 pub struct Stay {
     pub slot: Slot,
     pub node: u32,
-    /// The mirror of its beginning. None if the node owned the slot before the first step.
+    /// The mirror that began it. None if the node owned the slot at first.
     pub begun: Option<u32>,
-    /// The switch by which the node left.
+    /// The switch that ended it.
     pub left: Option<u32>,
     /// The node's first drop at the slot after the beginning.
     pub dropped: Option<u32>,
-    /// The place of the node's previous stay at the slot.
+    /// The node's previous stay at the slot, by place.
     pub same_before: Option<usize>,
-    /// The place of the node's previous stay at any slot.
+    /// The node's previous stay at any slot, by place.
     pub node_before: Option<usize>,
 }
 
-/// All stays so far, in order: those of the ring's owners by slot, then one for each mirror. A step costs a look-up
-/// among the nodes that mirrored its slot.
+/// All stays: those of the ring's owners by slot, then the mirrors'.
+///
+/// A step costs a look-up among the nodes that mirrored its slot.
 #[derive(Drop)]
 pub struct Stays {
     all: Vec<Stay>,
@@ -34,7 +35,7 @@ pub struct Stays {
     owners: Vec<u32>,
     mirrors: Vec<u32>,
     by_node: Vec<u32>,
-    // the latest stay of each mirror; ordered, since plans choose how often a slot moves
+    // each mirror's latest stay; ordered, since plans choose how often a slot moves
     latest: BTreeMap<(Slot, u32), usize>,
 }
 
@@ -46,7 +47,7 @@ fn place(number: u32) -> Option<usize> {
 }
 
 impl Stays {
-    /// The state before the first step.
+    /// Starts before the first step.
     pub fn of(alloc: Global, ring: &Ring) -> Result<Stays, Refusal> {
         let slots = (ring.q() as usize).saturating_mul(7);
         let mut stays = Stays {
@@ -77,7 +78,7 @@ impl Stays {
         Ok(())
     }
 
-    // Begins a stay, from the start or with a mirror. Returns 1 plus its place.
+    // Returns 1 plus the new stay's place.
     fn begin(&mut self, slot: Slot, node: NodeId, begun: Option<u32>) -> Result<u32, Refusal> {
         let mut same_before = self.first_at(slot, node.0);
         if begun.is_some() {
@@ -141,7 +142,7 @@ impl Stays {
         }
     }
 
-    // Drops one stay. Returns the node's previous one at the slot, unless this one was dropped already: then all before were.
+    // Drops one stay. Returns the previous one, unless this one was dropped already: then all before were.
     fn drop_one(&mut self, place: usize, number: u32) -> Option<usize> {
         let stay = self.all.get_mut(place)?;
         if stay.dropped.is_some() {
@@ -161,13 +162,12 @@ impl Stays {
         self.all.get(place?).copied()
     }
 
-    /// Returns the place of the node's latest stay at the slot.
+    /// Returns the node's latest stay at the slot, by place.
     pub fn latest_at(&self, slot: Slot, node: u32) -> Option<usize> {
         let latest = self.latest.get(&(slot, node)).copied();
         latest.or(self.first_at(slot, node))
     }
 
-    // The place of the slot's first stay, if it is the node's.
     fn first_at(&self, slot: Slot, node: u32) -> Option<usize> {
         let first = place(at(self.firsts.as_slice(), place_of(slot)));
         if self.stay(first)?.node == node {
@@ -182,18 +182,18 @@ impl Stays {
         place(at(self.by_node.as_slice(), node as usize))
     }
 
-    /// Returns the place of the stay of the slot's mirror.
+    /// Returns the mirror's stay, by place.
     pub fn mirror_at(&self, slot: Slot) -> Option<usize> {
         place(at(self.mirrors.as_slice(), place_of(slot)))
     }
 
-    /// Returns the owner of the slot.
+    /// Returns the slot's owner.
     pub fn owner(&self, slot: Slot) -> Option<u32> {
         let place = place(at(self.owners.as_slice(), place_of(slot)));
         Some(self.stay(place)?.node)
     }
 
-    /// Returns the mirror of the slot.
+    /// Returns the slot's mirror.
     pub fn mirror(&self, slot: Slot) -> Option<u32> {
         Some(self.stay(self.mirror_at(slot))?.node)
     }
