@@ -1,14 +1,14 @@
-//! The copies of each node, next to its allowance.
+//! Copies and allowances of nodes.
 
 use helpers::{at, lower, raise};
 use ring_names::Refusal;
 use ring_table::{Allowance, Ring};
 use std::alloc::Global;
 
-/// Two counts for each node: copies read from the node, and copies that it receives. With one allowance, the first counts both.
+/// Each node's copies from it and to it. With one allowance, the first count has both.
 #[derive(Drop)]
 pub struct Copies {
-    // the most copies of each count at once; 0 for an unused second count
+    // by count, the allowance; 0 for an unused second count
     most: Vec<u32>,
     counts: Vec<u32>,
 }
@@ -22,7 +22,7 @@ impl Copies {
         }
     }
 
-    /// Adds the nodes of a ring, without copies.
+    /// Adds the ring's nodes, without copies.
     pub fn fill(&mut self, ring: &Ring) -> Result<(), Refusal> {
         for node in ring.nodes() {
             let (give, take) = match node.allowance {
@@ -51,13 +51,13 @@ impl Copies {
         }
     }
 
-    /// Counts one more copy that reads from the node.
+    /// Counts one more copy from the node.
     pub fn give(&mut self, node: u32) {
         let place = self.giver(node);
         raise(&mut self.counts, place);
     }
 
-    /// Counts one fewer copy that reads from the node.
+    /// Counts one fewer copy from the node.
     pub fn keep(&mut self, node: u32) {
         let place = self.giver(node);
         lower(&mut self.counts, place);
@@ -83,12 +83,12 @@ impl Copies {
         }
     }
 
-    /// Returns how much of its allowance the node uses after receiving one more copy, in parts of 64.
+    /// Returns the allowance's use with one more copy to the node, in 64ths.
     pub fn taking(&self, node: u32) -> u32 {
         self.crowd(self.taker(node))
     }
 
-    /// Returns how much of its allowance the node uses after giving one more copy, in parts of 64.
+    /// Returns the allowance's use with one more copy from the node, in 64ths.
     pub fn giving(&self, node: u32) -> u32 {
         self.crowd(self.giver(node))
     }

@@ -1,15 +1,15 @@
-//! Numbers in groups, one group after the other.
+//! Numbers in groups.
 
 use helpers::{at, raise, set, small, swap};
 use ring_names::Refusal;
 use std::alloc::Global;
 
-/// Numbers in groups: first they are counted, then room is made, then each is put into its group.
+/// Numbers in groups: count them first, then make room, then put each.
 #[derive(Drop)]
 pub struct Grouped {
-    // the start of each group, and the end of the last
+    // each group's start, and the last one's end
     starts: Vec<u32>,
-    // the end of the numbers put into each group
+    // each group's end so far
     ends: Vec<u32>,
     items: Vec<u32>,
 }
@@ -30,12 +30,12 @@ impl Grouped {
         Ok(())
     }
 
-    /// Announces one more number of the group.
+    /// Counts one more number of the group.
     pub fn count(&mut self, group: usize) {
         raise(&mut self.starts, group.saturating_add(1));
     }
 
-    /// Makes room for all announced numbers.
+    /// Makes room for all counted numbers.
     pub fn make_room(&mut self, alloc: Global) -> Result<(), Refusal> {
         let mut total = 0u32;
         for group in 0..self.starts.len() {
@@ -69,7 +69,7 @@ impl Grouped {
         at(&self.items, place)
     }
 
-    /// Exchanges the numbers at two places.
+    /// Swaps the numbers at two places.
     pub fn swap(&mut self, one: usize, other: usize) {
         swap(&mut self.items, one, other);
     }

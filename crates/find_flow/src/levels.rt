@@ -1,4 +1,4 @@
-//! Levels of joining members: one slot more needs no further move (0), one (1), or is impossible (2).
+//! Levels of joining members: a slot more needs no further move (0), needs one (1), or is impossible (2).
 
 use crate::meeting::Aim;
 use crate::members::Role;
@@ -21,7 +21,6 @@ fn mark_path(search: &Search, levels: &mut [u32], from: u32, level: u32) {
     }
 }
 
-// Finds the joining members of the level among those without one.
 fn find_level(
     alloc: Global,
     seats: &Seats,

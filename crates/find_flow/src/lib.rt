@@ -1,5 +1,4 @@
-//! Searches owners for a ring's slots: paths along which slots are handed on, given owners and a wish. Only that it
-//! returns is proved.
+//! Searches owners for slots by handing slots on along paths. Only that it returns is proved.
 #![tactic(auto)]
 
 mod copies;

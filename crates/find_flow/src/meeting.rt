@@ -1,9 +1,8 @@
 //! The members that a search meets.
 //!
-//! A search goes backwards from a member that needs one slot more. It meets members that could hand over a slot, then
-//! members that could give one to these, and so on. A hand-over is free if both nodes would own a slot of the partition
-//! by a move, or if both owned one before. Joining members have levels, and slots are handed on only within a level. A
-//! slot that did not move is on level 1, a moved one on its owner's level.
+//! A search goes backwards: from a member that needs a slot, to members that could hand one over, and so on. A
+//! hand-over is free if both nodes would own a slot of the partition by a move, or both owned one before. A path stays
+//! within one level. A slot that did not move is on level 1, another on its owner's level.
 
 use crate::members::Role;
 use crate::seats::Seats;
@@ -11,41 +10,40 @@ use helpers::{NONE, at, set, small};
 use ring_names::Refusal;
 use std::alloc::Global;
 
-// How many slots and partitions all searches together may look at.
+// How many slots and partitions all searches may look at.
 const LOOKS: u32 = 80_000_000;
 
 /// The purpose of a search.
 #[derive(Clone, Copy, PartialEq, Eq)]
 pub enum Aim {
-    /// To give a joining member its part.
+    /// Gives a joining member its part.
     Part,
-    /// To improve the balance, without further moves and without smaller parts.
+    /// Improves the balance, without further moves or smaller parts.
     Balance,
 }
 
-/// The member that receives a slot, and the partition.
+/// A slot's receiver and partition.
 #[derive(Clone, Copy)]
 pub struct Link {
     pub to: u32,
     pub partition: usize,
 }
 
-/// The members that a search met, and what stays between searches.
+/// The members met, and what stays between searches.
 #[derive(Drop)]
 pub struct Meeting {
     aim: Aim,
-    /// The member that needs one slot more.
+    /// The member that needs a slot.
     pub first: u32,
-    /// The first member met that can give a slot.
+    /// The first giver met.
     pub found: Option<u32>,
     /// All members met, in order.
     pub met: Vec<u32>,
-    // by member met, who receives its slot, and in which partition
+    // by member met, its slot's receiver and partition
     to: Vec<u32>,
     partitions: Vec<u32>,
-    // by node
     levels: Vec<u32>,
-    // by node, 1 if no search passes it
+    // by node, 1 if frozen
     frozen: Vec<u32>,
     looks: u32,
 }
@@ -66,7 +64,7 @@ impl Meeting {
         }
     }
 
-    /// Puts all joining nodes on the level and the others on level 0, and freezes none.
+    /// Sets the level of joining nodes, and 0 for others. Freezes none.
     pub fn set_levels(&mut self, alloc: Global, seats: &Seats, level: u32) -> Result<(), Refusal> {
         let count = seats.members.count() as usize;
         self.levels = vec![in alloc; 0u32; count]?;
@@ -80,7 +78,7 @@ impl Meeting {
         self.thaw(alloc, count)
     }
 
-    /// Freezes no node.
+    /// Unfreezes all nodes.
     pub fn thaw(&mut self, alloc: Global, count: usize) -> Result<(), Refusal> {
         self.frozen = vec![in alloc; 0u32; count]?;
         Ok(())
@@ -96,7 +94,7 @@ impl Meeting {
         set(&mut self.levels, node as usize, level);
     }
 
-    /// Returns the level of a slot.
+    /// Returns a slot's level.
     pub fn level_at(&self, seats: &Seats, place: usize) -> u32 {
         let node = seats.now(place);
         if node == seats.first(place) {
@@ -110,7 +108,7 @@ impl Meeting {
         at(&self.frozen, node as usize) != 0
     }
 
-    /// Freezes the members met: no search passes them.
+    /// Freezes the members met.
     pub fn freeze(&mut self) {
         for node in self.met.iter() {
             set(&mut self.frozen, *node as usize, 1);
@@ -151,7 +149,6 @@ impl Meeting {
         self.looks == 0
     }
 
-    // Whether a path may begin at the node, given the search's purpose.
     fn can_give(&self, seats: &Seats, node: u32) -> bool {
         if self.aim == Aim::Part {
             return !seats.is_costly(node);
@@ -161,7 +158,7 @@ impl Meeting {
             && seats.give_price(node) > seats.take_price(self.first)
     }
 
-    /// Meets a member that can hand a slot to another, if it is new.
+    /// Meets a new member that can hand over a slot.
     pub fn meet(&mut self, seats: &Seats, node: u32, link: Link) -> Result<(), Refusal> {
         let place = node as usize;
         let is_known = node == self.first || at(&self.to, place) != NONE;
@@ -177,7 +174,7 @@ impl Meeting {
         Ok(())
     }
 
-    /// Meets the owners in the partition, on the level, that could hand their slot to the link's node.
+    /// Meets owners on the level that could hand the link's node a slot.
     pub fn meet_all(&mut self, seats: &Seats, link: Link, level: u32) -> Result<(), Refusal> {
         let rack = seats.members.racks.of(link.to);
         let has_room = seats.has_room(link.partition, rack);

@@ -10,26 +10,25 @@ use std::alloc::Global;
 /// A node's role in a change.
 #[derive(Clone, Copy, PartialEq, Eq)]
 pub enum Role {
-    /// Is not a member and does not join.
+    /// Neither a member nor joining.
     Absent,
-    /// Is a member and stays.
+    /// A member that stays.
     Stays,
     Joins,
-    /// Is a member and leaves.
+    /// A member that leaves.
     Leaves,
 }
 
 /// The roles, weights and racks of all nodes.
 #[derive(Drop)]
 pub struct Members {
-    // by number
     roles: Vec<Role>,
     weights: Vec<u32>,
-    // the slots that each joining node should get, rounded down
+    // by joining node, its due slots, rounded down
     parts: Vec<u32>,
     // the number of members in the end
     after: u32,
-    /// The sum of the weights of the members in the end.
+    /// The total weight of the members in the end.
     pub weight: u32,
     pub racks: Racks,
 }
@@ -47,10 +46,8 @@ impl Members {
         }
     }
 
-    /// Sets the roles. Fails with `NoPlan` if a joining node is a member or not declared, or a leaving one is
-    /// not a member.
-    ///
-    /// Also fails so if too few members remain.
+    /// Sets the roles. Fails with `NoPlan` if a joining node is a member or undeclared, a leaving one is not a member,
+    /// or too few members remain.
     pub fn begin(&mut self, alloc: Global, ring: &Ring, wish: &Wish) -> Result<(), Refusal> {
         for node in ring.nodes() {
             self.roles.push(if node.is_member {
@@ -83,7 +80,6 @@ impl Members {
         }
     }
 
-    // Sets the parts of joining nodes: at most one slot of each partition.
     fn share(&mut self, ring: &Ring) -> Result<(), Refusal> {
         let total = ring.q().saturating_mul(ring.n());
         for node in 0..self.count() {
@@ -116,7 +112,7 @@ impl Members {
         at(&self.weights, node as usize)
     }
 
-    /// Returns how many slots a joining node should get; 0 for others.
+    /// Returns a joining node's due slots; 0 for others.
     pub fn part(&self, node: u32) -> u32 {
         at(&self.parts, node as usize)
     }
@@ -127,7 +123,6 @@ impl Members {
     }
 }
 
-// Gives each of the nodes the new role. Fails if its role is not the old one.
 fn turn_all(roles: &mut [Role], nodes: &[NodeId], old: Role, new: Role) -> Result<(), Refusal> {
     for node in nodes {
         match roles.get_mut(node.0 as usize) {

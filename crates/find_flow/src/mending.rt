@@ -1,8 +1,7 @@
-//! Mends owners along paths: joining members get their parts with the fewest moves, then the balance is made the best possible.
+//! Mends owners along paths: joining members get their parts with the fewest moves, then the balance is optimized.
 //!
-//! Slots, partitions, racks and members form a network. A choice of owners is a flow, each move is a cost, and the
-//! balance is a convex cost of each member. Mending along a cheapest path keeps the cost least; once no path is left,
-//! the balance is optimal.
+//! This is a flow of least cost: each move is a cost, and the balance is a convex cost of each member. A cheapest path
+//! keeps the cost minimal. When no path is left, the balance is optimal.
 
 use crate::levels::find_levels;
 use crate::meeting::Aim;
@@ -12,7 +11,7 @@ use helpers::{set_word, word};
 use ring_names::Refusal;
 use std::alloc::Global;
 
-// Gives the node slots while it is below its part and a path leads there.
+// Gives the node its missing slots while paths lead there.
 fn raise(alloc: Global, seats: &mut Seats, search: &mut Search, node: u32) -> Result<(), Refusal> {
     for _ in 0..seats.partitions {
         if !seats.wants(node) || search.meeting.is_frozen(node) || search.meeting.is_spent() {
@@ -26,7 +25,7 @@ fn raise(alloc: Global, seats: &mut Seats, search: &mut Search, node: u32) -> Re
     Ok(())
 }
 
-/// Gives joining members their parts, by paths that need no further move (level 0) or one (level 1).
+/// Gives joining members their parts by paths of the level. Level 0 needs no further move, level 1 needs one.
 pub fn raise_all(
     alloc: Global,
     seats: &mut Seats,
@@ -40,12 +39,11 @@ pub fn raise_all(
     Ok(())
 }
 
-// The class of members by level, and by whether they would lack a slot of their part after giving one.
 fn class(level: u32, is_costly: bool) -> usize {
     level.saturating_mul(2).saturating_add(u32::from(is_costly)) as usize
 }
 
-// The greatest gain from giving a slot, by class of members.
+// The greatest gain from giving a slot, by class.
 fn gains(alloc: Global, seats: &Seats, search: &Search) -> Result<Vec<u64>, Refusal> {
     let mut gains = vec![in alloc; 0u64; 6]?;
     for node in 0..seats.members.count() {
@@ -58,7 +56,7 @@ fn gains(alloc: Global, seats: &Seats, search: &Search) -> Result<Vec<u64>, Refu
     Ok(gains)
 }
 
-// Whether the balance may improve by one slot more of the node.
+// Whether one slot more may improve the balance.
 fn takes_part(seats: &Seats, search: &Search, node: u32) -> bool {
     if !seats.members.is_after(node) || search.meeting.is_frozen(node) {
         return false;
@@ -67,7 +65,7 @@ fn takes_part(seats: &Seats, search: &Search, node: u32) -> bool {
     level == 0 || (level == 2 && seats.wants(node))
 }
 
-// The member with the fewest slots by weight that could receive one from a fuller member.
+// The emptiest member by weight that a fuller one could give a slot.
 fn poorest(seats: &Seats, search: &Search, gains: &[u64]) -> Option<u32> {
     let mut found: Option<u32> = None;
     for node in 0..seats.members.count() {
@@ -100,7 +98,7 @@ fn balance(alloc: Global, seats: &mut Seats, search: &mut Search) -> Result<(), 
     Ok(())
 }
 
-/// Improves the balance, if enough looks are left.
+/// Improves the balance, if looks are left.
 pub fn balance_all(alloc: Global, seats: &mut Seats, search: &mut Search) -> Result<(), Refusal> {
     if search.meeting.is_spent() {
         return Ok(());

@@ -1,4 +1,4 @@
-//! The slots of one level that a search may still use.
+//! Slots that a search may still use.
 
 use crate::grouped::Grouped;
 use crate::meeting::{Link, Meeting};
@@ -7,29 +7,29 @@ use helpers::{at, set, small, swap};
 use ring_names::Refusal;
 use std::alloc::Global;
 
-/// The slots of one level, by rack and by partition. A search uses each once: a later visitor would meet no new member by it.
+/// The slots of one level, by rack and by partition. A search uses each once: further visits would meet no new member.
 #[derive(Drop)]
 pub struct Offers {
     level: u32,
-    // whether the lists fit the current seats and levels
+    // whether the lists are current
     is_known: bool,
-    // the places of the slots, without those of frozen owners
+    // slots, without those of frozen owners
     places: Vec<u32>,
-    // the same by rack; a rack's group is cut before the used ones
+    // the same slots by rack; a rack's group ends before the used ones
     by_rack: Grouped,
-    // the partitions of the slots, the unused ones first
+    // the slots' partitions, unused ones first
     partitions: Vec<u32>,
     unused: usize,
-    // by rack, 1 if the partitions were searched for it
+    // by rack, 1 if its partitions were searched
     done: Vec<u32>,
-    // the racks whose slots or partitions were searched
+    // racks whose slots or partitions were searched
     touched: Vec<u32>,
-    // racks, and partitions with room for them that stayed unused because the node that asked has a slot there
+    // racks, and unused partitions with room for them in which the asking node has a slot
     late: Vec<(u32, u32)>,
 }
 
 impl Offers {
-    /// The slots of the level.
+    /// Starts without slots.
     pub fn new(alloc: Global, level: u32) -> Offers {
         Offers {
             level,
@@ -145,7 +145,7 @@ impl Offers {
         Ok(())
     }
 
-    /// Meets members of the node's own rack that could hand it a slot.
+    /// Meets members of the node's rack that could hand it a slot.
     pub fn in_rack(
         &mut self,
         seats: &Seats,
@@ -177,7 +177,7 @@ impl Offers {
         Ok(())
     }
 
-    // Meets owners in the partition, if it has room for the node's rack. Returns whether the partition is used then.
+    // Meets owners, if the partition has room for the node's rack. Returns whether it is used up.
     fn use_partition(
         &mut self,
         seats: &Seats,
@@ -196,7 +196,7 @@ impl Offers {
         Ok(true)
     }
 
-    // Searches all partitions, for the first node of a rack.
+    // Searches all partitions, for a rack's first node.
     fn use_all(&mut self, seats: &Seats, meeting: &mut Meeting, node: u32) -> Result<(), Refusal> {
         let mut kept = 0usize;
         for turn in 0..self.unused {
@@ -214,7 +214,7 @@ impl Offers {
         Ok(())
     }
 
-    // Searches the late partitions, for further nodes of a rack.
+    // Searches the late partitions, for a rack's further nodes.
     fn use_late(&mut self, seats: &Seats, meeting: &mut Meeting, node: u32) -> Result<(), Refusal> {
         let own = seats.members.racks.of(node);
         for (rack, number) in self.late.iter() {
@@ -230,14 +230,14 @@ impl Offers {
         Ok(())
     }
 
-    /// Meets members of any rack that could hand the node a slot, in partitions with room for its rack.
+    /// Meets members of any rack that could hand the node a slot.
     pub fn across(
         &mut self,
         seats: &Seats,
         meeting: &mut Meeting,
         node: u32,
     ) -> Result<(), Refusal> {
-        // If no rack has more than its minimum, none can spare a slot for another rack.
+        // If every rack has only its minimum, no rack can spare a slot for another.
         if seats.members.racks.above == 0 {
             return Ok(());
         }

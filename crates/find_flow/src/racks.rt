@@ -1,7 +1,7 @@
 //! Racks, and how many slots of a partition each may have.
 //!
-//! A partition has the fewest pairs of slots in one rack if its slots are spread evenly. Then each rack has `level`
-//! slots, or one for each member if there are fewer, and some racks have one more.
+//! An even spread has the fewest pairs in one rack: `level` slots in each, or as many as its members if these are
+//! fewer. Some racks have one slot more.
 
 use helpers::{at, raise, set, small};
 use ring_names::Refusal;
@@ -10,25 +10,23 @@ use std::alloc::Global;
 /// The racks of all nodes, numbered from 0.
 #[derive(Drop)]
 pub struct Racks {
-    // by node
     of: Vec<u32>,
     /// The nodes, rack by rack.
     pub order: Vec<u32>,
     // by node, its place in that order
     turns: Vec<u32>,
-    // the place of each rack's first node, and the end of the last rack
+    // each rack's first place, and the last one's end
     firsts: Vec<u32>,
     // by rack, its members in the end
     counts: Vec<u32>,
-    /// The racks with members in the end. If the level is not 0, they are at most as many as a partition has slots.
+    /// The racks with members in the end. If the level is not 0, at most as many as a partition's slots.
     pub with_members: Vec<u32>,
-    /// The fewest slots of a partition in each rack, if it has so many members.
+    /// The fewest slots of a partition in a rack with enough members.
     pub level: u32,
-    /// How many racks have one slot more in each partition.
+    /// How many racks have one slot more.
     pub above: u32,
 }
 
-// The nodes sorted by the names of their racks.
 fn keyed(alloc: Global, racks: &[u32], nodes: u32) -> Result<Vec<(u64, u32)>, Refusal> {
     let mut keyed = Vec::new(alloc);
     for node in 0..nodes {
@@ -57,7 +55,7 @@ impl Racks {
         }
     }
 
-    /// Sets the racks of the nodes, none of which is a member yet.
+    /// Sets the racks of the nodes, without members yet.
     pub fn fill(&mut self, alloc: Global, racks: &[u32], nodes: u32) -> Result<(), Refusal> {
         self.of = vec![in alloc; 0u32; nodes as usize]?;
         self.turns = vec![in alloc; 0u32; nodes as usize]?;
@@ -83,7 +81,7 @@ impl Racks {
         raise(&mut self.counts, rack);
     }
 
-    // How many slots of a partition fit the racks at the level.
+    // How many slots fit at the level.
     fn sum(&self, level: u32) -> u32 {
         let mut sum = 0u32;
         for count in self.counts.iter() {
@@ -92,7 +90,7 @@ impl Racks {
         sum
     }
 
-    /// Finds the racks with members, and the level, given the slots of a partition. All members must be known.
+    /// Finds the level and the racks with members, once all are added.
     pub fn set_level(&mut self, slots: u32) -> Result<(), Refusal> {
         for rack in 0..self.len() {
             if at(&self.counts, rack) > 0 {
@@ -113,17 +111,17 @@ impl Racks {
         self.counts.len()
     }
 
-    /// Returns the rack of the node.
+    /// Returns the node's rack.
     pub fn of(&self, node: u32) -> usize {
         at(&self.of, node as usize) as usize
     }
 
-    /// Returns the place of the node in the order by racks.
+    /// Returns the node's place by racks.
     pub fn turn(&self, node: u32) -> u32 {
         at(&self.turns, node as usize)
     }
 
-    /// Returns the rack's first place and its end in the order by racks.
+    /// Returns the rack's first place and its end.
     pub fn span(&self, rack: usize) -> (u32, u32) {
         let first = at(&self.firsts, rack);
         (first, at(&self.firsts, rack.saturating_add(1)))

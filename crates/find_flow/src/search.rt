@@ -11,7 +11,6 @@ use std::alloc::Global;
 #[derive(Drop)]
 pub struct Search {
     pub meeting: Meeting,
-    // by level
     offers: Vec<Offers>,
 }
 
@@ -41,13 +40,13 @@ impl Search {
         }
     }
 
-    /// Puts all joining nodes on the level and the others on level 0, and freezes none.
+    /// Sets the level of joining nodes, and 0 for others. Freezes none.
     pub fn set_levels(&mut self, alloc: Global, seats: &Seats, level: u32) -> Result<(), Refusal> {
         self.forget();
         self.meeting.set_levels(alloc, seats, level)
     }
 
-    /// Freezes the members met: no search passes them.
+    /// Freezes the members met.
     pub fn freeze(&mut self, alloc: Global, seats: &Seats) -> Result<(), Refusal> {
         self.meeting.freeze();
         for level in 0..self.offers.len() {
@@ -58,7 +57,7 @@ impl Search {
         Ok(())
     }
 
-    // Meets members that could move another slot instead of one that the node gave, so that the node keeps that one.
+    // Meets members that could move another slot, so that the node keeps one that it gave.
     fn meet_back(&mut self, seats: &Seats, node: u32) -> Result<(), Refusal> {
         if seats.members.role(node) != Role::Stays {
             return Ok(());
@@ -99,7 +98,7 @@ impl Search {
         self.meeting.begin(first, aim)
     }
 
-    /// Returns a member from which a path leads to the first, if there is one and enough looks are left.
+    /// Returns a member with a path to the first, if looks suffice.
     pub fn find(
         &mut self,
         alloc: Global,
@@ -121,7 +120,7 @@ impl Search {
         Ok(self.meeting.found)
     }
 
-    /// Hands slots on along the path from a member to the first.
+    /// Hands slots on along the path from a member.
     pub fn shift(&mut self, seats: &mut Seats, from: u32) {
         self.forget();
         let mut node = from;

@@ -1,4 +1,4 @@
-//! The owner of each slot, before and as wished for.
+//! The owner of each slot, before and after.
 
 use crate::copies::Copies;
 use crate::grouped::Grouped;
@@ -9,7 +9,7 @@ use ring_names::Refusal;
 use ring_table::Ring;
 use std::alloc::Global;
 
-/// The owner of each slot. Slots have places: partition by partition, then by index.
+/// The owner of each slot. Places go partition by partition, then by index.
 #[derive(Drop)]
 pub struct Seats<'a> {
     pub members: &'a Members,
@@ -18,11 +18,11 @@ pub struct Seats<'a> {
     pub slots: usize,
     // by place, the owner before
     first: Vec<u32>,
-    // by place, the new owner, or `NONE`
+    // by place, the owner now, or `NONE`
     now: Vec<u32>,
     // the places that each node owned before
     owned: Grouped,
-    // by node, the slots that it owns now
+    // by node, how many slots it owns now
     load: Vec<u32>,
     copies: Copies,
     /// The sizes of partitions, if known.
@@ -51,7 +51,7 @@ impl<'a> Seats<'a> {
         self.volumes.fill(alloc, sizes, self.partitions, nodes)
     }
 
-    /// Sets the owners of the ring. Slots of leaving nodes have none.
+    /// Sets the ring's owners. Slots of leaving nodes have none.
     pub fn begin(&mut self, alloc: Global, ring: &Ring) -> Result<(), Refusal> {
         for row in ring.rows() {
             for owner in row.as_slice() {
@@ -92,12 +92,12 @@ impl<'a> Seats<'a> {
         self.first.len()
     }
 
-    /// Returns the place of a slot.
+    /// Returns the slot's place.
     pub fn place(&self, partition: usize, index: usize) -> usize {
         partition.saturating_mul(self.slots).saturating_add(index)
     }
 
-    /// Returns the partition of the place.
+    /// Returns the place's partition.
     pub fn partition(&self, place: usize) -> usize {
         match place.checked_div(self.slots) {
             Some(partition) => partition,
@@ -115,13 +115,13 @@ impl<'a> Seats<'a> {
         at(&self.now, place)
     }
 
-    /// Counts the slots that the node owned before.
+    /// Counts the node's former slots.
     pub fn owned_count(&self, node: u32) -> usize {
         let node = node as usize;
         self.owned.end(node).saturating_sub(self.owned.start(node))
     }
 
-    /// Returns the place of one of the slots that the node owned before.
+    /// Returns the place of a former slot.
     pub fn owned(&self, node: u32, turn: usize) -> usize {
         let start = self.owned.start(node as usize);
         self.owned.item(start.saturating_add(turn)) as usize
@@ -141,7 +141,7 @@ impl<'a> Seats<'a> {
         }
     }
 
-    /// Gives the slot, which has no owner, to the node.
+    /// Gives the free slot to the node.
     pub fn fill(&mut self, place: usize, node: u32) {
         set(&mut self.now, place, node);
         raise(&mut self.load, node as usize);
@@ -185,7 +185,7 @@ impl<'a> Seats<'a> {
         count
     }
 
-    /// Whether a free slot of the partition may go to any rack with room, and not only to racks below their minimum.
+    /// Whether a free slot may go to any rack with room. Otherwise only racks below their minimum may have it.
     pub fn is_open(&self, partition: usize) -> bool {
         let racks = &self.members.racks;
         let mut holes = 0u32;
@@ -208,18 +208,17 @@ impl<'a> Seats<'a> {
         missing < holes
     }
 
-    /// Whether the rack may have one more slot of the partition.
+    /// Whether the rack may have one more slot.
     pub fn has_room(&self, partition: usize, rack: usize) -> bool {
         self.count(partition, rack) < self.members.racks.most(rack)
     }
 
-    /// Whether the rack may have one fewer slot of the partition.
+    /// Whether the rack may have one fewer slot.
     pub fn can_spare(&self, partition: usize, rack: usize) -> bool {
         let least = self.members.racks.least(rack);
         least == 0 || self.count(partition, rack) > least
     }
 
-    // Whether a node of the rack could replace the slot's owner.
     fn suits(&self, place: usize, rack: usize) -> bool {
         let partition = self.partition(place);
         match self.rack_at(place) {
@@ -230,19 +229,19 @@ impl<'a> Seats<'a> {
         }
     }
 
-    /// Returns the place that the node owns in the partition now.
+    /// Returns the node's place in the partition now.
     pub fn place_now(&self, partition: usize, node: u32) -> Option<usize> {
         let (start, slots) = (self.place(partition, 0), self.slots);
         found(&self.now, start, slots, node)
     }
 
-    /// Returns the place that the node owned in the partition before.
+    /// Returns the node's former place in the partition.
     pub fn place_before(&self, partition: usize, node: u32) -> Option<usize> {
         let (start, slots) = (self.place(partition, 0), self.slots);
         found(&self.first, start, slots, node)
     }
 
-    /// Whether the node could replace the slot's owner.
+    /// Whether the node could replace the owner.
     pub fn may_have(&self, place: usize, node: u32) -> bool {
         let rack = self.members.racks.of(node);
         self.place_now(self.partition(place), node).is_none()
@@ -250,8 +249,7 @@ impl<'a> Seats<'a> {
             && self.may_enter(place, node)
     }
 
-    // Whether the node may be a new owner. With sizes, a slot of a staying member goes only to a joining one, and only
-    // if the partition has keys.
+    // With sizes, a staying member's slot goes only to a joining node, and only if the partition has keys.
     fn may_enter(&self, place: usize, node: u32) -> bool {
         let partition = self.partition(place);
         !self.volumes.are_asked()
@@ -260,7 +258,7 @@ impl<'a> Seats<'a> {
             || (self.members.role(node) == Role::Joins && self.volumes.size(partition) > 0)
     }
 
-    // Replaces the slot's owner. A node that owned a slot of the partition before gets that one again.
+    // A former owner gets its own slot of the partition again.
     fn replace(&mut self, place: usize, node: u32) {
         let own = self.place_before(self.partition(place), node);
         self.vacate(place);
@@ -275,7 +273,7 @@ impl<'a> Seats<'a> {
         }
     }
 
-    /// Hands a slot of the partition from one node to the other, if allowed. Returns whether it was.
+    /// Hands a slot on, if allowed. Returns whether it did.
     pub fn hand(&mut self, partition: usize, from: u32, to: u32) -> bool {
         let Some(place) = self.place_now(partition, from) else {
             return false;
@@ -287,12 +285,11 @@ impl<'a> Seats<'a> {
         true
     }
 
-    /// Exchanges the owners of two slots. Loads stay, but a node may own a slot at another index than before.
+    /// Swaps two slots' owners. Loads stay, but indexes may change.
     pub fn exchange(&mut self, one: usize, other: usize) {
         swap(&mut self.now, one, other);
     }
 
-    // Puts each owner that owned a slot of the partition before back at its index.
     fn align(&mut self, partition: usize) {
         for index in 0..self.slots {
             let place = self.place(partition, index);
@@ -302,51 +299,51 @@ impl<'a> Seats<'a> {
         }
     }
 
-    /// Puts each owner back at its former index in its partition.
+    /// Puts each owner back at its former index.
     pub fn align_all(&mut self) {
         for partition in 0..self.partitions {
             self.align(partition);
         }
     }
 
-    /// Returns how many slots the node owns now.
+    /// Counts the node's slots now.
     pub fn load(&self, node: u32) -> u32 {
         at(&self.load, node as usize)
     }
 
-    /// Returns the cost to the balance of one slot more, in parts of 2^32. Results are equal only if the exact quotients are.
+    /// Returns what one slot more costs the balance, in parts of 2^32. Equal only if the exact quotients are.
     pub fn take_price(&self, node: u32) -> u64 {
         let twice = u64::from(self.load(node)).saturating_mul(2);
         price(twice.saturating_add(1), self.members.weight(node))
     }
 
-    /// Returns the gain to the balance of one slot fewer.
+    /// Returns what one slot fewer gains the balance.
     pub fn give_price(&self, node: u32) -> u64 {
         let twice = u64::from(self.load(node)).saturating_mul(2);
         price(twice.saturating_sub(1), self.members.weight(node))
     }
 
-    /// Returns how much of its allowance the node uses after taking one slot more.
+    /// Returns the allowance's use with one more copy to the node.
     pub fn taking(&self, node: u32) -> u32 {
         self.copies.taking(node)
     }
 
-    /// Returns how much of its allowance the node uses after giving one slot more.
+    /// Returns the allowance's use with one more copy from the node.
     pub fn giving(&self, node: u32) -> u32 {
         self.copies.giving(node)
     }
 
-    /// Whether the node joins and lacks a slot of its part.
+    /// Whether a joining node lacks a slot of its part.
     pub fn wants(&self, node: u32) -> bool {
         self.load(node) < self.members.part(node)
     }
 
-    /// Whether the node joins and would lack a slot of its part after giving one.
+    /// Whether a joining node would lack a slot after giving one.
     pub fn is_costly(&self, node: u32) -> bool {
         self.members.role(node) == Role::Joins && self.load(node) <= self.members.part(node)
     }
 
-    /// Counts the slots with another owner than before.
+    /// Counts the slots with a new owner.
     pub fn moved(&self) -> u32 {
         let mut moved = 0u32;
         for place in 0..self.total() {

@@ -1,11 +1,12 @@
-//! Sizes of partitions, and how much each node stores.
+//! Sizes of partitions, and what nodes store.
 
 use crate::members::{Members, Role};
 use helpers::{at, set_word, word};
 use ring_names::Refusal;
 use std::alloc::Global;
 
-// Loads and aims count parts of a unit, since shares are seldom whole. All sizes by a weight of 1,000 stay below 2^63 parts.
+// Loads and aims count 64ths of a unit, since shares are seldom whole. All sizes by a weight of 1,000 stay below 2^63
+// parts.
 const PARTS: u64 = 64;
 
 // Above all differences of two loads by weight.
@@ -17,7 +18,7 @@ pub struct Volumes {
     are_asked: bool,
     // by partition, in units of a power of two
     sizes: Vec<u32>,
-    // what rounding may add to the parts of all slots of a partition
+    // how much rounding adds at most to one slot of each partition
     slack: u64,
     // by node, in parts
     loads: Vec<u64>,
@@ -58,7 +59,7 @@ fn share(whole: u64, weight: u32, weights: u32) -> u64 {
     }
 }
 
-// The level up or down to which staying members are filled, and whether it rises.
+// The level to which staying members are filled or emptied.
 #[derive(Clone, Copy)]
 struct Level<'a> {
     members: &'a Members,
@@ -68,7 +69,6 @@ struct Level<'a> {
 }
 
 impl<'a> Level<'a> {
-    // What the node should store at the level.
     fn aim(&self, load: u64, node: u32) -> u64 {
         let level = self
             .level
@@ -89,7 +89,7 @@ impl<'a> Level<'a> {
         sum
     }
 
-    // The least level at which the staying members store that much.
+    // Finds the least level at which staying members store that much.
     fn rise(&mut self, loads: &[u64], wanted: u64) {
         let mut step = 1u64 << 56;
         for _ in 0..57 {
@@ -116,8 +116,7 @@ impl Volumes {
         }
     }
 
-    /// Sets the sizes of partitions, of which no node owns a slot yet. If a size exceeds 32 bits, all are rounded up to
-    /// a greater unit.
+    /// Sets the sizes, before any slot is owned. If one exceeds 32 bits, all are rounded up to a greater unit.
     pub fn fill(
         &mut self,
         alloc: Global,
@@ -147,17 +146,17 @@ impl Volumes {
         self.are_asked
     }
 
-    /// Returns the size of the partition.
+    /// Returns the partition's size.
     pub fn size(&self, partition: usize) -> u32 {
         at(&self.sizes, partition)
     }
 
-    /// Returns the size of the partition, in parts.
+    /// Returns the partition's size in parts.
     pub fn parts(&self, partition: usize) -> u64 {
         u64::from(self.size(partition)).saturating_mul(PARTS)
     }
 
-    /// Returns the greatest size, in parts.
+    /// Returns the greatest size in parts.
     pub fn most(&self) -> u64 {
         let mut most = 0u32;
         for size in self.sizes.iter() {
@@ -166,13 +165,13 @@ impl Volumes {
         u64::from(most).saturating_mul(PARTS)
     }
 
-    /// Counts one more slot of the partition for the node.
+    /// Adds a slot of the partition to the node's load.
     pub fn add(&mut self, partition: usize, node: usize) {
         let load = word(&self.loads, node).saturating_add(self.parts(partition));
         set_word(&mut self.loads, node, load);
     }
 
-    /// Counts one fewer slot of the partition for the node.
+    /// Removes a slot of the partition from the node's load.
     pub fn remove(&mut self, partition: usize, node: usize) {
         let load = word(&self.loads, node).saturating_sub(self.parts(partition));
         set_word(&mut self.loads, node, load);
@@ -188,8 +187,8 @@ impl Volumes {
 
     /// Sets what each member should store.
     ///
-    /// Joining ones get their shares, with at most one slot of each partition. Staying ones are levelled by
-    /// weight: they give what joiners lack, or take what leavers leave besides.
+    /// Joining members get their shares, with at most one slot of each partition. Staying ones are levelled by weight:
+    /// they give what joiners lack, or take what leavers leave besides.
     pub fn aim(&mut self, members: &Members, slots: usize) {
         if !self.are_asked {
             return;
@@ -201,7 +200,7 @@ impl Volumes {
             let place = node as usize;
             if members.role(node) == Role::Joins {
                 let share = share(total, members.weight(node), members.weight).min(one);
-                // A share of rounded sizes may be too great by this much.
+                // Rounding may make the share too great by this much.
                 let aim = share.saturating_sub(self.slack.saturating_mul(slots as u64));
                 set_word(&mut self.aims, place, aim);
                 left = left.saturating_sub(aim);
@@ -227,7 +226,7 @@ impl Volumes {
         }
     }
 
-    /// Returns how much more than it should the node stores, in parts.
+    /// Returns how much too much the node stores, in parts.
     pub fn over(&self, node: u32) -> i64 {
         let (load, aim) = (
             word(&self.loads, node as usize),
@@ -241,7 +240,7 @@ impl Volumes {
         word(&self.aims, node as usize).saturating_sub(word(&self.loads, node as usize))
     }
 
-    /// Returns the excess of the node by its weight. The least lacks most.
+    /// Returns the node's excess by weight. The smallest value lacks most.
     pub fn fullness(&self, node: u32, weight: u32) -> u64 {
         let over = self.over(node).saturating_mul(64);
         let by = match over.checked_div(i64::from(weight)) {
@@ -251,7 +250,7 @@ impl Volumes {
         u64::try_from(by.saturating_add(MIDDLE)).unwrap_or(0)
     }
 
-    /// Returns the load of the node by its weight.
+    /// Returns the node's load by weight.
     pub fn load_by(&self, node: u32, weight: u32) -> u64 {
         match word(&self.loads, node as usize).checked_div(u64::from(weight)) {
             Some(by) => by,

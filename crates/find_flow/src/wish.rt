@@ -5,15 +5,15 @@ use ring_names::NodeId;
 /// A wished change of a ring.
 #[derive(Clone, Copy)]
 pub struct Wish<'a> {
-    /// The nodes that join. Each is declared `out`.
+    /// The nodes that join, declared `out`.
     pub joins: &'a [NodeId],
     /// The members that own nothing in the end.
     pub leaves: &'a [NodeId],
-    /// By node, its weight from 1 to 1,000: 0 means 1, more means 1,000. Nodes after the last entry have 1.
+    /// By node, its weight from 1 to 1,000: 0 means 1, more means 1,000. Further nodes have 1.
     pub weights: &'a [u32],
-    /// By node, any number for its rack. Nodes after the last entry have racks of their own.
+    /// By node, any number for its rack. Further nodes have racks of their own.
     pub racks: &'a [u32],
-    /// By partition, how much it stores, below 2^48, if sizes should be even. Partitions after the last entry have 1.
+    /// By partition, how much it stores, below 2^48, for even sizes. Further partitions have 1.
     pub sizes: Option<&'a [u64]>,
 }
 
