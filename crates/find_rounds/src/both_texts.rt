@@ -13,7 +13,7 @@ use ring_names::Refusal;
 use ring_table::Ring;
 use std::alloc::Global;
 
-/// Writes the plan, then the certificate. Fails only with `OutOfMemory`.
+/// Writes the plan, then the certificate.
 pub fn write_texts(alloc: Global, ring: &Ring, plan: &Plan, cert: &Cert) -> Result<Vec<u8>, Refusal>
     requires plan_suits { PlanSuits ring.now plan.now }
     requires cert_suits { CertSuits ring.now cert.now }

@@ -1,8 +1,8 @@
-//! Assigns rounds, so that no group exceeds its allowance in a round.
+//! Assigns rounds within each group's allowance.
 //!
-//! A group is split into seats with one copy a round each, so rounds are edge colours of a graph between seats. If
-//! giving and taking are counted apart, the graph has two sides, and as many rounds suffice as the fullest seat has
-//! copies (Kőnig 1916).
+//! A group is split into seats with one copy a round each, so rounds are edge colours of a graph of seats. If giving
+//! and taking are counted apart, the graph has two sides. It then needs as many rounds as its fullest seat has copies
+//! (Kőnig 1916).
 
 use crate::groups::Groups;
 use crate::listed::fewest;
@@ -13,10 +13,10 @@ use helpers::{at, parts, set, small};
 use ring_names::Refusal;
 use std::alloc::Global;
 
-// Marks that a seat has no copy.
+// A seat without a copy.
 const NONE: u32 = 4_294_967_295;
 
-// One end of a copy: a group and a seat.
+// One end of a copy.
 #[derive(Clone, Copy)]
 struct End {
     group: usize,
@@ -30,18 +30,17 @@ struct Seated {
     round: usize,
 }
 
-/// The seats of all groups, and their copy in each round.
+/// Seats, and their copy in each round.
 #[derive(Drop)]
 pub struct Colours {
-    /// The number of rounds.
     pub rounds: usize,
-    // the first seat of each group, and the end of the last
+    // each group's first seat, and the last one's end
     firsts: Vec<u32>,
     // the copy of each seat in each round
     table: Vec<u32>,
     // by group, the rounds with a free seat
     free: RoundSets,
-    // by copy, its seats and round, if it has any
+    // by copy, its seats and round, if any
     seated: Vec<Option<Seated>>,
 }
 
@@ -57,7 +56,6 @@ impl Colours {
         }
     }
 
-    // Makes empty seats for the copies, given their number by group.
     fn begin(
         &mut self,
         alloc: Global,
@@ -81,7 +79,7 @@ impl Colours {
         self.free.fill(groups.len(), self.rounds)
     }
 
-    /// Gives seats to the copies of the moves, as many as possible.
+    /// Gives seats to as many copies as possible.
     pub fn colour_all(
         &mut self,
         alloc: Global,
@@ -120,7 +118,6 @@ impl Colours {
         None
     }
 
-    // Updates whether the group has a free seat in the round.
     fn renew(&mut self, group: usize, round: usize) {
         let is_free = self.free_end(group, round).is_some();
         self.free.put(group, round, is_free);
@@ -152,7 +149,7 @@ impl Colours {
         }
     }
 
-    /// Returns the round of a copy, if it has one.
+    /// Returns the copy's round, if it has one.
     pub fn round(&self, copy: usize) -> Option<usize> {
         match self.seated(copy) {
             Some(seated) => Some(seated.round),
@@ -160,7 +157,7 @@ impl Colours {
         }
     }
 
-    // The copies along a path of alternating rounds from a seat, and the last one's other seat.
+    // The copies along a path of alternating rounds, and the path's end.
     fn path(
         &self,
         alloc: Global,
@@ -203,7 +200,6 @@ impl Colours {
         }
     }
 
-    // Gives a copy free seats in the round, if there are any.
     fn sit(&mut self, copy: usize, giver: usize, taker: usize, round: usize) {
         if let (Some(giver), Some(taker)) = (
             self.free_end(giver, round),
@@ -220,8 +216,8 @@ impl Colours {
         }
     }
 
-    // Gives a copy seats in a round in which both groups are free. If there is none, tries to free one by swapping two
-    // rounds along a path.
+    // Seats a copy in a round with both groups free. If there is none, tries to free one by swapping two rounds along a
+    // path.
     fn colour(
         &mut self,
         alloc: Global,

@@ -5,10 +5,10 @@ use ring_names::{NodeId, Refusal};
 use ring_table::{Allowance, NodeSide, Ring, Side};
 use std::alloc::Global;
 
-/// Two groups for each node: copies read from it, and copies that it receives. If one number counts both, all are in the first.
+/// Two groups for each node: copies from it and to it. If one number counts both, the first has all.
 #[derive(Drop)]
 pub struct Groups {
-    // the most open transfers of each group; 0 for an unused second group, and for barred nodes
+    // each group's most open transfers; 0 if it is unused or barred
     most: Vec<u32>,
     barred: u32,
 }
@@ -28,7 +28,7 @@ impl Groups {
         Ok(Groups { most, barred: 0 })
     }
 
-    /// Bars the node: no transfer may read from it or go to it.
+    /// Bars transfers from and to the node.
     pub fn bar(&mut self, node: u32) {
         let first = self.giver(node);
         set(&mut self.most, first, 0);
@@ -51,17 +51,17 @@ impl Groups {
         self.most.len()
     }
 
-    /// Returns the most open transfers of the group; 0 if it does not exist.
+    /// Returns the group's most open transfers; 0 if unused.
     pub fn most(&self, group: usize) -> u32 {
         at(&self.most, group)
     }
 
-    /// Returns the group of copies read from the node.
+    /// Returns the group of copies from the node.
     pub fn giver(&self, node: u32) -> usize {
         (node as usize).saturating_mul(2)
     }
 
-    /// Returns the group of copies that the node receives.
+    /// Returns the group of copies to the node.
     pub fn taker(&self, node: u32) -> usize {
         let first = self.giver(node);
         let second = first.saturating_add(1);

@@ -13,7 +13,7 @@ use ring_names::{Listed, NodeId, Refusal, Slot};
 use ring_table::Ring;
 use std::alloc::Global;
 
-/// A ring, the wanted owners, the members that come and go, and the dead nodes.
+/// A wanted change of owners.
 #[derive(Clone, Copy)]
 pub struct Handover<'a> {
     pub alloc: Global,
@@ -35,7 +35,7 @@ fn has(row: &[NodeId], node: NodeId) -> bool {
     row.iter().any(|other| other.0 == node.0)
 }
 
-// The next node of the list that the row lacks, and the place after it.
+// The next node that the row lacks, and the place after it.
 fn next_new(nodes: &[NodeId], row: &[NodeId], from: usize) -> Option<(NodeId, usize)> {
     for place in from..nodes.len() {
         if let Some(node) = nodes.get(place) {
@@ -48,7 +48,6 @@ fn next_new(nodes: &[NodeId], row: &[NodeId], from: usize) -> Option<(NodeId, us
 }
 
 impl<'a> Handover<'a> {
-    // The transfers that nodes bear at once; dead ones are barred.
     fn groups(&self) -> Result<Groups, Refusal> {
         let mut groups = Groups::of(self.alloc, self.ring)?;
         for node in self.dead {
@@ -57,7 +56,7 @@ impl<'a> Handover<'a> {
         Ok(groups)
     }
 
-    // Adds the moves of a partition: the slots of lost owners go in order to the gained ones.
+    // Adds a partition's moves: slots of lost owners go in order to the gained ones.
     fn push_moves(
         &self,
         layout: &mut Layout,
@@ -89,7 +88,7 @@ impl<'a> Handover<'a> {
         Ok(())
     }
 
-    // The fewest moves, by partition and index. Marks these slots in the layout.
+    // Marks the slots that move.
     fn moves(&self, layout: &mut Layout) -> Result<Vec<Move>, Refusal> {
         let mut out = Vec::new(self.alloc);
         for partition in 0..layout.partitions {
@@ -98,11 +97,10 @@ impl<'a> Handover<'a> {
         Ok(out)
     }
 
-    /// Returns the plan that gives the slots these owners, and its certificate. Owners are compared as sets, so
-    /// no slot moves needlessly.
+    /// Returns the plan for these owners, and its certificate. Owners are compared as sets, so no slot moves
+    /// needlessly.
     ///
-    /// Fails with `NoPlan` if a dead node's slot moves and fewer than R others can be read, or with
-    /// `OutOfMemory`.
+    /// Fails with `NoPlan` if a dead node's slot moves and fewer than R others can be read, or with `OutOfMemory`.
     pub fn plan(&self) -> Result<(Plan, Cert), Refusal> {
         let groups = self.groups()?;
         let mut layout = Layout::of(self.alloc, self.ring)?;

@@ -1,11 +1,11 @@
-//! Rounds in turn: each copy takes the first round, from its groups' last ones on, in which all its groups are free.
+//! Rounds in turn: a copy takes the first round, from its groups' last ones on, in which they are all free.
 
 use crate::groups::Groups;
 use helpers::{at, raise, set};
 use ring_names::Refusal;
 use std::alloc::Global;
 
-/// The last round of each group, and its copies there.
+/// Each group's last round, and its copies there.
 #[derive(Drop)]
 pub struct Later {
     last: Vec<u32>,
@@ -13,7 +13,7 @@ pub struct Later {
 }
 
 impl Later {
-    /// Groups that are free from the round on.
+    /// Starts with groups that are free from the round on.
     pub fn of(alloc: Global, groups: usize, round: u32) -> Result<Later, Refusal> {
         Ok(Later {
             last: vec![in alloc; round; groups]?,
@@ -21,7 +21,6 @@ impl Later {
         })
     }
 
-    // The first round from its last on in which the group is free.
     fn earliest(&self, groups: &Groups, group: usize) -> u32 {
         let last = at(&self.last, group);
         if at(&self.taken, group) >= groups.most(group) {
@@ -38,7 +37,7 @@ impl Later {
         raise(&mut self.taken, group);
     }
 
-    /// Returns the round of the next copy of these groups.
+    /// Returns the round of the groups' next copy.
     pub fn round(&mut self, groups: &Groups, parties: &[u32]) -> u32 {
         let mut round = 0u32;
         for group in parties {

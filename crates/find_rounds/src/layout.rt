@@ -1,11 +1,11 @@
-//! The owners of all slots, and which slots move.
+//! Owners and moves of slots.
 
 use helpers::{at, set};
 use ring_names::{Refusal, Slot};
 use ring_table::Ring;
 use std::alloc::Global;
 
-/// The owners of a ring's slots by place, partition by partition, and which slots move.
+/// Owners of slots, partition by partition, and which slots move.
 #[derive(Drop)]
 pub struct Layout {
     /// The number of partitions, and of slots in each.
@@ -17,7 +17,7 @@ pub struct Layout {
 }
 
 impl Layout {
-    /// The ring's owners, without moves.
+    /// Reads the ring's owners, without moves.
     pub fn of(alloc: Global, ring: &Ring) -> Result<Layout, Refusal> {
         let mut owners = Vec::new(alloc);
         for row in ring.rows() {
@@ -34,12 +34,12 @@ impl Layout {
         })
     }
 
-    /// Returns the place of a slot.
+    /// Returns the slot's place.
     pub fn place(&self, partition: usize, index: usize) -> usize {
         partition.saturating_mul(self.slots).saturating_add(index)
     }
 
-    /// Returns the place of a slot.
+    /// Returns the slot's place.
     pub fn place_of(&self, slot: Slot) -> usize {
         self.place(slot.partition as usize, slot.index as usize)
     }
@@ -49,17 +49,17 @@ impl Layout {
         self.owners.len()
     }
 
-    /// Returns the owner of the slot at the place.
+    /// Returns the owner of the slot.
     pub fn owner(&self, place: usize) -> u32 {
         at(&self.owners, place)
     }
 
-    /// Whether the slot at the place moves.
+    /// Whether the slot moves.
     pub fn moves(&self, place: usize) -> bool {
         at(&self.moving, place) != 0
     }
 
-    /// Lets the slot at the place move.
+    /// Lets the slot move.
     pub fn let_move(&mut self, place: usize) {
         set(&mut self.moving, place, 1);
     }

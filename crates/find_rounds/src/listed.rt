@@ -1,7 +1,7 @@
 //! Copies that read listed slots instead of the owner.
 //!
-//! A node that leaves gives all its slots at its own pace. A copy from R slots that stay loads their owners instead,
-//! each a little. This needs R + 1 parties instead of 2, and is used only if at least half of the rounds are saved.
+//! A leaving node gives all its slots at its own pace. A copy from R staying slots loads their owners a little each
+//! instead. This needs R + 1 parties instead of 2, so it must save at least half of the rounds.
 
 use crate::groups::Groups;
 use crate::moving::Move;
@@ -17,7 +17,7 @@ struct Listing {
     slots: Rows,
     // those of the current move
     row: Vec<u32>,
-    // how many copies each group has
+    // each group's copies
     counts: Vec<u32>,
 }
 
@@ -32,7 +32,7 @@ fn most(groups: &Groups, group: usize, rounds: u32) -> u32 {
 }
 
 impl Listing {
-    // How much of the rounds the slot's owner has left, in parts of 64. None if nothing.
+    // What the slot's owner has left of the rounds, in 64ths.
     fn left(&self, task: &Task, place: usize, rounds: u32) -> Option<u32> {
         let (layout, groups) = (task.layout, task.groups);
         let group = groups.giver(layout.owner(place));
@@ -43,7 +43,7 @@ impl Listing {
         left.saturating_mul(64).checked_div(groups.most(group))
     }
 
-    // The first unlisted slot of the partition, moving or staying, whose owner has most left.
+    // The partition's first unlisted slot of the kind whose owner has most left.
     fn best(&self, task: &Task, partition: usize, rounds: u32, which: Which) -> Option<u32> {
         let layout = task.layout;
         let mut best = None;
@@ -72,7 +72,7 @@ impl Listing {
         }
     }
 
-    // Lists R slots for a copy whose owner has too many for the rounds. None if there are fewer.
+    // Lists R slots for a copy of an overloaded owner, or none if there are fewer.
     fn list(&mut self, task: &Task, step: &Move, rounds: u32) -> Result<(), Refusal> {
         self.row.clear();
         let giver = task.groups.giver(step.from);
@@ -91,7 +91,7 @@ impl Listing {
         self.slots.push(&self.row)
     }
 
-    // Lists slots for each move. Returns whether the rounds suffice for each group.
+    // Returns whether the rounds suffice.
     fn list_all(&mut self, task: &Task, rounds: u32) -> Result<bool, Refusal> {
         let groups = task.groups;
         self.counts = counts(task.alloc, groups, task.moves)?;
@@ -130,7 +130,7 @@ impl Listing {
         Ok(true)
     }
 
-    // Lists slots for all copies with barred owners. Returns whether there are enough, and the rounds suffice for each group.
+    // Returns whether there are enough slots and rounds.
     fn list_all_around(&mut self, task: &Task, rounds: u32) -> Result<bool, Refusal> {
         self.counts = counts(task.alloc, task.groups, task.moves)?;
         for step in task.moves {
@@ -150,14 +150,13 @@ fn nothing_listed(task: &Task) -> Listing {
     }
 }
 
-// Which copies list slots: those of overloaded owners, or those of barred ones.
+// Which copies list slots, by their owner.
 #[derive(Clone, Copy)]
 enum Listed {
     Loaded,
     Barred,
 }
 
-// Sources for which the rounds may suffice, if found.
 fn try_rounds(task: &Task, listed: Listed, rounds: u32) -> Result<Option<Rows>, Refusal> {
     let mut listing = nothing_listed(task);
     let is_enough = match listed {
@@ -167,7 +166,7 @@ fn try_rounds(task: &Task, listed: Listed, rounds: u32) -> Result<Option<Rows>, 
     Ok(if is_enough { Some(listing.slots) } else { None })
 }
 
-// Sources for the fewest rounds, up to `most`. The search halves a range of 32 bits.
+// Slots for the fewest rounds, up to `most`. Halves a range of 32 bits.
 fn search(task: &Task, listed: Listed, most: u32) -> Result<Option<Rows>, Refusal> {
     let (mut low, mut high) = (1u32, most);
     let mut found = None;
@@ -187,11 +186,11 @@ fn search(task: &Task, listed: Listed, most: u32) -> Result<Option<Rows>, Refusa
     Ok(found)
 }
 
-/// Returns slots for each copy whose owner is barred: R of its partition with live owners, staying ones first.
+/// Returns R listed slots for each copy with a barred owner, staying ones first. They give the fewest rounds.
 ///
-/// They give the fewest rounds. None if a partition has too few.
+/// None if a partition has too few with live owners.
 pub fn around(task: &Task) -> Result<Option<Rows>, Refusal> {
-    // Enough rounds for all copies one after the other.
+    // Enough rounds for one copy at a time.
     let most = small(task.moves.len()).saturating_mul(8).saturating_add(1);
     search(task, Listed::Barred, most)
 }
@@ -205,12 +204,12 @@ pub fn fewest(groups: &Groups, counts: &[u32]) -> u32 {
     most
 }
 
-/// Whether the rounds are worth more parties: at most half as many, and at least four fewer.
+/// Whether the rounds are worth more parties.
 pub fn is_worth(rounds: u32, from_owners: u32) -> bool {
     rounds.saturating_mul(2) <= from_owners && rounds.saturating_add(4) <= from_owners
 }
 
-/// Returns the slots that each copy lists, for the fewest rounds. None if it reads the owner.
+/// Returns each copy's listed slots for the fewest rounds. None if it reads the owner.
 pub fn sources(task: &Task) -> Result<Option<Rows>, Refusal> {
     let groups = task.groups;
     let from_owners = fewest(groups, &counts(task.alloc, groups, task.moves)?);

@@ -1,4 +1,4 @@
-//! Copies that list moving slots, and the moves of these slots after them.
+//! Copies that list moving slots, and those slots' moves.
 
 use crate::later::Later;
 use crate::task::Task;
@@ -7,7 +7,7 @@ use helpers::{at, row, set, small};
 use ring_names::{Refusal, Rows};
 use std::alloc::Global;
 
-// By place of a slot, 1 plus the number of its move, or 0.
+// By slot, 1 plus the number of its move, or 0.
 fn by_place(task: &Task) -> Result<Vec<u32>, Refusal> {
     let layout = task.layout;
     let mut numbers = vec![in task.alloc; 0u32; layout.total()]?;
@@ -19,7 +19,7 @@ fn by_place(task: &Task) -> Result<Vec<u32>, Refusal> {
     Ok(numbers)
 }
 
-/// Returns, by copy, the moves of its listed slots: their copies come after it.
+/// Returns, by copy, the moves of its listed slots. Their copies come after it.
 pub fn followers(task: &Task, listed: &Rows) -> Result<Rows, Refusal> {
     let (layout, numbers) = (task.layout, by_place(task)?);
     let mut behind = Rows::new(task.alloc);
@@ -38,7 +38,7 @@ pub fn followers(task: &Task, listed: &Rows) -> Result<Rows, Refusal> {
     Ok(behind)
 }
 
-// By copy, whether it comes after others.
+// By copy, whether it follows others.
 fn are_late(task: &Task, behind: &Rows) -> Result<Vec<bool>, Refusal> {
     let mut marks = vec![in task.alloc; false; task.moves.len()]?;
     for copy in 0..behind.len() {
@@ -61,7 +61,6 @@ fn numbers_of(alloc: Global, marks: &[bool], mark: bool) -> Result<Vec<u32>, Ref
     Ok(numbers)
 }
 
-// Rounds of copies in phases: the first free one, and that of each copy.
 #[derive(Drop)]
 struct Phases {
     next: u32,
@@ -69,7 +68,7 @@ struct Phases {
 }
 
 impl Phases {
-    // Gives these copies the next rounds, by urgency, or in turn if that takes too long.
+    // By urgency, or in turn if that takes too long.
     fn add(&mut self, task: &Task, parties: &Rows, numbers: &[u32]) -> Result<(), Refusal> {
         let alloc = task.alloc;
         let mut rows = Rows::new(alloc);
@@ -109,7 +108,7 @@ fn in_turn(task: &Task, parties: &Rows) -> Result<Vec<u32>, Refusal> {
     Ok(rounds)
 }
 
-/// Returns rounds in two phases: copies that follow others come after all that do not.
+/// Returns rounds in two phases: followers come after all other copies.
 pub fn in_phases(task: &Task, parties: &Rows, behind: &Rows) -> Result<Vec<u32>, Refusal> {
     let late = are_late(task, behind)?;
     let mut phases = Phases {

@@ -1,4 +1,4 @@
-//! Sets of rounds, one for each group.
+//! Sets of rounds.
 
 use ring_names::Refusal;
 use std::alloc::Global;
@@ -10,7 +10,7 @@ const WORD: usize = 64;
 pub struct RoundSets {
     // the words of each set
     words: usize,
-    // the sets, a bit for each round
+    // a bit for each round
     bits: Vec<u64>,
 }
 
@@ -34,7 +34,7 @@ impl RoundSets {
         }
     }
 
-    /// Fills the sets of all groups with all rounds.
+    /// Fills each set with all rounds.
     pub fn fill(&mut self, groups: usize, rounds: usize) -> Result<(), Refusal> {
         self.words = rounds.saturating_add(63) / WORD;
         for _ in 0..groups {
@@ -69,7 +69,7 @@ impl RoundSets {
         }
     }
 
-    /// Returns the least round in the sets of both groups, which may be the same.
+    /// Returns the least round in both groups' sets. The groups may be the same.
     pub fn common(&self, first: usize, second: usize) -> Option<usize> {
         for word in 0..self.words {
             let both = self.word(first, word) & self.word(second, word);

@@ -1,4 +1,4 @@
-//! The round of each move, and where its copy reads.
+//! Rounds and sources of copies.
 
 use crate::colours::Colours;
 use crate::groups::Groups;
@@ -12,7 +12,7 @@ use helpers::{raise, row, small};
 use ring_names::{Refusal, Rows};
 use std::alloc::Global;
 
-/// Counts the copies from owners by group.
+/// Counts the copies from owners, by group.
 pub fn counts(alloc: Global, groups: &Groups, moves: &[Move]) -> Result<Vec<u32>, Refusal> {
     let mut counts = vec![in alloc; 0u32; groups.len()]?;
     for step in moves {
@@ -22,7 +22,7 @@ pub fn counts(alloc: Global, groups: &Groups, moves: &[Move]) -> Result<Vec<u32>
     Ok(counts)
 }
 
-/// The rounds of moves, the groups of their copies, and their listed slots.
+/// Rounds, groups and listed slots of copies.
 #[derive(Drop)]
 pub struct Schedule {
     pub parties: Rows,
@@ -31,7 +31,7 @@ pub struct Schedule {
     rounds: Vec<u32>,
 }
 
-// The groups that a copy reads from, and the receiver.
+// The groups that a copy reads from, and its receiver.
 fn parties(task: &Task, step: &Move, listed: &[u32]) -> Result<Vec<u32>, Refusal> {
     let (layout, groups) = (task.layout, task.groups);
     let mut parties = Vec::new(task.alloc);
@@ -46,7 +46,7 @@ fn parties(task: &Task, step: &Move, listed: &[u32]) -> Result<Vec<u32>, Refusal
     Ok(parties)
 }
 
-// The rounds of copies with seats; copies without seats follow in turn.
+// The rounds of copies with seats; the other copies follow in turn.
 fn seated(task: &Task, colours: &Colours, parties: &Rows) -> Result<Vec<u32>, Refusal> {
     let (alloc, groups) = (task.alloc, task.groups);
     let mut rounds = Vec::new(alloc);
@@ -89,7 +89,7 @@ impl Schedule {
         Ok(())
     }
 
-    // Tries copies from listed slots. Returns whether that saves enough rounds.
+    // Returns whether copies from listed slots save enough rounds.
     fn read_listed(&mut self, task: &Task) -> Result<bool, Refusal> {
         let (alloc, groups) = (task.alloc, task.groups);
         let Some(rounds) = by_urgency(alloc, groups, &self.parties, &Rows::new(alloc))? else {
@@ -103,7 +103,6 @@ impl Schedule {
         Ok(true)
     }
 
-    // Lets copies read their owners, or some R staying slots if that saves at least half of the rounds.
     fn read_all(&mut self, task: &Task) -> Result<(), Refusal> {
         if let Some(listed) = sources(task)? {
             self.listed = listed;
@@ -125,7 +124,7 @@ impl Schedule {
         count
     }
 
-    // Takes rounds by urgency if they are fewer. Copies of `behind` follow.
+    // Takes rounds by urgency if they are fewer.
     fn try_urgency(&mut self, task: &Task, behind: &Rows) -> Result<(), Refusal> {
         if let Some(rounds) = by_urgency(task.alloc, task.groups, &self.parties, behind)? {
             if rounds.count < self.count() {
@@ -135,8 +134,8 @@ impl Schedule {
         Ok(())
     }
 
-    // Lets copies read around barred groups. A slot listed so moves in a later round: after all other copies, or after
-    // those that list it if that takes fewer rounds.
+    // Lets copies read around barred groups. A listed slot moves later: after all other copies, or after those that
+    // list it if that takes fewer rounds.
     fn read_around(&mut self, task: &Task) -> Result<(), Refusal> {
         let Some(listed) = around(task)? else {
             return Err(Refusal::NoPlan);
@@ -151,14 +150,14 @@ impl Schedule {
         Ok(())
     }
 
-    /// Gives the moves rounds, within the allowances. Copies of barred owners list R slots of others. Fails with
-    /// `NoPlan` if a partition lacks them.
+    /// Gives the moves rounds within the allowances. Copies of barred owners list R slots. Fails with `NoPlan` if a
+    /// partition lacks them.
     pub fn fill(&mut self, task: &Task) -> Result<(), Refusal> {
         if task.groups.has_barred() {
             return self.read_around(task);
         }
         self.read_all(task)?;
-        // If nodes give and take, colours may need more rounds.
+        // Colours may need more rounds if nodes give and take.
         self.try_urgency(task, &Rows::new(task.alloc))
     }
 

@@ -9,7 +9,7 @@ ghost use Rattle.plan_text.specs.Valid.{HasSources, IsPlanned};
 use plan_text::{Plan, Source, Step};
 use ring_names::Refusal;
 
-// The limits of a plan: steps, dependencies of a step, and dependencies in all.
+// The most steps of a plan, dependencies of a step, and dependencies in all.
 const STEPS: u32 = 131_072;
 
 const AFTER: usize = 4_096;

@@ -5,7 +5,7 @@ use crate::layout::Layout;
 use crate::moving::Move;
 use std::alloc::Global;
 
-/// Moves, the groups of their copies, and how many slots a copy must list if it does not read its owner.
+/// Moves, their copies' groups, and how many slots a copy may list.
 #[derive(Clone, Copy)]
 pub struct Task<'a> {
     pub alloc: Global,

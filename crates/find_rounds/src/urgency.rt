@@ -1,9 +1,9 @@
 //! Rounds by urgency: the groups with most left come first. Copies can have any number of parties.
 //!
-//! A copy waits in the queue of its group that then needs most rounds. In a round, groups are served by need, until
-//! their allowance is used or some copies in turn found another group full. So a round looks at few copies in vain.
+//! A copy waits in the queue of its neediest group. Groups are served by need, until their allowance is used or some
+//! copies in turn found another group full. So a round looks at few copies in vain.
 //!
-//! A copy that follows others is queued once they have rounds; copies that others follow are queued first.
+//! Copies that others follow are queued first, and their followers once these have rounds.
 
 use crate::groups::Groups;
 use helpers::{at, lower, raise, row, set, small};
@@ -15,13 +15,13 @@ use std::collections::VecDeque;
 // The most looks at groups and copies in all.
 const LOOKS: usize = 16_000_000;
 
-// The most copies of a group without a place before the next group is served.
+// How many copies may find no place before the next group is served.
 const MISSES: u32 = 16;
 
 #[derive(Drop)]
 struct Waiting<'a> {
     groups: &'a Groups,
-    // the groups of each copy
+    // by copy, its groups
     parties: &'a Rows,
     // by copy, the copies that follow it
     behind: &'a Rows,
@@ -31,11 +31,10 @@ struct Waiting<'a> {
     left: Vec<u32>,
     // by group, its copies in the round
     used: Vec<u32>,
-    // the waiting copies, by group
     queues: Vec<VecDeque<u32>>,
-    // the copies to queue after the round, since they follow one in it
+    // copies to queue after the round
     next: Vec<u32>,
-    // the round of each copy, if it has one
+    // by copy, its round, if any
     rounds: Vec<u32>,
     count: usize,
     looks: usize,
@@ -72,7 +71,7 @@ impl<'a> Waiting<'a> {
         Ok(())
     }
 
-    // The fewest rounds that a group needs, in parts of 64.
+    // The fewest rounds that a group needs, in 64ths.
     fn needs(&self, group: usize) -> u32 {
         let left = at(&self.left, group).saturating_mul(64);
         match left.checked_div(self.groups.most(group)) {
@@ -129,7 +128,7 @@ impl<'a> Waiting<'a> {
         true
     }
 
-    // Releases the copies that follow only this one, after the round.
+    // Releases, after the round, the copies that wait only for this one.
     fn free(&mut self, copy: u32) -> Result<(), Refusal> {
         for later in row(self.behind, copy as usize) {
             lower(&mut self.before, *later as usize);
@@ -150,7 +149,6 @@ impl<'a> Waiting<'a> {
         self.free(copy)
     }
 
-    // Serves the group's queue while the group is free.
     fn serve(&mut self, group: usize, round: u32) -> Result<(), Refusal> {
         let mut misses = 0u32;
         for _ in 0..self.queued(group) {
@@ -171,7 +169,6 @@ impl<'a> Waiting<'a> {
         Ok(())
     }
 
-    // The groups with a queue, the greatest need first.
     fn order(&self, alloc: Global) -> Result<Vec<(Reverse<u32>, u32)>, Refusal> {
         let mut order = Vec::new(alloc);
         for group in 0..self.groups.len() {
@@ -202,7 +199,7 @@ impl<'a> Waiting<'a> {
         self.end()
     }
 
-    // Gives rounds to all copies. Returns how many there are, or none if it takes too long.
+    // Returns the number of rounds. None if it takes too long.
     fn all(&mut self, alloc: Global) -> Result<Option<u32>, Refusal> {
         self.begin(alloc)?;
         for round in 0..small(self.rounds.len()) {

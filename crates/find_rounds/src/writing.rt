@@ -1,4 +1,4 @@
-//! Writes the steps of a plan and its chains, from moves and rounds.
+//! Writes a plan's steps and chains.
 
 use crate::moving::Move;
 use crate::rounds::Schedule;
@@ -10,7 +10,7 @@ use plan_text::{Indexes, Plan, Source, Step};
 use ring_names::{Lists, NodeId, Refusal, Rows, Slot};
 use std::alloc::Global;
 
-/// The nodes that join, and those that retire, by number.
+/// The nodes that join, and those that retire.
 #[derive(Clone, Copy)]
 pub struct Turnover<'a> {
     pub joins: &'a [u32],
@@ -22,7 +22,7 @@ struct Writer<'a> {
     task: &'a Task<'a>,
     plan: Plan,
     cert: Cert,
-    // the copies of each group, and the drops of each node
+    // by group, its copies; by node, its drops
     copies: Lists<u32, u32>,
     drops: Lists<u32, u32>,
     // by place of a moving slot, the copies that list it
@@ -47,7 +47,7 @@ impl<'a> Writer<'a> {
         Ok(())
     }
 
-    // The copy that must be done before the group can have one more open.
+    // The copy that must end before the group can have one more open.
     fn link(&self, group: u32) -> Option<u32> {
         let copies = self.copies.items(&group);
         let most = self.task.groups.most(group as usize) as usize;
@@ -57,7 +57,6 @@ impl<'a> Writer<'a> {
         }
     }
 
-    // The copies that must be done before one of these groups, ascending.
     fn links(&self, parties: &[u32]) -> Result<Vec<u32>, Refusal> {
         let mut links = Vec::new(self.task.alloc);
         for group in parties {
@@ -71,7 +70,7 @@ impl<'a> Writer<'a> {
         Ok(links)
     }
 
-    // Adds the mirror, after the copies that its own copy waits for, so that it does not open early.
+    // Adds the mirror after what its copy waits for, so that it does not open early.
     fn mirror(&mut self, step: &Move, links: &[u32]) -> Result<u32, Refusal> {
         let node = NodeId(step.to);
         let mut after = Vec::new(self.task.alloc);
@@ -101,7 +100,6 @@ impl<'a> Writer<'a> {
         Ok(())
     }
 
-    // Adds the switch of a slot, after its own copy and those that list the slot.
     fn switch(&mut self, slot: Slot, copy: u32) -> Result<u32, Refusal> {
         let place = small(self.task.layout.place_of(slot));
         let mut after = Vec::from_slice(self.task.alloc, self.readers.items(&place))?;
@@ -110,7 +108,6 @@ impl<'a> Writer<'a> {
         add(&mut self.plan, Step::Switch(slot), &after)
     }
 
-    // Adds the drop, unless the node is barred.
     fn drop_behind(&mut self, slot: Slot, node: u32, switch: u32) -> Result<(), Refusal> {
         if self.task.groups.is_barred(node) {
             return Ok(());
@@ -130,7 +127,6 @@ impl<'a> Writer<'a> {
         self.drop_behind(slot, step.from, switch)
     }
 
-    // Lets members retire after all their drops.
     fn retire(&mut self, nodes: &[u32]) -> Result<(), Refusal> {
         for node in nodes {
             add(
@@ -142,7 +138,6 @@ impl<'a> Writer<'a> {
         Ok(())
     }
 
-    // Adds a chain of every `most`-th copy of the group, from `first` on.
     fn add_chain(&mut self, group: u32, first: usize, most: usize) -> Result<(), Refusal> {
         let mut chain = Vec::new(self.task.alloc);
         let mut turn = 0usize;
@@ -155,7 +150,7 @@ impl<'a> Writer<'a> {
         self.cert.chains.push(self.task.groups.side(group), &chain)
     }
 
-    // Adds as many chains for each group as it may have open copies, so that copies of uneven length wait little.
+    // Adds as many chains for each group as its allowance, so that copies of uneven length wait little.
     fn add_chains(&mut self) -> Result<(), Refusal> {
         for group in 0..small(self.task.groups.len()) {
             let most = self.task.groups.most(group as usize) as usize;
