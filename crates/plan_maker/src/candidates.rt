@@ -1,24 +1,23 @@
-//! Slots that may exchange owners with a moving slot.
+//! Slots to swap with a moving slot.
 
 use find_flow::{Grouped, Role, Seats};
 use helpers::{at, quotient, set, small, swap};
 use ring_names::Refusal;
 use std::alloc::Global;
 
-/// The slots of each node, with the place of the last look.
+/// The slots of each node.
 #[derive(Drop)]
 pub struct Candidates {
-    // by node, the places of its slots; the last group has those that staying members got by moves, before the first exchange
+    // by node, its slots; the last group has those that staying members got by moves before the first swap
     places: Grouped,
     // by place, its position in its owner's group
     turns: Vec<u32>,
-    // by group, the position of the last look
+    // by group, the last look's position
     fingers: Vec<u32>,
     // former owners of the partition that own none of it now and may have the slot
     gone: Vec<u32>,
 }
 
-// Whether a staying member got the slot by a move.
 fn is_entered(seats: &Seats, place: usize) -> bool {
     let node = seats.now(place);
     let before = seats.place_before(seats.partition(place), node);
@@ -69,7 +68,7 @@ impl Candidates {
         }
     }
 
-    /// Prepares candidates for the slot at the place.
+    /// Prepares candidates for the slot.
     pub fn begin(&mut self, seats: &Seats, place: usize) -> Result<(), Refusal> {
         let partition = seats.partition(place);
         self.gone.clear();
@@ -82,7 +81,7 @@ impl Candidates {
         Ok(())
     }
 
-    // The next place of the group, unless all came in earlier rounds.
+    // The group's next place, unless all came in earlier rounds.
     fn next_of(&mut self, group: usize, round: u32) -> Option<usize> {
         let start = self.places.start(group);
         let count = self.places.end(group).saturating_sub(start);
@@ -97,8 +96,8 @@ impl Candidates {
         Some(self.places.item(start.saturating_add(finger)) as usize)
     }
 
-    /// Returns the next candidate for the slot. Turns alternate: a slot of a former owner, which so regains its own;
-    /// and a slot that a member got by a move.
+    /// Returns the slot's next candidate. Turns alternate: a slot of a former owner, which regains its own, and a slot
+    /// that a member got by a move.
     pub fn next(&mut self, seats: &Seats, place: usize, turn: u32) -> Option<usize> {
         let ways = small(self.gone.len()).saturating_add(1);
         let round = quotient(turn, ways);
@@ -116,7 +115,7 @@ impl Candidates {
         None
     }
 
-    /// Exchanges the owners of two slots.
+    /// Swaps the owners of two slots.
     pub fn exchange(&mut self, one: usize, other: usize) {
         let (first, second) = (at(&self.turns, one), at(&self.turns, other));
         self.places.swap(first as usize, second as usize);

@@ -22,7 +22,6 @@ fn rows(alloc: Global, seats: &Seats) -> Result<Vec<Listed<NodeId>>, Refusal> {
     Ok(rows)
 }
 
-// Gives joining nodes their parts and improves the balance, as far as looks allow.
 fn settle(alloc: Global, seats: &mut Seats) -> Result<(), Refusal> {
     let mut search = Search::new(alloc);
     search.fill(alloc)?;
@@ -32,7 +31,6 @@ fn settle(alloc: Global, seats: &mut Seats) -> Result<(), Refusal> {
     balance_all(alloc, seats, &mut search)
 }
 
-// Lets members take slots: by the sizes of partitions if there are any, otherwise by number.
 fn take(alloc: Global, seats: &mut Seats) -> Result<(), Refusal> {
     if seats.volumes.are_asked() {
         return take_by_size(alloc, seats);
@@ -58,23 +56,22 @@ fn wished_of(
     rows(alloc, &seats)
 }
 
-/// Returns the wished owners, by partition and index. A partition's owners are different members in the end. A slot
-/// that does not move keeps its owner and index.
+/// Returns the wished owners, by partition and index.
+///
+/// A partition's owners are different members in the end. A slot that does not move keeps its owner and index.
 ///
 /// Aims, the most important first:
-/// - The fewest pairs of slots in one rack in each partition.
-/// - The fewest slots missing from the parts of joining nodes. A part is the share by weight of all slots,
-///   rounded down, with at most one slot of each partition.
+/// - The fewest pairs of slots in one rack, in each partition.
+/// - The fewest slots missing from joining nodes' parts. A part is the node's share by weight, rounded down, with at
+///   most one slot of each partition.
 /// - The fewest moves.
-/// - The best balance: the least sum over members of squared slots by weight.
+/// - The best balance: the least sum of squared slots by weight.
+/// - Few partitions with two joining nodes or two moving slots, and partitions shared evenly.
 ///
-/// If the search takes too long, the balance and rarely a part fall short.
+/// If the search takes too long, the balance and rarely a part fall short. The last aim is met well, not always best.
 ///
-/// Then few partitions have two slots on joining nodes, few have two moving slots, and nodes share partitions
-/// evenly. This is good, not always optimal.
-///
-/// With sizes, joining nodes take slots up to their share of the stored size, and no slot moves for racks only. This is
-/// good, not always optimal: see `take_by_size`.
+/// With sizes, joining nodes take up to their share of the stored size, and no slot moves only for racks.
+/// This is good, not always optimal: see `take_by_size`.
 ///
 /// Fails with `NoPlan` if a joining node is a member, a leaving node is not, or too few members remain; and
 /// with `OutOfMemory`. The same input gives the same owners.

@@ -1,4 +1,4 @@
-//! The load of a change on partitions, and how an exchange of two owners changes it.
+//! A change's load on partitions.
 
 use crate::pairs::{Half, Pairs};
 use find_flow::{Role, Seats};
@@ -6,26 +6,26 @@ use helpers::{at, lower, raise, set, small};
 use ring_names::Refusal;
 use std::alloc::Global;
 
-/// The cost of an exchange, the most important first. Negative is a gain.
+/// A swap's cost, the most important first. Negative is a gain.
 #[derive(Clone, Copy, PartialEq, Eq, PartialOrd, Ord, Drop)]
 pub struct Cost {
-    // 64 for each joining node of a partition after the first, and 1 for each pair of them. Two partitions have
-    // at most 42 pairs.
+    // by partition, 64 for each joining node after the first, and 1 for each pair of them; two partitions have at most
+    // 42 pairs
     joiners: i64,
-    // moving slots of a partition after the first
+    // a partition's moving slots after the first
     moves: i64,
     // squares of how many partitions two nodes share
     shares: i64,
 }
 
-/// Above any exchange that leaves fewer joining nodes after the first of a partition, or as many and fewer pairs of them.
+/// Above any swap with fewer joining nodes after the first, or as many and fewer pairs.
 pub const FEWER_JOINERS: Cost = Cost {
     joiners: -1,
     moves: 100,
     shares: 0,
 };
 
-/// Above any exchange that gains.
+/// Above any swap that gains.
 pub const ANY_GAIN: Cost = Cost {
     joiners: 0,
     moves: 0,
@@ -81,15 +81,14 @@ fn change(counts: &mut [u32], place: usize, more: i64) {
     set(counts, place, u32::try_from(count).unwrap_or(0));
 }
 
-/// By partition, its joining owners and its moving slots; and how many partitions two nodes share.
+/// Loads of partitions, and pairs of nodes that share them.
 #[derive(Drop)]
 pub struct Crowds {
     joiners: Vec<u32>,
     moves: Vec<u32>,
     pairs: Pairs,
-    // by number of joining owners, how many partitions have that number
+    // by number of joining owners, how many partitions have it
     levels: Vec<u32>,
-    // how many slots of a partition answer a read
     reads: u32,
 }
 
@@ -154,7 +153,6 @@ impl Crowds {
         crowding(now.saturating_add(more)).saturating_sub(crowding(now))
     }
 
-    // What the joiners of both partitions cost, if the first slot gets the other's owner and the other way round.
     fn joiners_of(&self, seats: &Seats, first: Half, other: usize) -> i64 {
         let more = joiners_more(seats, first);
         self.joiners_cost(first.partition, more)
@@ -166,7 +164,7 @@ impl Crowds {
         beyond_first(now.saturating_add(more)).saturating_sub(beyond_first(now))
     }
 
-    // How many copies can only read their owner, because too few other slots of the partition stay.
+    // How many copies can only read their owner, because too few other slots stay.
     fn tied(&self, seats: &Seats, moves: i64) -> i64 {
         let staying = i64::from(small(seats.slots)).saturating_sub(moves);
         if staying < i64::from(self.reads) {
@@ -182,11 +180,12 @@ impl Crowds {
             .saturating_sub(self.tied(seats, now))
     }
 
-    /// Returns the cost of exchanging the owners of two slots, if below the limit and allowed. `one`'s owner
-    /// may have `other`; the caller knows the reverse.
+    /// Returns a swap's cost, if it is below the limit and allowed.
     ///
-    /// The partitions must have one size. No move may be added, nor a copy that can only read its owner, which
-    /// may give little at once.
+    /// `one`'s owner may have `other`; the caller checked the reverse.
+    ///
+    /// The partitions must have the same size. No move may be added, nor a copy that can only read its owner: that may
+    /// give little at once.
     pub fn cost(&self, seats: &Seats, one: usize, other: usize, limit: Cost) -> Option<Cost> {
         let (first, second) = (half_of(seats, one, other), half_of(seats, other, one));
         if seats.volumes.size(first.partition) != seats.volumes.size(second.partition) {
@@ -229,7 +228,7 @@ impl Crowds {
         self.pairs.replace(seats, half);
     }
 
-    /// Exchanges the owners of two slots.
+    /// Swaps the owners of two slots.
     pub fn exchange(&mut self, seats: &mut Seats, one: usize, other: usize) {
         let (first, second) = (half_of(seats, one, other), half_of(seats, other, one));
         self.count(seats, first);

@@ -7,7 +7,7 @@ use helpers::NONE;
 use ring_names::Refusal;
 use std::alloc::Global;
 
-/// Gives the partition's free slots to members. Fails with `NoPlan` if there is none for a slot.
+/// Gives the partition's free slots to members, or fails with `NoPlan`.
 pub(crate) fn fill_partition(
     seats: &mut Seats,
     takers: &mut Takers,
@@ -26,7 +26,7 @@ pub(crate) fn fill_partition(
     Ok(())
 }
 
-/// Gives all free slots to members: first to joining ones up to their parts, then to those with few slots by weight.
+/// Gives all free slots away. Joining members come first, up to their parts, then those with few slots by weight.
 pub fn fill(alloc: Global, seats: &mut Seats) -> Result<(), Refusal> {
     let mut takers = Takers::new(alloc, Who::All);
     takers.fill(alloc, seats)?;

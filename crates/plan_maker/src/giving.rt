@@ -1,4 +1,4 @@
-//! Members that give slots to joining ones, besides the slots that move anyway.
+//! Members that give slots to joining ones.
 
 use crate::ranks::Who;
 use crate::takers::Takers;
@@ -9,7 +9,7 @@ use std::alloc::Global;
 use std::cmp::Reverse;
 use std::collections::BinaryHeap;
 
-/// The order of givers, the greatest first: most slots by weight, then most allowance left, then the smallest number.
+/// A giver's rank. The greatest has most slots by weight, then most allowance left, then the smallest number.
 #[derive(Clone, Copy, PartialEq, Eq, PartialOrd, Ord, Drop)]
 pub(crate) struct Giver {
     pub(crate) price: u64,
@@ -44,7 +44,7 @@ impl Givers {
         self.takers.fill(alloc, seats)
     }
 
-    // Gives the slot to a joining member that may have it. Returns whether there was one.
+    // Returns whether a joining member took the slot.
     fn pass(&mut self, seats: &mut Seats, place: usize) -> Result<bool, Refusal> {
         let owner = seats.now(place);
         seats.vacate(place);
@@ -61,7 +61,6 @@ impl Givers {
         }
     }
 
-    // Gives away the next possible slot of the member.
     fn give_one(&mut self, seats: &mut Seats, node: u32) -> Result<bool, Refusal> {
         for turn in at(&self.looked, node as usize) as usize..seats.owned_count(node) {
             raise(&mut self.looked, node as usize);
@@ -91,8 +90,8 @@ impl Givers {
     }
 }
 
-/// Moves slots from staying members to joining ones below their parts, always from the most loaded by weight, until
-/// none can move.
+/// Moves slots from staying members to joining ones below their parts. The member with most slots by weight gives
+/// first, until none can move.
 pub fn give(alloc: Global, seats: &mut Seats) -> Result<(), Refusal> {
     let mut givers = Givers {
         heap: BinaryHeap::new(alloc),

@@ -1,6 +1,6 @@
 //! The planner: owners for a change by weight, apart by racks, and the plan with its certificate. It moves as few slots
 //! as racks and the change need, balances them, and runs as many transfers at once as allowances permit. Nothing is
-//! proved of its results: the checker judges them.
+//! proved: the checker judges the results.
 #![tactic(auto)]
 
 mod candidates;

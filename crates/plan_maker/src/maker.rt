@@ -18,15 +18,13 @@ fn numbered(alloc: Global, nodes: &[NodeId]) -> Result<Vec<u32>, Refusal> {
     Ok(numbers)
 }
 
-/// Makes a plan after which the nodes of `joins` are members and those of `leaves` are not, with its certificate.
+/// Makes a plan that joins and removes these members, with its certificate.
 ///
-/// It moves only the slots of leaving nodes, and as many more as give each joining node its share of all slots,
-/// rounded down.
+/// It moves only leaving nodes' slots, and as many more as give each joining node its share, rounded down. Equal inputs
+/// give equal plans.
 ///
-/// Equal inputs give equal plans.
-///
-/// Fails with `NoPlan` if a joining node is a member, a leaving node is not, or fewer members than slots
-/// remain; and with `OutOfMemory`.
+/// Fails with `NoPlan` if a joining node is a member, a leaving node is not, or fewer members than slots remain; and
+/// with `OutOfMemory`.
 pub fn make<'a>(
     alloc: Global,
     ring: &Ring,

@@ -5,7 +5,7 @@ use helpers::{at, lower, raise};
 use ring_names::Refusal;
 use std::alloc::Global;
 
-/// One half of an exchange: a slot with its old and new owner.
+/// Half a swap: a slot with its old and new owner.
 #[derive(Clone, Copy)]
 pub struct Half {
     pub partition: usize,
@@ -14,7 +14,7 @@ pub struct Half {
     pub new: u32,
 }
 
-/// By pair of nodes, how many partitions have slots of both. At most 2 MB, for 1,024 nodes.
+/// By pair of nodes, how many partitions they share. At most 2 MB, for 1,024 nodes.
 #[derive(Drop)]
 pub struct Pairs {
     // by the greater node, its counts with all smaller ones
@@ -52,7 +52,6 @@ impl Pairs {
         Ok(())
     }
 
-    // Counts the slot's owner with the owners at smaller indices.
     fn add(&mut self, seats: &Seats, place: usize) {
         let node = seats.now(place);
         for other in seats.place(seats.partition(place), 0)..place {
@@ -64,7 +63,7 @@ impl Pairs {
         i64::from(at(&self.counts, place_of(one, other)))
     }
 
-    /// Returns how much the sum of squares grows by one half of an exchange.
+    /// Returns how much half a swap adds to the sum of squares.
     pub fn growth(&self, seats: &Seats, half: Half) -> i64 {
         let start = seats.place(half.partition, 0);
         let mut growth = 0i64;
@@ -79,7 +78,7 @@ impl Pairs {
         growth
     }
 
-    /// Counts the slot's new owner instead of the old one.
+    /// Counts the new owner instead of the old one.
     pub fn replace(&mut self, seats: &Seats, half: Half) {
         let start = seats.place(half.partition, 0);
         for place in start..start.saturating_add(seats.slots) {

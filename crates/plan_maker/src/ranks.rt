@@ -44,26 +44,26 @@ impl Rank {
 #[derive(Clone, Copy, PartialEq, Eq)]
 pub enum Who {
     All,
-    /// Joining ones below their part.
+    /// Joining members below their part.
     Wanting,
-    /// All members, by what they lack of their stored share, by weight.
+    /// All members, the greatest lack of stored share by weight first.
     Emptiest,
     /// All members, the fewest slots by weight first.
     Fewest,
-    /// Joining ones below their stored share, the neediest first.
+    /// Joining members below their stored share, the neediest first.
     Lacking,
-    /// Staying ones, the greatest excess over their stored share by weight first.
+    /// Staying members, the greatest excess over stored share by weight first.
     Fullest,
 }
 
 // The greatest price of a member.
 const DEAREST: u64 = 18_446_744_073_709_551_614;
 
-/// A tournament tree over all nodes in the order of their racks: each knot has the first of its two children.
+/// A tournament tree over all nodes in rack order. Each knot has the first of its two children.
 #[derive(Drop)]
 pub struct Ranks {
     who: Who,
-    // the place of the first leaf
+    // the first leaf's place
     size: u32,
     knots: Vec<Rank>,
 }
@@ -114,7 +114,6 @@ impl Ranks {
         }
     }
 
-    // Updates the knot from its children.
     fn join(&mut self, place: u32) {
         let left = place.saturating_mul(2);
         let first = sooner(self.at(left), self.at(left.saturating_add(1)));
@@ -168,7 +167,7 @@ impl Ranks {
         }
     }
 
-    /// Returns the first in a range of places, in the order of racks.
+    /// Returns the first in a range of places.
     pub fn first(&self, from: u32, end: u32) -> Rank {
         let mut first = NOBODY;
         let mut left = self.size.saturating_add(from);
@@ -191,7 +190,7 @@ impl Ranks {
         first
     }
 
-    /// Finds the first members, at most `count`, in their order.
+    /// Finds the first members in order, at most `count`.
     pub fn lead(&mut self, seats: &Seats, count: u32, found: &mut Vec<u32>) -> Result<(), Refusal> {
         found.clear();
         for _ in 0..count {
@@ -217,7 +216,7 @@ impl Ranks {
         self.at(1) == NOBODY
     }
 
-    /// Returns the number of leaves: at least that of the nodes.
+    /// Returns the number of leaves, at least that of nodes.
     pub fn len(&self) -> u32 {
         small(self.knots.len()).saturating_sub(self.size)
     }

@@ -12,7 +12,6 @@ use std::alloc::Global;
 use std::cmp::Reverse;
 use std::collections::BinaryHeap;
 
-// The partitions, the largest first.
 fn by_size(alloc: Global, seats: &Seats) -> Result<Vec<u32>, Refusal> {
     let mut keyed = Vec::new(alloc);
     for partition in 0..seats.partitions {
@@ -26,7 +25,7 @@ fn by_size(alloc: Global, seats: &Seats) -> Result<Vec<u32>, Refusal> {
     Ok(order)
 }
 
-// Splits partitions, the largest first, into those with keys and those without.
+// Splits partitions into those with keys and those without.
 fn split_full<'a>(seats: &Seats, order: &'a [u32]) -> (&'a [u32], &'a [u32]) {
     for place in 0..order.len() {
         if seats.volumes.size(order[place] as usize) == 0 {
@@ -36,7 +35,7 @@ fn split_full<'a>(seats: &Seats, order: &'a [u32]) -> (&'a [u32], &'a [u32]) {
     (order, &[])
 }
 
-// By staying member, the places of its former slots with keys, the largest first.
+// By member, its former slots with keys, the largest first.
 fn owned_by(alloc: Global, seats: &Seats, order: &[u32]) -> Result<Grouped, Refusal> {
     let mut owned = Grouped::new(alloc);
     owned.begin(alloc, seats.members.count() as usize)?;
@@ -80,7 +79,6 @@ pub(crate) fn joiners(seats: &Seats, partition: usize) -> u32 {
     joiners
 }
 
-// The slots with keys of staying members, and the joining ones that lack something.
 #[derive(Drop)]
 struct Sizing {
     owned: Grouped,
@@ -88,7 +86,7 @@ struct Sizing {
 }
 
 impl Sizing {
-    // Gives the slot to a joining member that lacks as much and may have it.
+    // Gives the slot to a joining member that lacks as much.
     fn pass(&mut self, seats: &mut Seats, place: usize) -> Result<bool, Refusal> {
         let (owner, partition) = (seats.now(place), seats.partition(place));
         let rack = seats.members.racks.of(owner);
@@ -106,7 +104,6 @@ impl Sizing {
         }
     }
 
-    // Whether the neediest joining member lacks a slot of the partition, which has at most `crowd` joining owners.
     fn is_wanted(&self, seats: &Seats, partition: usize, crowd: u32) -> bool {
         match self.takers.head() {
             Some(first) => {
@@ -117,7 +114,7 @@ impl Sizing {
         }
     }
 
-    // Gives the slot away, if the owner stays and exceeds the share by at least half the slot.
+    // Gives the slot away, if the owner stays and exceeds its share by at least half the slot.
     fn give(&mut self, seats: &mut Seats, place: usize, crowd: u32) -> Result<(), Refusal> {
         let (owner, partition) = (seats.now(place), seats.partition(place));
         let is_full = seats.members.role(owner) == Role::Stays
@@ -129,7 +126,7 @@ impl Sizing {
         Ok(())
     }
 
-    // Gives away slots above their owners' levels. Partitions with few joining owners come first.
+    // Partitions with few joining owners come first.
     fn give_all(&mut self, seats: &mut Seats, order: &[u32]) -> Result<(), Refusal> {
         for crowd in 0..small(seats.slots) {
             for partition in order {
@@ -142,7 +139,6 @@ impl Sizing {
         Ok(())
     }
 
-    // Gives away the member's next possible slot.
     fn give_one(
         &mut self,
         seats: &mut Seats,
@@ -166,7 +162,7 @@ impl Sizing {
         Ok(false)
     }
 
-    // Lets those that store most by weight give, even below their levels, while a joining member lacks something.
+    // Lets members give that store most by weight, even below their levels.
     fn force(&mut self, alloc: Global, seats: &mut Seats, crowd: u32) -> Result<(), Refusal> {
         let mut heap = BinaryHeap::new(alloc);
         for node in 0..seats.members.count() {
@@ -199,17 +195,16 @@ fn ranked(seats: &Seats, node: u32) -> Giver {
     }
 }
 
-/// Gives the slots of leaving members, and more, to members by the sizes of partitions:
+/// Gives slots to members by the sizes of partitions:
 ///
-/// 1. Leavers' slots, the largest first, go to members that lack most by weight, after racks. Slots without
-/// keys go to members with few slots.
+/// 1. Leavers' slots, the largest first, go to members that lack most by weight, after racks. Slots without keys go to
+/// members with few slots.
 ///
-/// 2. Slots above their owners' levels, the largest first, go to the joining members that lack most, and at
-/// least the slot.
+/// 2. Slots above their owners' levels, the largest first, go to joining members that lack most, at least the slot.
 ///
 /// 3. If a joining member still lacks something, those that store most by weight give, even below their levels.
 ///
-/// 4. Slots are exchanged for others of a near size if that brings members closer to their shares.
+/// 4. Swaps for slots of a near size bring members closer to their shares.
 pub fn take_by_size(alloc: Global, seats: &mut Seats) -> Result<(), Refusal> {
     let order = by_size(alloc, seats)?;
     let (full, empty) = split_full(seats, order.as_slice());

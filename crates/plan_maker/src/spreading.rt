@@ -1,8 +1,8 @@
-//! Spreads moving slots over partitions by exchanging the owners of two slots.
+//! Spreads moving slots over partitions by swaps.
 //!
-//! The owner of a moving slot leaves the partition. Its place goes to a former owner of the partition, or to one that
-//! got the other slot by a move too. Loads do not change, so parts and balance stay. Longer exchanges help few rings
-//! and need most of all looks.
+//! A moving slot's owner leaves the partition. Its place goes to a former owner of the partition, or to a member that
+//! got the other slot by a move too. Loads, parts and balance stay. Longer exchanges help few rings and need most
+//! looks.
 
 use crate::candidates::Candidates;
 use crate::crowds::{ANY_GAIN, Cost, Crowds, FEWER_JOINERS};
@@ -11,10 +11,10 @@ use helpers::{quotient, small};
 use ring_names::Refusal;
 use std::alloc::Global;
 
-// The most looks for one exchange.
+// The most looks for one swap.
 const LOOKS: u32 = 128;
 
-// The most exchanges that are compared for one.
+// The most swaps that are compared for one.
 const COMPARED: u32 = 16;
 
 #[derive(Drop)]
@@ -32,7 +32,6 @@ impl Spread {
         self.candidates.fill(alloc, seats)
     }
 
-    // The cost of the turn's exchange, and its other slot, if allowed and below the limit.
     fn look(
         &mut self,
         seats: &Seats,
@@ -46,7 +45,6 @@ impl Spread {
         Some((cost, other))
     }
 
-    // The best slot for an exchange, by a number of looks.
     fn best(
         &mut self,
         seats: &Seats,
@@ -71,7 +69,7 @@ impl Spread {
         Ok(found)
     }
 
-    // Makes the best exchange below the limit. Returns whether there was one.
+    // Returns whether there was a swap.
     fn exchange(
         &mut self,
         seats: &mut Seats,
@@ -87,7 +85,7 @@ impl Spread {
         Ok(true)
     }
 
-    // Lets a joining node leave the partition. Returns whether that was possible.
+    // Returns whether a joining node left the partition.
     fn relieve(&mut self, seats: &mut Seats, partition: usize) -> Result<bool, Refusal> {
         for index in 0..seats.slots {
             let place = seats.place(partition, index);
@@ -100,7 +98,6 @@ impl Spread {
         Ok(false)
     }
 
-    // Lets joining nodes leave the partition while another has two fewer, as far as looks allow.
     fn thin(&mut self, seats: &mut Seats, partition: usize) -> Result<(), Refusal> {
         for _ in 0..seats.slots {
             let is_done = self.looks == 0 || !self.crowds.can_relieve(partition);
@@ -118,7 +115,7 @@ impl Spread {
         Ok(())
     }
 
-    // Exchanges the owner of each moving slot once, if that gains.
+    // Swaps each moving slot once, if that gains.
     fn even_all(&mut self, seats: &mut Seats) -> Result<(), Refusal> {
         let all = small(seats.total()).saturating_mul(8);
         let looks = quotient(all, self.crowds.all_moves()).max(8).min(LOOKS);
@@ -140,13 +137,15 @@ impl Spread {
     }
 }
 
-/// Spreads moving slots by exchanges. Moves, loads and pairs in one rack do not grow, nor do copies with fewer
-/// than `reads` other staying slots.
+/// Spreads moving slots by swaps.
 ///
-/// Partitions get fewer joining owners after the first, then fewer moving slots after the first; then nodes
-/// share partitions more evenly.
+/// Moves, loads and pairs in one rack do not grow, nor do copies with fewer than `reads` other staying slots.
 ///
-/// The result is good, not always optimal: joining nodes take some 32 looks for each slot of the ring, the rest at most 16.
+/// Partitions get fewer joining owners after the first, then fewer moving slots after the first; then nodes share
+/// partitions more evenly.
+///
+/// The result is good, not always optimal: joining nodes take some 32 looks for each slot of the ring, the rest at most
+/// 16.
 pub fn spread_moves(alloc: Global, reads: u32, seats: &mut Seats) -> Result<(), Refusal> {
     if seats.moved() == 0 {
         return Ok(());

@@ -1,4 +1,4 @@
-//! Exchanges slots of near sizes.
+//! Swaps slots of near sizes.
 
 use crate::ranks::{Ranks, Who};
 use crate::sizing::joiners;
@@ -6,23 +6,23 @@ use find_flow::{Grouped, Role, Seats};
 use ring_names::Refusal;
 use std::alloc::Global;
 
-// The most members that are searched for another slot.
+// How many members are searched for another slot.
 const GIVERS: u32 = 8;
 
-// The most slots that are tried of each of them.
+// How many slots of each are tried.
 const LOOKS: usize = 32;
 
-// The most passes over all slots.
+// How many passes go over all slots.
 const TURNS: u32 = 3;
 
-// A joining member gives the slot at `place` back to its former owner, and gets the one at `other`.
+// A joining member gives `place` back to its former owner, and gets `other`.
 #[derive(Clone, Copy)]
 struct Swap {
     place: usize,
     other: usize,
 }
 
-// Whether the new node may replace the old one: no more slots share a rack.
+// Whether no more slots share a rack.
 fn suits(seats: &Seats, partition: usize, new: u32, old: u32) -> bool {
     let racks = &seats.members.racks;
     let (to, from) = (racks.of(new), racks.of(old));
@@ -48,7 +48,7 @@ fn parts(seats: &Seats, place: usize) -> i64 {
 }
 
 impl Swap {
-    // Whether no more slots share a rack, and no more joining owners share a partition.
+    // Whether no more slots share a rack, and no more joining owners a partition.
     fn is_possible(&self, seats: &Seats) -> bool {
         let (here, there) = (seats.partition(self.place), seats.partition(self.other));
         let (taker, giver) = (seats.now(self.place), seats.now(self.other));
@@ -61,7 +61,7 @@ impl Swap {
     }
 
     // How much farther from their shares both members are. The joining member must not exceed its share, nor lack more
-    // than `slack` unless that was so before.
+    // than `slack` unless it did before.
     fn cost(&self, seats: &Seats, slack: i64) -> Option<i128> {
         let (here, there) = (parts(seats, self.place), parts(seats, self.other));
         let (taker, giver) = (seats.now(self.place), seats.now(self.other));
@@ -95,7 +95,6 @@ impl Swap {
 
 #[derive(Drop)]
 struct Swapping<'a> {
-    // by node, the places of its former slots with keys, the largest first
     owned: &'a Grouped,
     fullest: Ranks,
     givers: Vec<u32>,
@@ -103,7 +102,7 @@ struct Swapping<'a> {
 }
 
 impl<'a> Swapping<'a> {
-    // The first of the node's slots that is not larger.
+    // The node's first slot not larger than `most`.
     fn first_to(&self, seats: &Seats, node: u32, most: i64) -> usize {
         let (mut low, mut high) = (
             self.owned.start(node as usize),
@@ -123,7 +122,6 @@ impl<'a> Swapping<'a> {
         low
     }
 
-    // The best exchange for one of the node's slots, if better than `best`.
     fn best_of(
         &self,
         seats: &Seats,
@@ -152,7 +150,7 @@ impl<'a> Swapping<'a> {
         found
     }
 
-    // Exchanges the slot, if a joining member took it from a staying one. Returns whether it did.
+    // Returns whether the slot was swapped.
     fn swap(&mut self, seats: &mut Seats, place: usize) -> Result<bool, Refusal> {
         let (owner, partition) = (seats.first(place), seats.partition(place));
         let is_taken = seats.members.role(owner) == Role::Stays
@@ -178,8 +176,7 @@ impl<'a> Swapping<'a> {
     }
 }
 
-/// Exchanges slots taken by joining members for slots of a near size, if that brings members closer to their
-/// shares.
+/// Swaps slots that joining members took, to bring members closer to their shares.
 ///
 /// `owned` has each node's former slots with keys, the largest first.
 pub(crate) fn swap_all(alloc: Global, seats: &mut Seats, owned: &Grouped) -> Result<(), Refusal> {

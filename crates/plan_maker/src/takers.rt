@@ -10,7 +10,7 @@ use std::alloc::Global;
 #[derive(Drop)]
 pub struct Takers {
     ranks: Ranks,
-    // ranges of members that may not take a slot, in the order of racks
+    // ranges in rack order that may not take a slot
     blocked: Vec<(u32, u32)>,
 }
 
@@ -66,7 +66,7 @@ impl Takers {
         Ok(())
     }
 
-    // Blocks all racks without room. If no rack must have a slot, only racks with a slot can be full.
+    // If no rack must have a slot, only racks with a slot can be full.
     fn block_racks(&mut self, seats: &Seats, partition: usize) -> Result<(), Refusal> {
         if seats.members.racks.level > 0 {
             for rack in seats.members.racks.with_members.iter() {
@@ -82,7 +82,7 @@ impl Takers {
         Ok(())
     }
 
-    /// Returns the first member that may take a free slot of the partition.
+    /// Returns the first member that may take a slot of the partition.
     pub fn taker(&mut self, seats: &Seats, partition: usize) -> Result<Option<u32>, Refusal> {
         self.blocked.clear();
         self.block_owners(seats, partition)?;
@@ -90,7 +90,7 @@ impl Takers {
         Ok(self.first())
     }
 
-    /// Returns the first member that may take a slot given by this rack: no more slots may share a rack.
+    /// Returns the first member that may take this rack's slot. No more slots may share a rack.
     pub fn heir(
         &mut self,
         seats: &Seats,

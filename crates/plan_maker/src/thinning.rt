@@ -1,4 +1,4 @@
-//! Slots that move because a rack has too many of their partition.
+//! Frees a partition's slots in crowded racks.
 
 use find_flow::Seats;
 use helpers::NONE;
@@ -13,7 +13,6 @@ struct Excess {
     place: Reverse<usize>,
 }
 
-// Why the slot may move, if it may.
 fn excess_of(seats: &Seats, partition: usize, place: usize) -> Option<Excess> {
     let rack = seats.rack_at(place)?;
     let racks = &seats.members.racks;
@@ -53,7 +52,6 @@ fn above(seats: &Seats, partition: usize) -> u32 {
     above
 }
 
-// The slot of the partition that must move first, if one must.
 fn next(seats: &Seats, partition: usize) -> Option<usize> {
     let mut first = None;
     for index in 0..seats.slots {
@@ -69,7 +67,7 @@ fn next(seats: &Seats, partition: usize) -> Option<usize> {
     None
 }
 
-/// Takes as few slots as possible from their owners, so that all partitions can be spread over the racks.
+/// Frees as few slots as spreading over the racks needs.
 pub fn thin(seats: &mut Seats) {
     for partition in 0..seats.partitions {
         for _ in 0..seats.slots {
