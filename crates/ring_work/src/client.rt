@@ -1,4 +1,4 @@
-//! Clients: each runs the lines of a script.
+//! Clients, which run scripts.
 
 ghost use Rattle.std.specs.Prelude.{◌≡◌, ◌<◌, ℕ, true, length, vec_len, vec_capacity, IfOk, IfErr, IsTrue};
 ghost use Rattle.ring_names.specs.declared.refusal.Refusal.TheVariants.{TurnsSpent};
@@ -28,14 +28,14 @@ fn numbers(alloc: Global, asked: &[Asked], seen: &Seen) -> Result<Vec<u32>, Refu
     Ok(numbers)
 }
 
-// The line's put, with the history's numbers for its gets.
+// Gets have the history's numbers.
 fn start_of(alloc: Global, asked: &[Asked], line: &Event) -> Result<Event, Refusal>
     ensures { IfOk result (λ start. starts_put start ≡ true) }
 {
     let Event::StartPut(writer, key, value, seen) = line else {
         return Err(Refusal::Disagree);
     };
-    // Later gets have greater numbers, so they ascend as in the script.
+    // Later gets have greater numbers.
     let Some(seen) = Seen::of(alloc, numbers(alloc, asked, seen)?)? else {
         return Err(Refusal::Disagree);
     };
@@ -63,7 +63,7 @@ fn left_hints(receipts: &[Receipt], from: usize) -> bool {
     false
 }
 
-// Runs a put, if each get that it names is an earlier ended get of its key; otherwise does nothing.
+// Runs a put, if its gets are earlier ended gets of its key.
 fn put_line<L: RunLedger, R: Wait, G: Gate>(
     site: &Site<L, R, G>,
     done: &mut Done<L>,
@@ -125,7 +125,7 @@ fn do_line<L: RunLedger, R: Wait, G: Gate>(
     }
 }
 
-// Runs the lines in order, until all threads must stop. Returns whether all lines were run.
+// Returns whether all lines were run before all threads had to stop.
 fn do_lines<L: RunLedger, R: Wait, G: Gate>(
     site: &Site<L, R, G>,
     done: &mut Done<L>,
@@ -151,7 +151,7 @@ fn do_lines<L: RunLedger, R: Wait, G: Gate>(
     Ok(true)
 }
 
-/// Runs a client's script. A full history, lack of memory or a gate that refuses stops all threads; other refusals stop none.
+/// Runs a script. A full history, lack of memory or a refusing gate stops all threads.
 pub(crate) fn serve<L: RunLedger, R: Wait, G: Gate>(
     site: &Site<L, R, G>,
     done: Done<L>,

@@ -19,7 +19,6 @@ pub(crate) struct Done<L: RunLedger> {
     pub complete: bool,
 }
 
-/// What a worker did, its number, and its seat at the board.
 #[derive(Drop)]
 pub(crate) struct Sat<L: RunLedger> {
     pub done: Done<L>,
@@ -28,7 +27,6 @@ pub(crate) struct Sat<L: RunLedger> {
 }
 
 impl<L: RunLedger> Done<L> {
-    /// The state before the first event.
     pub fn new(alloc: Global, share: Share<L>) -> Done<L> {
         Done {
             receipts: Vec::new(alloc),
@@ -46,7 +44,7 @@ impl<L: RunLedger> Done<L> {
         note(store, &mut self.share, &mut self.receipts, event)
     }
 
-    /// Submits the events under one lock, up to the first refusal, and keeps the receipts of those before.
+    /// Submits under one lock, up to the first refusal. Keeps the receipts before it.
     pub fn note_row<R: Wait>(
         &mut self,
         store: &LockedStore<L, R>,

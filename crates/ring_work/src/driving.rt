@@ -29,7 +29,7 @@ use std::sync::Wait;
 use std::sync::ledger::Blank;
 use std::thread::Threads;
 
-// A board with one seat more than workers. That seat claims what the entries finished.
+// The extra seat claims what the entries finished.
 fn board_of(
     alloc: Global,
     steps: u32,
@@ -39,7 +39,6 @@ fn board_of(
     requires { workers ≤ 64 }
     ensures board { IfOk result (λ r. (r.0.steps ≡ steps) × (r.0.workers ≡ workers + 1)) }
     ensures seats { IfOk result (λ r. (r.1.board ≡ r.0.id) × (r.2.board ≡ r.0.id)) }
-    // The extra seat's number is not a worker's.
     ensures worker { IfOk result (λ r. r.2.worker ≡ Some workers) }
 {
     let (board, first) = Board::new(alloc, steps, workers + 1)?;
@@ -70,7 +69,7 @@ fn end_of(board: Board, first: Seat, last: Seat, seats: Vec<Seat>) -> Result<Clo
     board.end(seats)
 }
 
-// The worker that finished each step. Refused if a step is not finished, or if memory runs out.
+// Refused if a step is unfinished.
 fn finishers_of(alloc: Global, words: &[u64]) -> Result<Vec<u32>, Refusal>
     ensures { IfOk result (λ v. map finished_word v.items ≡ words.now) }
 {
@@ -114,7 +113,7 @@ pub(crate) fn history_of<'a, L: RunLedger>(
     (ledgered.into_entries(), finished)
 }
 
-/// Maps a refusal to the one with which a drive breaks off.
+/// Maps a refusal to that of a drive.
 pub(crate) fn fault_kind(refusal: Refusal) -> Refusal
     ensures fault { IsFault result }
     ensures spent { result ≡ TurnsSpent → refusal ≡ TurnsSpent }
@@ -138,7 +137,7 @@ pub(crate) fn empty_fault(alloc: Global, approved: &Approved, refusal: Refusal) 
     }
 }
 
-// Returns why the outcome fails, if it does. A stopped thread comes before unfinished steps or lines and disagreeing receipts.
+// Returns why the outcome fails; a stopped thread first.
 fn judge<'a, R: Wait, G: Gate>(
     job: &Job<'a, R, G>,
     lists: usize,
@@ -176,7 +175,7 @@ fn worst(met: Option<Refusal>, other: Refusal) -> Refusal
     }
 }
 
-// Returns the finish. If it is refused, an earlier refusal counts instead.
+// An earlier refusal takes precedence.
 fn finish_after(finish: Result<Finish, Refusal>, met: Option<Refusal>) -> Result<Finish, Refusal>
     ensures { IfErr result (λ e. e ≡ TurnsSpent → IsSpent met) }
 {
@@ -198,7 +197,6 @@ fn fault_of(outcome: Outcome, refusal: Refusal) -> Fault
     Fault { refusal, history }
 }
 
-// Appends the lists. Notes if memory runs out.
 fn append_lists(
     front: Vec<Listed<Receipt>>,
     lists: Vec<Listed<Receipt>>,
@@ -225,7 +223,7 @@ fn with_room(front: Vec<Listed<Receipt>>, threads: usize) -> Result<Vec<Listed<R
     Ok(front)
 }
 
-// How many threads a drive has: workers, clients, and one for handoffs.
+// Workers, clients, and one for handoffs.
 fn threads_of<'a, R: Wait, G: Gate>(job: &Job<'a, R, G>) -> usize
     requires workers { job.now.workers ≤ 64 }
     requires scripts { length job.now.scripts.now ≤ 8 }
@@ -252,7 +250,7 @@ fn prepare<'a, R: Wait, G: Gate>(
     Ok((board, first, last, front))
 }
 
-// What the threads leave. Complete if all were started and ran all their lines.
+// Complete if all threads were started and ran all lines.
 #[derive(Drop)]
 struct Ran<L: RunLedger> {
     shares: Vec<Share<L>>,
@@ -300,7 +298,7 @@ fn run<'a, L: RunLedger + Send + Sync, R: Threads + Wait + Sync, G: Gate + Sync>
     })
 }
 
-// Returns the outcome if it is complete and consistent; otherwise its history and the reason.
+// Returns the outcome, or its history and why it fails.
 fn check_outcome<'a, R: Wait, G: Gate>(
     job: &Job<'a, R, G>,
     outcome: Outcome,
@@ -379,7 +377,7 @@ fn finish_drive<'a, L: RunLedger, R: Wait, G: Gate>(
     }
 }
 
-/// Runs the threads on a store that already has the entries. Their lists come after those in `front`.
+/// Runs the threads on a store that has the entries. Their lists follow `front`.
 pub(crate) fn drive_on<'a, L: RunLedger + Send + Sync, R: Threads + Wait + Sync, G: Gate + Sync>(
     job: &Job<'a, R, G>,
     executor: Executor<'a, L>,
@@ -441,17 +439,17 @@ fn drive_as<'a, L: RunLedger + Send + Sync, R: Threads + Wait + Sync, G: Gate + 
     }
 }
 
-/// Runs the plan with 1 to 64 workers, one client for each of 1 to 8 scripts, and one thread for handoffs.
+/// Runs the plan: 1 to 64 workers, 1 to 8 scripts.
 ///
-/// Workers do the plan's steps, and pass the gate after opening a copy: as worker `w`, at the step.
+/// A client runs each script, and a thread hands off hints.
 ///
-/// Clients run their lines in order, and pass it before each: as worker 64 plus the script's number, at the
-/// line's number.
+/// Workers pass the gate after opening a copy: as worker `w`, at the step.
+///
+/// Clients pass it before each line: as worker 64 plus the script's number, at the line's number.
 ///
 /// Fails with 71 if a worker took 1,000,000 turns without finishing a step, or the gate refused.
 ///
-/// Otherwise fails with 70 if the history is full or records disagree, and with 60 if memory or a thread was
-/// refused.
+/// Otherwise fails with 70 if the history is full or records disagree, and with 60 if memory or a thread was refused.
 pub fn drive<R: Threads + Wait + Sync, G: Gate + Sync>(
     rt: &R,
     alloc: Global,
@@ -463,13 +461,11 @@ pub fn drive<R: Threads + Wait + Sync, G: Gate + Sync>(
     requires workers { (0 < workers) × (workers ≤ 64) }
     requires scripts { (0 < length scripts.now) × (length scripts.now ≤ 8) }
     requires clients { AllByRecursion (λ s. list_all is_client_event s ≡ true) scripts.now }
-    // A safe run of the plan that finishes every step, and an interleaving of the threads' receipts.
     ensures ok { IfOk result (λ o. Driven approved.now.ring approved.now.plan scripts.now workers o.history.items o.receipts.items o.finishers.items) }
-    // One list for each worker, each client, and the handoffs.
+    // For workers, clients and handoffs.
     ensures threads { IfOk result (λ o. vec_len o.receipts ≡ workers + (length scripts.now + 1)) }
-    // Each finisher is its step's word on the closed board. Only closing a board makes such words.
+    // Only closing a board makes such words.
     ensures board { IfOk result (λ o. map finished_word o.finishers.items ≡ o.board) }
-    // No outcome if the gate must refuse some line.
     ensures turned { MustTurn (G.must_refuse gate.now) scripts.now → OnOk result ⊥ }
     ensures refusal { IfErr result (λ f. IsFault f.refusal) }
     ensures spent { IfErr result

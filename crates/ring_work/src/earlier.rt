@@ -1,4 +1,4 @@
-//! What came before the threads of a resumed drive.
+//! What came before a resumed drive's threads.
 
 ghost use Rattle.std.specs.Prelude.{◌≡◌, ◌==◌, ◌<◌, ◌≤◌, ℕ, true, false, cond, is_some, length, vec_len};
 ghost use Rattle.std.specs.Prelude.{slice_index_or, IfOk, IfErr, OnOk};
@@ -131,7 +131,7 @@ fn break_off<L: RunLedger, R: Wait>(
     Ok(())
 }
 
-/// Returns the receipts of the restored entries, then those of aborting the copies that they left open.
+/// Returns the restored entries' receipts, then those of aborting open copies.
 pub(crate) fn earlier_list<L: RunLedger, R: Wait>(
     store: &LockedStore<L, R>,
     alloc: Global,
@@ -168,7 +168,7 @@ fn finish(board: &Board, seat: &mut Seat, step: u32)
     }
 }
 
-/// Claims each step that the entries finished, and marks it finished.
+/// Claims and finishes each step that the entries finished.
 pub(crate) fn finish_all(board: &Board, seat: &mut Seat, entries: &[Entry])
     requires board { seat.old.board ≡ board.now.id }
     requires worker { is_some seat.old.worker ≡ true }

@@ -55,7 +55,7 @@ pub(crate) fn start_get<L: RunLedger, R: Wait>(
     submit_get(store, share, receipts, &Event::StartGet(key))
 }
 
-// The slots that a get has read: bit i for index i.
+// A bit for each slot that a get has read.
 #[derive(Drop)]
 struct Slots {
     mask: u32,
@@ -101,7 +101,7 @@ fn read_round<L: RunLedger, R: Wait>(
     Ok(())
 }
 
-// Runs another round, unless nothing has changed since a round without replies.
+// Runs another round, unless nothing has changed since one without replies.
 fn another_read_round<L: RunLedger, R: Wait>(
     store: &LockedStore<L, R>,
     share: &mut Share<L>,
@@ -147,7 +147,7 @@ fn read_rounds<L: RunLedger, R: Wait>(
     Ok(())
 }
 
-/// Reads slots for a started get and ends it. Returns the last refusal if it did not end.
+/// Reads slots for a started get and ends it. Returns the last refusal otherwise.
 pub(crate) fn finish_get<L: RunLedger, R: Wait>(
     store: &LockedStore<L, R>,
     share: &mut Share<L>,
@@ -184,9 +184,9 @@ fn get_on<L: RunLedger, R: Wait>(
     }
 }
 
-/// Gets the key: starts the get, reads unread slots in order until R are read, and ends it.
+/// Gets the key: starts, reads R slots in order, and ends.
 ///
-/// There are at most 64 rounds of reads. A round without replies is repeated only after the history grew.
+/// Reads in at most 64 rounds. One without replies is repeated only if the history grew.
 ///
 /// A refused start, a full history or lack of memory ends the get at once.
 pub fn get_all<'a, L: RunLedger, R: Wait>(
@@ -196,7 +196,7 @@ pub fn get_all<'a, L: RunLedger, R: Wait>(
     share: &mut Share<L>,
     key: Key,
 ) -> Attempt
-    // The get's block, with an end exactly if nothing is refused in the end. Empty if the start is refused.
+    // Ended exactly if nothing is refused; empty if the start is refused.
     ensures block { IsGetAttempt key result.receipts.items result.refusal }
     ensures count { share.new.count ≡ share.old.count + vec_len result.receipts }
     ensures parts { share.new.token.parts ≡ share.old.token.parts }

@@ -12,7 +12,7 @@ use ring_names::{NodeId, Refusal, Slot};
 use std::sync::Wait;
 use std::thread;
 
-// Hands off the node's hints for the slot. Returns whether it succeeded.
+// Returns whether the handoff succeeded.
 fn hand<L: RunLedger, R: Wait, G: Gate>(
     site: &Site<L, R, G>,
     done: &mut Done<L>,
@@ -28,8 +28,10 @@ fn hand<L: RunLedger, R: Wait, G: Gate>(
     }
 }
 
-// Walks over the hints until a walk that began after all other threads had ended. After a successful handoff, position
-// n has the next hint; after a refused one, n grows. If a walk finds nothing, the next waits for the bell.
+// Walks over the hints until a walk that began after all other threads had ended. If a walk finds nothing, the next
+// waits for the bell.
+//
+// A successful handoff leaves the next hint at position n; a refused one increases n.
 fn walks<L: RunLedger, R: Wait, G: Gate>(
     site: &Site<L, R, G>,
     done: &mut Done<L>,
@@ -63,7 +65,7 @@ fn walks<L: RunLedger, R: Wait, G: Gate>(
     Ok(())
 }
 
-/// Hands off hints until all other threads have ended. A full history or lack of memory stops all threads.
+/// Hands off hints until other threads have ended. A full history or lack of memory stops all.
 pub(crate) fn hand_off<L: RunLedger, R: Wait, G: Gate>(
     site: &Site<L, R, G>,
     done: Done<L>,

@@ -11,8 +11,7 @@ use ring_names::{Listed, Refusal};
 use ring_receipts::Receipt;
 use std::alloc::Global;
 
-/// The results of all threads, in the order of their joins, and the worst refusal. Room for all is reserved first, so
-/// that none is lost.
+/// The threads' results, in the order of joins, and the worst refusal. Room is reserved first, so that none is lost.
 #[derive(Drop)]
 pub(crate) struct Left<L: RunLedger> {
     pub seats: Vec<Seat>,
@@ -33,7 +32,9 @@ fn weight(refusal: &Option<Refusal>) -> u8
     }
 }
 
-/// Returns the worse refusal: the limit of turns, then a full history or disagreeing records, then lack of memory.
+/// Returns the worse refusal.
+///
+/// The limit of turns is worst, then a full history or disagreeing records, then lack of memory.
 pub(crate) fn worse(one: Option<Refusal>, other: Option<Refusal>) -> Option<Refusal>
     ensures one { (result ≡ one) ⊎ (result ≡ other) }
     ensures graver { (gravity one ≤ gravity result) × (gravity other ≤ gravity result) }
@@ -46,7 +47,7 @@ pub(crate) fn worse(one: Option<Refusal>, other: Option<Refusal>) -> Option<Refu
 }
 
 impl<L: RunLedger> Left<L> {
-    /// Reserves room for the workers, the clients, the first seat, the first share, and the handoffs.
+    /// Reserves room for all results, the first seat and share.
     pub fn with_room(alloc: Global, workers: usize, clients: usize) -> Result<Left<L>, Refusal>
         ensures none { IfOk result (λ l. (vec_len l.seats ≡ 0) × (l.refusal ≡ None)) }
         ensures memory { IfErr result (λ e. e ≡ OutOfMemory) }
@@ -93,7 +94,6 @@ impl<L: RunLedger> Left<L> {
         }
     }
 
-    /// Takes a thread's results.
     pub fn take(&mut self, done: Done<L>)
         ensures seats { self.new.seats ≡ self.old.seats }
         ensures spent { IsSpent self.new.refusal → IsSpent self.old.refusal ⊎ IsSpent done.stopped }
@@ -113,7 +113,6 @@ impl<L: RunLedger> Left<L> {
         self.note(stopped);
     }
 
-    /// Takes a worker's results.
     pub fn take_seat(&mut self, board: &Board, sat: Sat<L>)
         requires old { All (λ s. s.board ≡ board.now.id) self.old.seats.items }
         requires one { sat.seat.board ≡ board.now.id }

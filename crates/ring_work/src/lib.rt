@@ -1,4 +1,4 @@
-//! Runs an approved plan: puts and gets of clients through the lock, and the threads of a drive, with their receipts.
+//! Runs an approved plan: puts and gets through the lock, and a drive's threads, with receipts.
 #![tactic(auto)]
 
 mod attempt;

@@ -16,29 +16,26 @@ use std::sync::Wait;
 /// The most rounds of a put or a get.
 pub(crate) const MAX_ROUNDS: u32 = 64;
 
-/// The history's length before the last round, if that round had no replies. Until it grows, another round would be
-/// refused too.
+/// The history's length before a round without replies. Until it grows, another would be refused.
 #[derive(Drop)]
 pub(crate) struct Idle {
     length: Option<u32>,
 }
 
 impl Idle {
-    /// The state before the first round.
     pub fn new() -> Idle
         ensures { result.length ≡ None }
     {
         Idle { length: None }
     }
 
-    /// Whether the last round had no replies, and the history has not grown since it began.
+    /// Whether nothing has changed since a round without replies.
     pub fn is_at(&self, length: u32) -> bool
         ensures { IsTrue result ↔ (self.now.length ≡ Some length) }
     {
         self.length == Some(length)
     }
 
-    /// Notes a round that began at this length, and whether it had replies.
     pub fn note(&mut self, length: u32, answered: bool)
         ensures { self.new.length ≡ (if answered then None else Some length) }
     {
@@ -46,7 +43,7 @@ impl Idle {
     }
 }
 
-/// Submits the event and keeps its receipt. Room is reserved before the lock is taken. If refused, nothing is kept.
+/// Submits the event and keeps its receipt. Reserves room before locking.
 pub(crate) fn submit<L: RunLedger, R: Wait>(
     store: &LockedStore<L, R>,
     share: &mut Share<L>,
@@ -64,7 +61,7 @@ pub(crate) fn submit<L: RunLedger, R: Wait>(
     Ok(())
 }
 
-/// Does what `submit` does, and takes the event, so that callers need not drop it.
+/// Submits, and takes the event, so that callers need not drop it.
 pub(crate) fn note<L: RunLedger, R: Wait>(
     store: &LockedStore<L, R>,
     share: &mut Share<L>,
@@ -101,7 +98,7 @@ pub(crate) fn get_number(reply: &Reply) -> u32
     }
 }
 
-/// Passes over a refusal, unless it ends everything: a full history or lack of memory.
+/// Returns refusals that end everything: full history, lack of memory.
 pub(crate) fn go_on(refusal: Refusal) -> Result<(), Refusal>
     ensures { IfErr result (λ e. (e ≡ HistoryFull) ⊎ (e ≡ OutOfMemory)) }
 {
@@ -112,7 +109,7 @@ pub(crate) fn go_on(refusal: Refusal) -> Result<(), Refusal>
     }
 }
 
-/// Returns the refusal. The store and the board know no limit of turns.
+/// Returns the refusal. Store and board know no limit of turns.
 pub(crate) fn no_limit(refusal: Refusal) -> Refusal
     ensures { result ≢ TurnsSpent }
 {

@@ -40,7 +40,7 @@ fn start_put<L: RunLedger, R: Wait>(
     Ok(put)
 }
 
-// Leaves a hint for the slot with the first node, by number, that accepts it.
+// Leaves a hint with the first node, by number, that accepts it.
 fn leave_hint<L: RunLedger, R: Wait>(
     store: &LockedStore<L, R>,
     share: &mut Share<L>,
@@ -67,7 +67,7 @@ fn leave_hint<L: RunLedger, R: Wait>(
     Ok(())
 }
 
-// Writes the put to the slot, or leaves a hint if a node of the slot is down.
+// Leaves a hint if a node of the slot is down.
 fn send<L: RunLedger, R: Wait>(
     store: &LockedStore<L, R>,
     share: &mut Share<L>,
@@ -102,7 +102,6 @@ fn send_round<L: RunLedger, R: Wait>(
     Ok(())
 }
 
-// Sends the put to each slot, then asks for its acknowledgement.
 fn round<L: RunLedger, R: Wait>(
     store: &LockedStore<L, R>,
     share: &mut Share<L>,
@@ -120,14 +119,14 @@ fn round<L: RunLedger, R: Wait>(
     Ok(())
 }
 
-// How many tickets were current after the last round, and whether another round can help.
+// How many tickets were current after a round, and whether another can help.
 #[derive(Drop)]
 struct Last {
     current: u32,
     idle: Idle,
 }
 
-// Runs another round, unless it would be refused like the last one.
+// Skips rounds that would be refused like the last one.
 fn another_round<L: RunLedger, R: Wait>(
     store: &LockedStore<L, R>,
     share: &mut Share<L>,
@@ -151,7 +150,7 @@ fn another_round<L: RunLedger, R: Wait>(
     came
 }
 
-// Runs rounds until the put is acknowledged. Returns the last refusal if it is not.
+// Returns the last refusal if the put is not acknowledged.
 fn send_rounds<L: RunLedger, R: Wait>(
     store: &LockedStore<L, R>,
     share: &mut Share<L>,
@@ -178,7 +177,7 @@ fn send_rounds<L: RunLedger, R: Wait>(
     Some(Refusal::StaleTickets(last.current))
 }
 
-/// Starts the put and sends it in at most 64 rounds. Returns the last refusal if it is not acknowledged.
+/// Starts and sends the put in at most 64 rounds. Returns the last refusal if unacknowledged.
 pub(crate) fn put_on<L: RunLedger, R: Wait>(
     store: &LockedStore<L, R>,
     share: &mut Share<L>,
@@ -196,14 +195,13 @@ pub(crate) fn put_on<L: RunLedger, R: Wait>(
     }
 }
 
-/// Puts the value, with knowledge of the replies of the gets `seen`.
+/// Puts the value, knowing the replies of the gets `seen`.
 ///
-/// After the start there are at most 64 rounds. Each writes to the slots in order, then asks for the
-/// acknowledgement.
+/// Runs at most 64 rounds. Each writes to the slots in order, then asks for the acknowledgement.
 ///
 /// For a slot with a node down, a round tries hints at the nodes by number.
 ///
-/// Too few current tickets lead to another round, but after a round without replies only if the history grew.
+/// Too few current tickets lead to another round; after one without replies, only if the history grew.
 ///
 /// A refused start, a full history or lack of memory ends the put at once.
 pub fn put_all<'a, L: RunLedger, R: Wait>(
@@ -216,7 +214,7 @@ pub fn put_all<'a, L: RunLedger, R: Wait>(
     value: Value,
     seen: Seen,
 ) -> Attempt
-    // The put's block, acknowledged exactly if nothing is refused in the end. Empty if the start is refused.
+    // Acknowledged exactly if nothing is refused; empty if the start is refused.
     ensures block { IsPutAttempt (StartPut writer key value seen) result.receipts.items result.refusal }
     ensures count { share.new.count ≡ share.old.count + vec_len result.receipts }
     ensures parts { share.new.token.parts ≡ share.old.token.parts }

@@ -37,7 +37,7 @@ fn one_list(alloc: Global, list: Listed<Receipt>) -> Result<Vec<Listed<Receipt>>
     Ok(front)
 }
 
-// The list of what came before the threads, with the copies that the entries left open aborted.
+// Also aborts the open copies.
 fn front_of<'a, L: RunLedger, R: Wait, G: Gate>(
     job: &Job<'a, R, G>,
     executor: &Executor<'a, L>,
@@ -59,7 +59,7 @@ fn front_of<'a, L: RunLedger, R: Wait, G: Gate>(
     one_list(job.alloc, list)
 }
 
-// The fault of a store that is given up before its threads start, with the history so far.
+// Returns the fault, with the history so far, before threads start.
 fn abort_drive<'a, L: RunLedger>(
     alloc: Global,
     executor: Executor<'a, L>,
@@ -107,7 +107,7 @@ fn resume_on<'a, L: RunLedger + Send + Sync, R: Threads + Wait + Sync, G: Gate +
         (λ f. IsHistory job.now.approved.now.ring job.now.approved.now.plan f.history.items) }
 {
     let mut share = share;
-    // Reserves room for the share first, so that a refused abort keeps the history.
+    // A refused abort keeps the history.
     let mut shares = match Vec::with_capacity(job.alloc, 1) {
         Ok(shares) => shares,
         Err(_) => {
@@ -124,7 +124,6 @@ fn resume_on<'a, L: RunLedger + Send + Sync, R: Threads + Wait + Sync, G: Gate +
     }
 }
 
-// Maps the refusal of a restore to that of a resume.
 fn stop_refusal(approved: &Approved, entries: &[Entry], refusal: Refusal) -> Refusal
     requires full { (refusal ≡ HistoryFull) ↔ (1000000 < length entries.now) }
     requires few { length entries.now ≤ 1000000 }
@@ -176,16 +175,18 @@ fn resume_as<'a, L: RunLedger + Send + Sync, R: Threads + Wait + Sync, G: Gate +
     }
 }
 
-/// Resumes a run from a history that broke off: restores the store, aborts open copies by step number, then does as `drive`.
+/// Resumes a run from a history.
 ///
-/// The first list of receipts has the entries, then these aborts. A step that the entries finished has the number of
-/// workers as its finisher.
+/// Restores the store, aborts open copies by step number, then does as `drive`.
 ///
-/// Over 1,000,000 entries are refused first, then `Mismatch` names the first entry that is not part of a run;
-/// both with an empty history.
+/// The first list of receipts has the entries, then these aborts. Steps finished by the entries have the number of
+/// workers as finisher.
 ///
-/// Later refusals are those of `drive`, with 70 also if an abort does not fit the history. Lack of memory comes
-/// last at each entry.
+/// Over 1,000,000 entries are refused first, then `Mismatch` names the first entry that is not part of a run; both with
+/// an empty history.
+///
+/// Later refusals are those of `drive`, with 70 also if an abort does not fit the history. Lack of memory comes last at
+/// each entry.
 pub fn resume<R: Threads + Wait + Sync, G: Gate + Sync>(
     rt: &R,
     alloc: Global,
@@ -198,16 +199,14 @@ pub fn resume<R: Threads + Wait + Sync, G: Gate + Sync>(
     requires workers { (0 < workers) × (workers ≤ 64) }
     requires scripts { (0 < length scripts.now) × (length scripts.now ≤ 8) }
     requires clients { AllByRecursion (λ s. list_all is_client_event s ≡ true) scripts.now }
-    // As for `drive`, and the first list of receipts continues the entries.
     ensures ok { IfOk result (λ o. Resumed approved.now.ring approved.now.plan scripts.now workers entries.now o.history.items o.receipts.items o.finishers.items) }
-    // One list for what came before, each worker, each client, and the handoffs.
+    // For what came before, workers, clients and handoffs.
     ensures threads { IfOk result (λ o. vec_len o.receipts ≡ 1 + (workers + (length scripts.now + 1))) }
-    // Each finisher is its step's word on the closed board. Only closing a board makes such words.
+    // Only closing a board makes such words.
     ensures board { IfOk result (λ o. map finished_word o.finishers.items ≡ o.board) }
-    // No outcome if the gate must refuse some line.
     ensures turned { MustTurn (G.must_refuse gate.now) scripts.now → OnOk result ⊥ }
     ensures refusal { IfErr result (λ f. IsStop approved.now.ring approved.now.plan entries.now f.refusal) }
-    // Only too many entries come before all else. Then comes the first entry that is not part of a run, memory aside.
+    // Only too many entries come before all else, then, memory aside, the first entry outside a run.
     ensures full { IfErr result (λ f. (f.refusal ≡ HistoryFull) ↔ (1000000 < length entries.now)) }
     ensures fault { IfErr result (λ f. TellsFault approved.now.ring approved.now.plan entries.now f.refusal) }
     ensures spent { IfErr result

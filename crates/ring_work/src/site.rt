@@ -1,4 +1,4 @@
-//! What the threads of a drive share.
+//! What a drive's threads share.
 
 use plan_check::{Approved, Gate};
 use plan_text::Plan;
@@ -9,7 +9,6 @@ use std::alloc::Global;
 use std::sync::Wait;
 use std::sync::atomic::{AtomicBool, AtomicU64, Ordering};
 
-/// What a drive is asked to do.
 #[derive(Drop)]
 pub(crate) struct Job<'a, R: Wait, G: Gate> {
     pub rt: &'a R,
@@ -20,14 +19,15 @@ pub(crate) struct Job<'a, R: Wait, G: Gate> {
     pub gate: &'a G,
 }
 
-/// The store behind its lock, and the runtime that waits for it.
 #[derive(Drop)]
 pub(crate) struct LockedStore<'r, 'e, 'a, L: RunLedger, R: Wait> {
     pub rt: &'r R,
     pub executor: &'e Executor<'a, L>,
 }
 
-/// Whether all threads must stop, whether all but the handoffs have ended, and a bell that counts its rings.
+/// The threads' flags and bell.
+///
+/// `stop`: all must stop. `joined`: all but handoffs have ended. The bell counts its rings.
 #[derive(Drop)]
 pub(crate) struct Flags {
     pub stop: AtomicBool,
@@ -45,7 +45,7 @@ impl Flags {
     }
 }
 
-/// What all threads see: the job, its plan, the store, the board and the flags.
+/// What all threads see.
 #[derive(Drop)]
 pub(crate) struct Site<'e, 'a, L: RunLedger, R: Wait, G: Gate> {
     pub job: &'e Job<'a, R, G>,
@@ -68,7 +68,6 @@ pub(crate) fn wake(bell: &AtomicU64) {
     bell.wake_all();
 }
 
-/// The last 32 bits of the bell's count.
 pub(crate) fn ring_count(bell: &AtomicU64) -> u32 {
     (bell.load(Ordering::SeqCst) & 0xffff_ffff) as u32
 }

@@ -1,4 +1,4 @@
-//! Starts and joins the threads of a drive.
+//! Starts and joins a drive's threads.
 
 ghost use Rattle.std.specs.Prelude.{◌≡◌, ◌⊎◌, ◌+◌, ◌<◌, ◌≤◌, ℕ, All, Any, [], None, true, false, is_some, length, vec_len};
 ghost use Rattle.std.specs.Prelude.{slice_index_or, IfOk, IfErr, IsTrue};
@@ -22,7 +22,7 @@ use std::sync::Wait;
 use std::thread;
 use std::thread::{Promise, PromisedHandle, Scope, Threads};
 
-// Promise of a worker: its seat is at this board, and it meets no limit of turns if the plan is empty.
+// A worker's promise: its seat is at this board; an empty plan meets no limit of turns.
 #[derive(Drop)]
 struct AtBoard(Snapshot<Board>, Snapshot<Plan>);
 
@@ -33,7 +33,7 @@ impl<L: RunLedger> Promise<Sat<L>> for AtBoard {
     ghost kept_by = { λ p r. (r.seat.board ≡ p.0.value.id) × (IsSpent r.done.stopped → 0 < length p.1.value) };
 }
 
-// Promise of a client: it meets the limit only if this gate may refuse. If all lines ran, the gate passed each.
+// A client's promise: it meets the limit only if the gate may refuse. If all lines ran, each passed the gate.
 #[derive(Drop)]
 struct ByGate<G: Gate>(Snapshot<G>, u32, usize);
 
@@ -45,7 +45,7 @@ impl<L: RunLedger, G: Gate> Promise<Done<L>> for ByGate<G> {
         × (IsTrue r.complete → MayPass (G.must_refuse p.0.value) p.1 p.2) };
 }
 
-// Promise of the handoffs: they meet no limit of turns.
+// The handoffs' promise: they meet no limit of turns.
 #[derive(Clone, Copy)]
 struct Never;
 
@@ -55,7 +55,7 @@ impl<L: RunLedger> Promise<Done<L>> for Never {
     ghost kept_by = { λ p r. IsSpent r.stopped → ⊥ };
 }
 
-// The handles of workers and clients, and what all threads leave.
+// Workers' and clients' handles, and what all threads leave.
 #[derive(Drop)]
 struct Room<L: RunLedger, G: Gate> {
     sitting: Vec<PromisedHandle<Sat<L>, AtBoard>>,
@@ -97,7 +97,7 @@ fn start_handoffs<'s, 'x, 'e, 'a, L: RunLedger + Send + Sync, R: Wait + Sync, G:
     }
 }
 
-// Starts a worker. Returns whether that was refused.
+// Returns whether the start was refused.
 fn start_worker<'s, 'x, 'e, 'a, L: RunLedger + Send + Sync, R: Wait + Sync, G: Gate + Sync>(
     scope: &Scope<'s, &'x ()>,
     site: &'s Site<'e, 'a, L, R, G>,
@@ -126,7 +126,7 @@ fn start_worker<'s, 'x, 'e, 'a, L: RunLedger + Send + Sync, R: Wait + Sync, G: G
     }
 }
 
-// Starts all workers, the last first, so that the first is joined first. Returns whether one was refused.
+// Starts the last first, so that the first is joined first. Returns whether one was refused.
 fn start_workers<'s, 'x, 'e, 'a, L: RunLedger + Send + Sync, R: Wait + Sync, G: Gate + Sync>(
     scope: &Scope<'s, &'x ()>,
     site: &'s Site<'e, 'a, L, R, G>,
@@ -157,7 +157,7 @@ fn start_workers<'s, 'x, 'e, 'a, L: RunLedger + Send + Sync, R: Wait + Sync, G: 
     refused
 }
 
-// Starts the client. Returns whether this or an earlier start was refused.
+// Returns whether this or an earlier start was refused.
 fn start_client<'s, 'x, 'e, 'a, L: RunLedger + Send + Sync, R: Wait + Sync, G: Gate + Sync>(
     scope: &Scope<'s, &'x ()>,
     site: &'s Site<'e, 'a, L, R, G>,
@@ -199,7 +199,7 @@ fn start_client<'s, 'x, 'e, 'a, L: RunLedger + Send + Sync, R: Wait + Sync, G: G
     }
 }
 
-// Starts a client for each script, the last first. Returns whether this or an earlier start was refused.
+// Starts the last first. Returns whether this or an earlier start was refused.
 fn start_clients<'s, 'x, 'e, 'a, L: RunLedger + Send + Sync, R: Wait + Sync, G: Gate + Sync>(
     scope: &Scope<'s, &'x ()>,
     site: &'s Site<'e, 'a, L, R, G>,
@@ -332,8 +332,9 @@ fn run_in<'s, 'x, 'e, 'a, L: RunLedger + Send + Sync, R: Threads + Wait + Sync, 
     (first, left)
 }
 
-/// Starts the threads for handoffs, workers and scripts, and joins them all. A refused start ends the others as soon as
-/// they see it. Returns the board's first seat too.
+/// Starts and joins all threads. Returns the board's first seat too.
+///
+/// A refused start ends the others as soon as they see it.
 pub(crate) fn run_all<'e, 'a, L: RunLedger + Send + Sync, R: Threads + Wait + Sync, G: Gate + Sync>(
     job: &'e Job<'a, R, G>,
     executor: &'e Executor<'a, L>,

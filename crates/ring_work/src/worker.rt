@@ -1,4 +1,4 @@
-//! Workers, which do the steps of the plan.
+//! Workers, which do the plan's steps.
 
 ghost use Rattle.std.specs.Prelude.{◌≡◌, ◌<◌, ◌≤◌, true, is_some, length, IfErr, IfSome};
 ghost use Rattle.ring_names.specs.Lists.{has};
@@ -25,17 +25,18 @@ const CHUNKS: u32 = 16;
 
 const NONE: u32 = 0xffff_ffff;
 
-// What a worker knows of the steps. Walks skip steps known to be finished, and steps that wait for a dependency not
-// known to be. So a step is looked at again only after a change, and each dependency is passed once.
+// What a worker knows of the steps. Walks skip finished steps and waiting ones.
+//
+// So a step is looked at again only after a change, and each dependency is passed once.
 #[derive(Drop)]
 struct Walk {
     finished: Vec<bool>,
-    // A bit for each step that walks look at.
+    // A bit for each step to look at.
     open: Vec<u64>,
-    // By step, the first step that waits for it; and by waiting step, the next one.
+    // By step, the first that waits for it; by waiting step, the next.
     waiting: Vec<u32>,
     behind: Vec<u32>,
-    // By step, how many of its dependencies, from the first on, are known to be finished.
+    // By step, how many first dependencies are known to be finished.
     passed: Vec<u32>,
     left: u32,
     from: u32,
@@ -65,7 +66,6 @@ impl Walk {
         self.finished.get(step as usize).copied().unwrap_or(false)
     }
 
-    // Lets walks look at the step, or skip it.
     fn set_open(&mut self, step: u32, is: bool) {
         if let Some(word) = self.open.get_mut((step / 64) as usize) {
             let bit = 1u64 << (step % 64);
@@ -77,7 +77,6 @@ impl Walk {
         }
     }
 
-    // The first step to look at, from `from` on.
     fn first_open(&self, from: u32, end: u32) -> Option<u32>
         ensures { IfSome result (λ s. s < end) }
     {
@@ -95,7 +94,7 @@ impl Walk {
         None
     }
 
-    // Skips the step until the other one is known to be finished.
+    // Skips the step until the other is finished.
     fn wait(&mut self, step: u32, other: u32) {
         if let (Some(first), Some(next)) = (
             self.waiting.get_mut(other as usize),
@@ -117,7 +116,7 @@ impl Walk {
         }
     }
 
-    // Lets walks look at the steps that wait for this one.
+    // Shows walks the steps that wait for this one.
     fn wake(&mut self, step: u32) {
         let mut next = match self.waiting.get_mut(step as usize) {
             Some(first) => mem::replace(first, NONE),
@@ -160,7 +159,7 @@ fn is_finished(board: &Board, seat: &mut Seat, walk: &mut Walk, step: u32) -> bo
     finished
 }
 
-// Whether the step is unfinished and all its dependencies are finished. Otherwise it waits.
+// A step with an unfinished dependency waits.
 fn is_next(board: &Board, seat: &mut Seat, walk: &mut Walk, step: u32, others: &[u32]) -> bool
     requires board { seat.old.board ≡ board.now.id }
     requires step { step < board.now.steps }
@@ -183,7 +182,7 @@ fn is_next(board: &Board, seat: &mut Seat, walk: &mut Walk, step: u32, others: &
     true
 }
 
-// Does a step that is not a copy. Returns whether it is done.
+// Returns whether the step, not a copy, is done.
 fn do_step<L: RunLedger, R: Wait, G: Gate>(
     site: &Site<L, R, G>,
     done: &mut Done<L>,
@@ -198,7 +197,7 @@ fn do_step<L: RunLedger, R: Wait, G: Gate>(
     }
 }
 
-// The remaining events of an open copy: its chunks, and its close.
+// Returns an open copy's chunks and close.
 fn rest_of(alloc: Global, step: u32) -> Result<Vec<Event>, Refusal> {
     let mut rest = Vec::with_capacity(alloc, CHUNKS as usize + 1)?;
     for chunk in 0..CHUNKS {
@@ -208,8 +207,8 @@ fn rest_of(alloc: Global, step: u32) -> Result<Vec<Event>, Refusal> {
     Ok(rest)
 }
 
-// Submits the events under one lock. If a chunk is already marked, continues after it. Returns whether the copy was
-// closed; if a node is down it must be aborted.
+// Submits under one lock, from after the chunks already marked. Returns whether the copy was closed; if a node is down
+// it must be aborted.
 fn copy_rest<L: RunLedger, R: Wait, G: Gate>(
     site: &Site<L, R, G>,
     done: &mut Done<L>,
@@ -263,7 +262,7 @@ fn copy<L: RunLedger, R: Wait, G: Gate>(
     }
 }
 
-// Does a claimed step, then marks it finished or gives it back. Returns whether it is finished.
+// Does a claimed step, then finishes it or gives it back. Returns whether it is finished.
 fn carry_out<L: RunLedger, R: Wait, G: Gate>(
     site: &Site<L, R, G>,
     sat: &mut Sat<L>,
@@ -287,7 +286,7 @@ fn carry_out<L: RunLedger, R: Wait, G: Gate>(
     came
 }
 
-// Claims the first step in the range that is unfinished and has all dependencies finished.
+// Claims the range's first step that can be done next.
 fn claim_from<L: RunLedger, R: Wait, G: Gate>(
     site: &Site<L, R, G>,
     seat: &mut Seat,
@@ -317,7 +316,7 @@ fn claim_from<L: RunLedger, R: Wait, G: Gate>(
     None
 }
 
-// Claims a step that is next, searching once round from the last claimed one.
+// Searches once round from the last claimed step.
 fn claim_next<L: RunLedger, R: Wait, G: Gate>(
     site: &Site<L, R, G>,
     seat: &mut Seat,
@@ -342,7 +341,7 @@ fn claim_next<L: RunLedger, R: Wait, G: Gate>(
     found
 }
 
-// Walks over the steps once. Returns whether a step was finished.
+// Walks over the steps once. Returns whether one was finished.
 fn turn<L: RunLedger, R: Wait, G: Gate>(
     site: &Site<L, R, G>,
     sat: &mut Sat<L>,
@@ -364,7 +363,7 @@ fn turn<L: RunLedger, R: Wait, G: Gate>(
     Ok(finished)
 }
 
-// Takes turns until every step is finished or all threads must stop.
+// Takes turns until all steps are finished or all threads must stop.
 fn turns<L: RunLedger, R: Wait, G: Gate>(
     site: &Site<L, R, G>,
     sat: &mut Sat<L>,
@@ -393,7 +392,7 @@ fn turns<L: RunLedger, R: Wait, G: Gate>(
     Ok(())
 }
 
-// Works until nothing is left. At first no step is known to be finished.
+// At first no step is known to be finished.
 fn work_on<L: RunLedger, R: Wait, G: Gate>(
     site: &Site<L, R, G>,
     sat: &mut Sat<L>,
@@ -412,8 +411,9 @@ fn work_on<L: RunLedger, R: Wait, G: Gate>(
     turns(site, sat, &mut walk)
 }
 
-/// Runs a worker until every step is finished. It stops all threads on a full history, lack of memory, a gate that
-/// refuses, or 1,000,000 turns without finishing a step.
+/// Runs a worker until every step is finished.
+///
+/// Stops all threads on a full history, lack of memory, a refusing gate, or 1,000,000 turns without finishing a step.
 pub(crate) fn work<L: RunLedger, R: Wait, G: Gate>(site: &Site<L, R, G>, sat: Sat<L>) -> Sat<L>
     requires board { sat.seat.board ≡ site.now.board.now.id }
     requires worker { is_some sat.seat.worker ≡ true }
