@@ -1,4 +1,4 @@
-//! Slots whose mirrors hold puts that their owners lack.
+//! Finds slots whose mirrors hold puts that their owners lack.
 
 use crate::chunks::{Chunk, PutsByChunk};
 use crate::storing::{Mirrored, happen, has_put, mirrored_slot};
@@ -10,7 +10,7 @@ use ring_core::World;
 use ring_names::{Refusal, Slot};
 use std::alloc::Global;
 
-// The slot that an unfinished copy from listed slots fills.
+// Returns the slot that an unfinished copy from listed slots fills.
 fn listing_slot(plan: &Plan, progress: &Progress, step: u32) -> Option<Slot> {
     if step >= plan.len() || progress.is_done(step) {
         return None;
@@ -21,14 +21,14 @@ fn listing_slot(plan: &Plan, progress: &Progress, step: u32) -> Option<Slot> {
     }
 }
 
-// A chunk given by a copy from listed slots, and the slot's mirror.
+// A chunk given by a copy from listed slots, and the mirror.
 #[derive(Clone, Copy, Debug)]
 struct Given {
     it: Mirrored,
     chunk: Chunk,
 }
 
-// The store at some point of the history, and the slots found so far.
+// The store during the history, and the slots found so far.
 #[derive(Drop)]
 struct Looking<'a> {
     alloc: Global,
@@ -55,7 +55,7 @@ impl Looking<'_> {
         Ok(())
     }
 
-    // The chunk that the event gives, if by an unfinished copy from listed slots.
+    // Returns the chunk that the event gives by an unfinished copy from listed slots.
     fn given(&self, event: &Event) -> Option<Given> {
         let Event::ChunkCopy(step, chunk) = event else {
             return None;
@@ -76,7 +76,7 @@ impl Looking<'_> {
         Ok(lacking)
     }
 
-    // Whether the mirror now has a put that no write could have given it.
+    // Whether the mirror has a put that no write could have given it.
     fn is_ahead(&self, given: &Given, lacking: &[u32]) -> bool {
         lacking.iter().any(|put| {
             has_put(&self.store, given.it.mirror, *put, given.it.slot.index)
@@ -99,10 +99,12 @@ fn has_listed(plan: &Plan, progress: &Progress, history: &[Entry]) -> bool {
     })
 }
 
-/// Returns the slots whose mirrors got puts from listed slots, by unfinished copies, while the owners lacked
-/// these puts or were down.
+/// Returns slots whose mirrors got puts that their owners lacked.
 ///
-/// Costs one pass over the history, and a replay if there are such copies.
+/// Listed slots gave the puts.
+///
+/// Only unfinished copies count. An owner that was down counts as lacking. Costs one pass over the history, and a
+/// replay if there are such copies.
 pub(crate) fn find_ahead(
     alloc: Global,
     approved: &Approved,

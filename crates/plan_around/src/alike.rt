@@ -108,7 +108,7 @@ fn is_stored_alike(a: &World, b: &World, node: NodeId, put: u32, index: u32) -> 
     is_same(mine, theirs)
 }
 
-// Whether both mirrors of a slot that is mirrored in the second, with its last step to come, agree on the put.
+// Whether both mirrors agree on the put. The slot's last step in the second plan is to come.
 fn is_mirrored_alike(a: &World, b: &World, plan: &Plan, put: u32, index: u32) -> bool
     requires same { ring_of b.now ≡ ring_of a.now }
     requires plan { plan_of b.now ≡ plan.now }
@@ -148,7 +148,6 @@ fn is_put_alike(a: &World, b: &World, plan: &Plan, put: u32, slots: u32) -> bool
     true
 }
 
-// Marks the put if it is alike. Returns whether it is.
 fn mark_alike(
     a: &World,
     b: &World,
@@ -174,7 +173,7 @@ fn mark_alike(
     true
 }
 
-// Whether all puts are alike. They are compared in this order, which must have each.
+// The order must have each put.
 fn are_puts_alike(
     alloc: Global,
     ring: &Ring,
@@ -200,7 +199,7 @@ fn are_puts_alike(
     Ok(are_marked(marks.as_slice(), puts))
 }
 
-/// Whether both stores are alike. The second must follow this ring and plan, and `order` must have each put.
+/// Whether both stores are alike. The second follows this ring and plan; `order` has each put.
 ///
 /// Costs a few look-ups for each slot, and for each put and slot of its partition.
 pub(crate) fn are_alike(

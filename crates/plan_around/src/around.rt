@@ -1,4 +1,4 @@
-//! The bundle that goes on around dead nodes.
+//! Makes the bundle that goes on around dead nodes.
 
 ghost use Rattle.std.specs.Prelude.{◌≡◌, ◌≤◌, IfOk, OnOk, length};
 ghost use Rattle.history_text.specs.Replays.{IsReplay};
@@ -24,7 +24,7 @@ use ring_names::{Names, NodeId, Refusal, Slot};
 use ringplan_job::Detour;
 use std::alloc::Global;
 
-// The dead nodes, the racks if known, the slots that stay, and how the plan goes on.
+// The dead nodes, the racks if known, the slots that stay, and how to go on.
 #[derive(Clone, Copy)]
 struct Asked<'a> {
     dead: &'a [NodeId],
@@ -43,7 +43,7 @@ struct Begun<'a> {
     asked: Asked<'a>,
 }
 
-/// Checks that the history is a run of the approved plan.
+/// Checks that the history is a run of the plan.
 pub fn follow(alloc: Global, approved: &Approved, history: &[Entry]) -> Result<(), Refusal>
     requires { length history.now ≤ 1000000 }
     ensures { OnOk result (IsHistory approved.now.ring approved.now.plan history.now) }
@@ -52,7 +52,6 @@ pub fn follow(alloc: Global, approved: &Approved, history: &[Entry]) -> Result<(
     Ok(())
 }
 
-// Why there is no other plan: memory ran out, or none was found.
 fn cause(refusal: Refusal) -> Refusal {
     match refusal {
         Refusal::OutOfMemory => Refusal::OutOfMemory,
@@ -82,7 +81,7 @@ fn find(it: &Begun, reach: Reach) -> Result<Around, Refusal> {
     find_around(task_of(it, ahead.as_slice()), reach)
 }
 
-// Reports named slots that no remaining step moves. Returns whether there are any.
+// Returns whether no remaining step moves some named slot. Reports these.
 fn push_unmoved(it: &Begun, words: &mut Words) -> Result<bool, Refusal> {
     let unmoved = find_unmoved(&task_of(it, &[]))?;
     if !unmoved.is_empty() {
@@ -98,7 +97,7 @@ fn push_unmoved(it: &Begun, words: &mut Words) -> Result<bool, Refusal> {
     Ok(!unmoved.is_empty())
 }
 
-// The text that goes on by the plan found. An unchanged plan keeps its certificate; otherwise one is found.
+// An unchanged plan keeps its certificate.
 fn go_by(it: &Begun, before: &World, found: Around) -> Result<Vec<u8>, Refusal>
     requires { IsAfter it.now.approved.now.ring it.now.approved.now.plan it.now.history.now before.now }
     ensures { IfOk result (λ v. GoesAround it.now.asked.detour.extent it.now.asked.detour.back it.now.approved.now.ring it.now.asked.dead.now it.now.asked.left.now
@@ -134,7 +133,7 @@ fn go_by(it: &Begun, before: &World, found: Around) -> Result<Vec<u8>, Refusal>
     go_on(it.alloc, plan, &going, before)
 }
 
-// The bundle found with this reach. Adds what becomes of slots and nodes.
+// Reports on slots and nodes.
 fn go_so_far(
     it: &Begun,
     before: &World,
@@ -160,7 +159,7 @@ fn is_none(outcome: &Result<Vec<u8>, Refusal>) -> bool {
     }
 }
 
-// The bundle found with the greatest reach that succeeds. Adds what becomes of slots and nodes.
+// Tries the greatest reach that succeeds.
 fn go_around(it: &Begun, before: &World, words: &mut Words) -> Result<Vec<u8>, Refusal>
     requires { IsAfter it.now.approved.now.ring it.now.approved.now.plan it.now.history.now before.now }
     ensures { IfOk result (λ v. GoesAround it.now.asked.detour.extent it.now.asked.detour.back it.now.approved.now.ring it.now.asked.dead.now it.now.asked.left.now
@@ -206,7 +205,7 @@ fn go_by_chosen(it: &Begun, before: &World, chosen: Chosen) -> Result<Vec<u8>, R
     go_on(it.alloc, plan, &going, before)
 }
 
-// The bundle that goes on by the chosen plan, or by one that is found.
+// Goes on by the chosen plan, or by one that is found.
 fn go_by_any(
     it: &Begun,
     before: &World,
@@ -303,27 +302,26 @@ fn asked_for<'a>(
     }
 }
 
-/// Makes the bundle that continues a stopped one, around the options' dead nodes. It has the ring, another
-/// plan, a certificate, and the history by that plan.
+/// Makes the bundle that continues a stopped one around dead nodes.
 ///
-/// Executors find what they hold of a step by its kind, partition, slot and node.
+/// It has the ring, another plan, a certificate, and the history by that plan. Executors find what they hold of a step
+/// by its kind, partition, slot and node.
 ///
-/// Named slots stay with their owners, or go to their mirrors if a copy has all chunks. Other mirrors are
-/// undone only if the detour allows it.
+/// Named slots stay with their owners, or go to mirrors to which a copy gave all chunks. Other mirrors are undone only
+/// if the detour allows it.
 ///
-/// If a second bundle follows, without a history, its plan is used. Adds to `words` what becomes of slots and
+/// Uses the plan of a second bundle, without a history, if one follows. Adds to `words` what becomes of slots and
 /// nodes, or at `NoPlan` why.
 ///
-/// Fails with the first fault of the texts. Fails with `UnknownNode(0)` for a name that the ring does not
-/// declare, or a member without a rack if racks are known.
+/// Fails with the first fault of the texts. Fails with `UnknownNode(0)` for an undeclared name, or for a member without
+/// a rack if racks are known.
 ///
-/// Fails with `TooLarge` and the layout's line for an unknown partition. Fails with the checker's refusal, and
-/// with a history's if it is not a run.
+/// Fails with `TooLarge` and the layout's line for an unknown partition, with the checker's refusal, and with a
+/// history's if it is not a run.
 ///
-/// Fails with `NoPlan` if no remaining step moves a named slot. Also fails so if the history cannot go on by
-/// the found or chosen plan.
+/// Fails with `NoPlan` if no remaining step moves a named slot, or if the history cannot go on.
 ///
-/// Costs about `check` and `replay` of both bundles, and the same for each plan that the checker refuses, at most two.
+/// Costs about `check` and `replay` of both bundles, and again for each plan that the checker refuses, at most two.
 pub fn around_bundle(
     alloc: Global,
     bytes: &[u8],

@@ -1,4 +1,4 @@
-//! A plan that stopped, and the plan chosen to go on by.
+//! Reads a stopped plan, and the plan chosen to go on by.
 
 ghost use Rattle.std.specs.Prelude.{◌≡◌, IfOk, IfSome, Ok};
 ghost use Rattle.texts.specs.Judging.{map_ok};
@@ -14,7 +14,7 @@ use ring_table::{Ring, read_ring_section};
 use std::alloc::Global;
 use texts::Lines;
 
-/// A plan of the previous ring, its certificate, and the ring that it names.
+/// A previous ring's plan, its certificate, and the ring it names.
 #[derive(Drop)]
 pub(crate) struct Chosen {
     pub(crate) ring: Ring,
@@ -67,7 +67,7 @@ fn read_parts(alloc: Global, lines: &mut Lines) -> Result<Halted, Refusal>
     Ok(Halted { replay, chosen })
 }
 
-/// Reads a bundle with a history, and perhaps one without: the plan chosen to go on by.
+/// Reads a bundle with a history, and the chosen plan, if any.
 pub(crate) fn read_halted(alloc: Global, bytes: &[u8]) -> Result<Halted, Refusal>
     ensures read { IfOk result (λ v. whole_text halted_at bytes.now ≡ Ok (halted_of v)) }
     ensures replay { IfOk result (λ v. IsReplay v.replay) }

@@ -1,4 +1,4 @@
-//! The puts of a history, by the place of their keys.
+//! A history's puts by chunk.
 
 use plan_runs::{Entry, Event, Reply};
 use ring_names::Refusal;
@@ -40,7 +40,7 @@ impl PutsByChunk {
         Ok(())
     }
 
-    /// The puts of the chunk, ascending.
+    /// Returns the chunk's puts, ascending.
     pub(crate) fn of(&self, chunk: Chunk) -> &[u32] {
         match self.puts.get(&chunk) {
             Some(puts) => puts.as_slice(),
@@ -48,7 +48,7 @@ impl PutsByChunk {
         }
     }
 
-    /// All puts, chunk by chunk.
+    /// Returns all puts, chunk by chunk.
     pub(crate) fn in_order(&self) -> Result<Vec<u32>, Refusal> {
         let mut order = Vec::new(self.alloc);
         for puts in self.puts.values() {

@@ -1,4 +1,4 @@
-//! Checks that a plan ends where it should, in place of another one.
+//! Checks that a plan ends where the replaced one should.
 
 ghost use Rattle.std.specs.Prelude.{◌≡◌, ◌⊎◌, ℕ, ◌<◌, ◌||◌, true, false, length, Some, slice_get, IsTrue, IfOk};
 ghost use Rattle.std.specs.List.{list_any};
@@ -35,7 +35,6 @@ use ring_table::Ring;
 use ringplan_job::Extent;
 use std::alloc::Global;
 
-/// A plan, the store in which it stopped, another plan in its place, and what is asked of that.
 #[derive(Clone, Copy)]
 pub(crate) struct Endings<'a> {
     pub(crate) ring: &'a Ring,
@@ -48,7 +47,7 @@ pub(crate) struct Endings<'a> {
     pub(crate) extent: Extent,
 }
 
-// The final owners of both plans, the partitions with hints on dead nodes, and those with slots that stay.
+// Both plans' final owners, and the partitions with hints on dead nodes or slots that stay.
 #[derive(Drop)]
 struct Ended<'a> {
     dead: Dead<'a>,
@@ -149,7 +148,6 @@ fn left_in(alloc: Global, it: &Endings) -> Result<Vec<bool>, Refusal>
     Ok(marks)
 }
 
-// Whether the slots of the partition may end elsewhere.
 fn is_excused(it: &Endings, ended: &Ended, partition: u32) -> bool
     requires { AreEnds it.now ended.now }
     ensures { IsTrue result → (w : TheWorld) → Meets it.now.before.now w
@@ -168,7 +166,7 @@ fn is_excused(it: &Endings, ended: &Ended, partition: u32) -> bool
     is_flagged(ended.left.as_slice(), partition as usize)
 }
 
-// Whether the node mirrors the slot now, or owns it and may stay its owner.
+// Whether the node mirrors the slot now, or is an owner that may stay.
 fn serves(before: &World, back: Back, slot: Slot, node: NodeId) -> bool
     requires { is_ring_slot (ring_of before.now) slot ≡ true }
     ensures { IsTrue result → (w : TheWorld) → Meets before.now w
@@ -248,7 +246,7 @@ fn is_unswitched_at(before: &World, plan: &Plan, slot: Slot, place: usize) -> bo
     }
 }
 
-// Whether the slot's switches from this place of its steps on are to come.
+// Whether the slot's switches from this place on are to come.
 fn are_to_come(before: &World, plan: &Plan, slot: Slot, place: usize) -> bool
     ensures { IsTrue result → (w : TheWorld) → Meets before.now w → AreToCome plan.now w slot place }
 {
@@ -261,7 +259,7 @@ fn are_to_come(before: &World, plan: &Plan, slot: Slot, place: usize) -> bool
     true
 }
 
-// Whether the step at the place is a copy that has given all to the slot's present mirror.
+// Whether this copy has given all to the slot's present mirror.
 fn is_given_at(before: &World, plan: &Plan, slot: Slot, place: usize) -> bool
     ensures { IsTrue result → (w : TheWorld) → Meets before.now w → IsGiven plan.now w slot }
 {
@@ -273,7 +271,6 @@ fn is_given_at(before: &World, plan: &Plan, slot: Slot, place: usize) -> bool
     }
 }
 
-// Whether a copy has given all to the slot's present mirror.
 fn is_given(before: &World, plan: &Plan, slot: Slot) -> bool
     ensures { IsTrue result → (w : TheWorld) → Meets before.now w → IsGiven plan.now w slot }
 {
@@ -285,7 +282,6 @@ fn is_given(before: &World, plan: &Plan, slot: Slot) -> bool
     false
 }
 
-// Whether the node may finally own a slot that is to stay.
 fn may_keep(before: &World, plan: &Plan, slot: Slot, node: NodeId) -> bool
     requires slot { is_ring_slot (ring_of before.now) slot ≡ true }
     requires plan { plan_of before.now ≡ plan.now }
@@ -337,7 +333,6 @@ fn slots_end(it: &Endings, ended: &Ended) -> bool
     true
 }
 
-// Whether the slot ends with a node that may keep it.
 fn slot_stays(it: &Endings, ended: &Ended, slot: Slot) -> bool
     requires { AreEnds it.now ended.now }
     ensures { IsTrue result → SlotStays it.now slot }
@@ -415,7 +410,7 @@ fn mark_keepers(it: &Endings, marks: &mut Vec<bool>)
     }
 }
 
-// The nodes that may hold something after the new plan.
+// Returns the nodes that may hold something after the new plan.
 fn holders(alloc: Global, it: &Endings, ended: &Ended) -> Result<Vec<bool>, Refusal>
     requires { AreEnds it.now ended.now }
     ensures { IfOk result (λ marks. HoldsIn it.now marks.items) }
@@ -436,7 +431,6 @@ fn is_member_after(ring: &Ring, plan: &Plan, node: NodeId) -> bool
     (ring.is_member(node) || plan.is_joined(node)) && !plan.is_retired(node)
 }
 
-// Whether the node ends as it should: as a member or not.
 fn node_ends(it: &Endings, ended: &Ended, holders: &[bool], node: NodeId) -> bool
     requires ended { AreEnds it.now ended.now }
     requires holders { HoldsIn it.now holders.now }
@@ -459,7 +453,6 @@ fn nodes_end(it: &Endings, ended: &Ended, holders: &[bool]) -> bool
     requires holders { HoldsIn it.now holders.now }
     ensures { IsTrue result → (x : ℕ) → x < length it.now.ring.now.nodes → NodeEnds it.now x }
 {
-    // A ring has few nodes.
     let count = it.ring.nodes().len() as u32;
     for node in 0..count {
         if !node_ends(it, ended, holders, NodeId(node)) {
@@ -469,7 +462,7 @@ fn nodes_end(it: &Endings, ended: &Ended, holders: &[bool]) -> bool
     true
 }
 
-/// Whether the new plan ends where it should, from any world of the store. Costs a pass over each plan and over the hints.
+/// Whether the new plan ends where it should. Costs a pass over both plans and the hints.
 pub(crate) fn ends_well(alloc: Global, it: &Endings) -> Result<bool, Refusal>
     requires old { Suits it.now.ring.now it.now.old.now }
     requires new { Suits it.now.ring.now it.now.new.now }

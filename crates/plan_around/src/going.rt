@@ -1,4 +1,4 @@
-//! Checks that a plan and a history go on around dead nodes, and writes them.
+//! Checks and writes a plan and a history that go on around dead nodes.
 
 ghost use Rattle.std.specs.Prelude.{◌≡◌, ◌++◌, IsTrue, IfOk, OnOk};
 ghost use Rattle.plan_text.specs.Valid.{Suits as PlanSuits};
@@ -32,7 +32,6 @@ use ring_table::Ring;
 use ringplan_job::Extent;
 use std::alloc::Global;
 
-// The most entries of a history.
 const MOST: usize = 1_000_000;
 
 pub(crate) fn accepted(
@@ -52,7 +51,7 @@ pub(crate) fn accepted(
     }
 }
 
-// Whether the history ends in a store like the one before, and the rest involves no dead node.
+// Whether the store ends like the one before, and the rest involves no dead node.
 fn runs_on(
     alloc: Global,
     approved: &Approved,
@@ -83,7 +82,7 @@ fn runs_on(
     are_apart(alloc, store, ring, plan, it.dead)
 }
 
-// The text of the history, if it goes on by the plan, or `NoPlan`.
+// Fails with `NoPlan` if the history does not go on.
 fn history_on(
     alloc: Global,
     approved: &Approved,
@@ -117,7 +116,7 @@ fn followed(text: Vec<u8>, more: &[u8]) -> Result<Vec<u8>, Refusal>
     Ok(text)
 }
 
-/// A plan that has begun, and the numbers of its steps in another one.
+/// A begun plan, and its steps' numbers in another one.
 #[derive(Clone, Copy)]
 pub(crate) struct Going<'a> {
     pub(crate) old: &'a Approved,
@@ -127,11 +126,10 @@ pub(crate) struct Going<'a> {
     pub(crate) left: &'a [Slot],
     pub(crate) back: Back,
     pub(crate) extent: Extent,
-    /// By step of the old plan, its number in the new one; none if entries are left out.
+    /// The new number of each old step. None if entries are omitted.
     pub(crate) numbers: &'a [Option<u32>],
-    /// By step of the new plan, its number in the old one.
+    /// The old number of each new step.
     pub(crate) olds: &'a [u32],
-    /// The new plan's certificate.
     pub(crate) cert: &'a Cert,
 }
 
@@ -160,7 +158,7 @@ fn tells_past(
     is_same_past(alloc, &plans, it.history, &Told { entries, counts })
 }
 
-// The history by the new plan, and its store. Fails with `NoPlan` if it does not match the old one.
+// Fails with `NoPlan` if the histories do not match.
 fn past<'a>(alloc: Global, it: &Going, new: &'a Approved) -> Result<Retold<'a>, Refusal>
     ensures past { IfOk result (λ v. IsSamePast (back_with it.now.left.now it.now.back) it.now.old.now.plan new.now.plan it.now.history.now v.led.entries.items) }
     ensures led { IfOk result (λ v. IsLed new.now.ring new.now.plan v.led) }
@@ -173,7 +171,6 @@ fn past<'a>(alloc: Global, it: &Going, new: &'a Approved) -> Result<Retold<'a>, 
     Ok(told)
 }
 
-// Checks that the new plan ends where it should, or fails with `NoPlan`.
 fn ask_ends(alloc: Global, it: &Going, before: &World, new: &Approved) -> Result<(), Refusal>
     requires same { new.now.ring ≡ it.now.old.now.ring }
     requires ring { ring_of before.now ≡ it.now.old.now.ring }
@@ -197,11 +194,12 @@ fn ask_ends(alloc: Global, it: &Going, before: &World, new: &Approved) -> Result
     Err(Refusal::NoPlan)
 }
 
-/// Returns the whole text, if the checker accepts the new plan and the history goes on by it. The new store
-/// must be like the old one.
+/// Returns the text that goes on by the plan.
 ///
-/// Fails with `NoPlan` if plan or certificate are not the ring's, or the plan ends elsewhere or involves a dead
-/// node. Also fails so if histories or stores differ.
+/// The checker must accept the plan, and the stores be alike.
+///
+/// Fails with `NoPlan` if plan or certificate are not the ring's, the plan ends elsewhere or involves a dead node, or
+/// histories or stores differ.
 ///
 /// Otherwise fails as the checker or the new store does.
 pub(crate) fn go_on(

@@ -1,4 +1,4 @@
-//! A store, and the history that leads to it.
+//! A store with its history.
 
 ghost use Rattle.std.specs.Prelude.{IfOk, OnOk};
 ghost use Rattle.plan_around.specs.Led.{GoesFarther, IsLed};

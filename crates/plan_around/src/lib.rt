@@ -1,4 +1,4 @@
-//! Another plan around nodes that died in the middle of a change. The checker accepts it, and the history goes on by it.
+//! Plans around nodes that died during a change. The checker accepts them, and the history goes on by them.
 #![tactic(auto)]
 
 mod ahead;

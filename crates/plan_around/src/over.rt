@@ -47,7 +47,6 @@ fn is_closed_to(store: &World, event: &Event) -> bool
     }
 }
 
-// Whether the copy is open, with all its chunks marked.
 fn is_whole(store: &World, number: u32) -> bool
     ensures { IsTrue result → (w : TheWorld) → Meets store.now w → is_whole w number ≡ true }
 {
@@ -80,7 +79,7 @@ pub(crate) fn is_to_come(store: &World, number: u32) -> bool
     }
 }
 
-/// Whether the step is done, or an open copy with all its chunks marked.
+/// Whether the step is done, or open with all chunks marked.
 pub(crate) fn is_over(store: &World, step: &Step, number: u32) -> bool
     ensures { IsTrue result → (w : TheWorld) → Meets store.now w → (w.done number || is_whole w number) ≡ true }
 {

@@ -1,5 +1,6 @@
-//! Runs the history by another plan: the new store gives the replies. A chunk that is left out becomes writes of what
-//! it gave, since the slots that it reads hold the same by both plans.
+//! Runs the history by another plan, whose store gives the replies.
+//!
+//! An omitted chunk becomes writes of what it gave, since the slots that it reads hold the same by both plans.
 
 ghost use Rattle.std.specs.Prelude.{IfOk, OnOk};
 ghost use Rattle.plan_around.specs.Led.{GoesFarther, IsLed};
@@ -19,7 +20,7 @@ use std::alloc::Global;
 #[derive(Drop)]
 pub(crate) struct Retold<'a> {
     pub(crate) led: Led<'a>,
-    /// By entry of the old history, the number of its entries in the new one.
+    /// How many new entries each old one has.
     pub(crate) counts: Vec<u32>,
     /// All puts, chunk by chunk.
     pub(crate) order: Vec<u32>,
@@ -73,7 +74,7 @@ impl Retelling<'_, '_> {
         Ok(())
     }
 
-    // Applies the event by the new plan, or what replaces it. Returns the number of entries.
+    // Applies the event, or what replaces it. Returns the number of entries.
     fn tell_event(&mut self, event: &Event) -> Result<u32, Refusal>
         ensures { OnOk result (GoesFarther self.old.led self.new.led) }
     {
@@ -86,7 +87,7 @@ impl Retelling<'_, '_> {
         }
     }
 
-    // Applies what replaces an event that is left out. Returns the number of entries.
+    // Applies what replaces an omitted event. Returns the number of entries.
     fn tell_by_writes(&mut self, event: &Event) -> Result<u32, Refusal>
         ensures { OnOk result (GoesFarther self.old.led self.new.led) }
     {
@@ -103,7 +104,7 @@ impl Retelling<'_, '_> {
         self.write_latest(&it, given.as_slice())
     }
 
-    // The puts that the chunk gives and the mirror lacks, ascending. None if the slot's owner lacks one or is down.
+    // Returns the chunk's puts that the mirror lacks, ascending. None if the owner lacks one or is down.
     fn given(&self, it: &Mirrored, source: &Source, chunk: Chunk) -> Result<Vec<u32>, Refusal> {
         let store = &self.led.store;
         let mut given = Vec::new(self.alloc);
@@ -118,7 +119,7 @@ impl Retelling<'_, '_> {
         Ok(given)
     }
 
-    // Writes the newest of the puts: a put has a greater number than those that it succeeds. Returns how many.
+    // Writes the newest of the puts, and returns how many. A put has a greater number than those it succeeds.
     fn write_latest(&mut self, it: &Mirrored, given: &[u32]) -> Result<u32, Refusal>
         ensures { OnOk result (GoesFarther self.old.led self.new.led) }
     {
@@ -144,9 +145,9 @@ impl Retelling<'_, '_> {
 
 /// Runs the old history by the new plan. Fails as the new store does.
 ///
-/// Costs one run of the new plan, and for each chunk left out a look-up for each put of its keys.
+/// An omitted chunk becomes writes, if the slot is still mirrored and its owner has all puts.
 ///
-/// A chunk that is left out becomes writes, if the slot is still mirrored and its owner has all puts.
+/// Costs one run, and for each omitted chunk a look-up for each put of its keys.
 pub(crate) fn retell<'a>(
     alloc: Global,
     old: &Approved,

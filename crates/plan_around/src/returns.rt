@@ -8,7 +8,7 @@ use plan_runs::Back;
 use ring_names::{Refusal, Slot};
 use std::alloc::Global;
 
-/// Whether mirrors may be undone, and the slots that stay, whose mirrors may be in any case.
+/// Whether mirrors may be undone. Those of the slots that stay always may.
 #[derive(Drop)]
 pub(crate) struct Returns<'a> {
     pub(crate) back: Back,

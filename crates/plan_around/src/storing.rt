@@ -1,4 +1,4 @@
-//! Queries on a store in the middle of a history.
+//! Queries on a store during a history.
 
 ghost use Rattle.std.specs.Prelude.{◌≡◌, true, IfOk, IsTrue, Some};
 ghost use Rattle.plan_text.specs.Valid.{is_ring_slot};
@@ -66,7 +66,7 @@ pub(crate) fn happen(store: &mut World, event: &Event) -> Result<Reply, Refusal>
     Err(Refusal::NoPlan)
 }
 
-/// Whether the node stores the put, or one that succeeds it, for the slot of the index.
+/// Whether the node stores the put, or a successor, for this slot.
 pub(crate) fn has_put(store: &World, node: NodeId, put: u32, index: u32) -> bool {
     put < store.puts() && store.is_stored(node, put, index)
 }
@@ -77,7 +77,9 @@ impl Mirrored {
         Slot { partition, index }
     }
 
-    /// Whether a write of the put changes at most the mirror: the owner has it or a successor, and both are up.
+    /// Whether writing the put changes at most the mirror.
+    ///
+    /// Then the owner has it or a successor, and both nodes are up.
     pub(crate) fn can_write(&self, store: &World, put: u32) -> bool {
         let index = self.slot.index;
         has_put(store, self.owner, put, index) && store.allows(&Event::Write(put, index)).is_ok()
