@@ -1,4 +1,4 @@
-//! What a terminal shows after a one-line refusal.
+//! Advises a terminal after a one-line refusal.
 
 ghost use Rattle.std.specs.Prelude.{map};
 ghost use Rattle.ringplan_command.specs.Command.{asked};
@@ -17,11 +17,10 @@ use std::thread::Threads;
 
 const WHY: &[u8; 39] = b"ringplan: `ringplan why FILE` says why\n";
 
-// The advice after a refused replay.
 const WHY_REPLAY: &[u8; 70] =
     b"ringplan: `ringplan why FILE` says why; `replay` also wants a history\n";
 
-// The advice after a one-line refusal that `why` can explain.
+// Returns the advice if `why` can explain the refusal.
 fn advice_of(request: &Request) -> Option<&'static [u8]> {
     match request {
         Request::Do(Job::Check | Job::Plan | Job::Migrate) | Request::CheckBy(_) => Some(WHY),

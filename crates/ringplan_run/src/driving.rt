@@ -29,7 +29,7 @@ struct Named<'a> {
     writers: &'a Names,
 }
 
-// Writes `yes` and the history. Its names are known from the scripts, but the text needs the check again.
+// Writes `yes` and the history. The scripts declare its names, but the text needs the check again.
 fn write_run(named: &Named, outcome: &Outcome) -> Result<Vec<u8>, Refusal>
     ensures text { IfOk result (λ v. v.items ≡ outcome_text named.now.approved.now.ring named.now.writers.now outcome.now.history.items outcome.now.finishers.items 0 Form.History) }
     ensures err { IfErr result IsFault }
@@ -61,7 +61,6 @@ fn write_outcome(
     }
 }
 
-// Drives the plan with a client for each script. Returns the text, or why it broke off.
 fn drive_approved<RT: Threads + Wait + Sync>(
     rt: &RT,
     named: &Named,
@@ -113,13 +112,15 @@ fn drive_checked<RT: Threads + Wait + Sync>(
     }
 }
 
-/// Drives a bundle with 1 to 8 scripts, and returns the outcome's text, if the checker accepts the plan.
+/// Drives a bundle with 1 to 8 scripts. Returns the outcome's text.
+///
+/// The checker must accept the plan.
 ///
 /// Fails with the first fault of the texts, then the checker's first refusal, then why the drive broke off.
 ///
 /// `OutOfMemory` comes only after the ring's first four lines, if memory or a thread was refused.
 ///
-/// Waits for its threads. Leaves the memory of history and receipts to the system, since the program ends then.
+/// Waits for its threads. Does not free the history and receipts, since the program ends then.
 pub fn drive_bundle<RT: Threads + Wait + Sync>(
     rt: &RT,
     alloc: Global,

@@ -16,11 +16,10 @@ use std::{fmt, fs, io};
 pub(crate) enum Limit {
     /// At most `MAX_INPUT` bytes, since it is read whole.
     Whole,
-    /// Any length.
     Endless,
 }
 
-/// A text for a terminal. Control characters other than newlines become question marks.
+/// A terminal's text, with question marks for control characters except newlines.
 #[derive(Clone, Copy)]
 pub(crate) struct Harmless<'a> {
     pub(crate) text: &'a str,
@@ -36,7 +35,7 @@ impl<'a> Display for Harmless<'a> {
     }
 }
 
-/// Writes the text to standard error. Bytes that are not text are left out, and control characters become question marks.
+/// Writes to standard error. Omits invalid UTF-8; control characters become question marks.
 pub(crate) fn say<RT: Eprint>(rt: &RT, text: &[u8]) {
     for chunk in text.utf8_chunks() {
         let _ = rt.eprint(Harmless {
@@ -50,8 +49,7 @@ fn say_of<RT: Eprint, D: Display>(rt: &RT, name: &str, fault: &D) {
     let _ = eprint!(rt; "ringplan: {name}: {fault}\n");
 }
 
-/// Opens a file to read. On failure says why on standard error, and returns the exit status: 2 if the file is too long,
-/// otherwise 3.
+/// Opens a file to read. On failure says why, and returns the exit status: 2 if too long, otherwise 3.
 pub(crate) fn open<RT: Files + Eprint>(rt: &RT, name: &str, limit: Limit) -> Result<RT::File, u8>
     ensures { IfErr result (λ status. (status ≡ 2) ⊎ (status ≡ 3)) }
 {
@@ -64,7 +62,7 @@ pub(crate) fn open<RT: Files + Eprint>(rt: &RT, name: &str, limit: Limit) -> Res
     }
 }
 
-// The file, if it is not a directory and within the limit.
+// Refuses a directory, and a file that is too long.
 fn sized<RT: Files + Eprint>(
     rt: &RT,
     name: &str,
@@ -88,13 +86,12 @@ fn sized<RT: Files + Eprint>(
     Ok(file)
 }
 
-// The most links to follow, as in Linux.
+// As in Linux.
 const MOST_LINKS: u32 = 40;
 
-// The most names tried for a temporary file.
 const MOST_BESIDE: u32 = 1_000;
 
-// The path that the links lead to, whether or not a file is there.
+// Follows the links, whether or not they lead to a file.
 #[inline(never)]
 fn end_of_links<RT: Files + AllocGlobal>(rt: &RT, name: &str) -> io::Result<PathBuf> {
     let mut path = PathBuf::from_str(rt.alloc(), name)?;
@@ -111,7 +108,7 @@ fn end_of_links<RT: Files + AllocGlobal>(rt: &RT, name: &str) -> io::Result<Path
     Ok(path)
 }
 
-// Creates a file of a new name. A replacement is for its owner only, until it gets the old file's permissions.
+// Creates a file of a new name. A replacement is private until it gets the old file's permissions.
 fn create_beside<RT: Files>(
     rt: &RT,
     beside: &str,
@@ -125,7 +122,7 @@ fn create_beside<RT: Files>(
     options.open(rt, beside)
 }
 
-// Writes the text to a new file and syncs it to the disk, with these permissions if any.
+// Writes and syncs a new file, with these permissions if any.
 fn write_new<F: OpenFile + Write>(
     file: &mut F,
     permissions: Option<Permissions>,
@@ -138,7 +135,7 @@ fn write_new<F: OpenFile + Write>(
     file.sync_all()
 }
 
-// Writes the text to the new file, and renames it to the path. On failure removes the new file.
+// Writes the new file, and renames it to the path. On failure removes it.
 fn take_place<RT: Files>(
     rt: &RT,
     beside: &str,
@@ -158,7 +155,7 @@ fn take_place<RT: Files>(
     done
 }
 
-// Replaces the file atomically. The temporary name is unused: `PATH.1.part`, or that of the next number.
+// Replaces the file atomically. Uses the first free temporary name of `PATH.1.part`, `PATH.2.part` ..
 fn exchange<RT: Files + AllocGlobal>(
     rt: &RT,
     path: &str,
@@ -178,8 +175,9 @@ fn exchange<RT: Files + AllocGlobal>(
     Err(io::Error::from(ErrorKind::AlreadyExists))
 }
 
-// Replaces the file atomically, so that it has all of the text or what it had. Links and permissions stay. Anything but
-// a plain file, such as a terminal, is written directly.
+// Replaces the file atomically: it has all of the text or what it had. Links and permissions stay.
+//
+// Writes directly to anything but a plain file, such as a terminal.
 #[inline(never)]
 fn replace<RT: Files + AllocGlobal>(rt: &RT, name: &str, text: &[u8]) -> io::Result<()> {
     let permissions = match fs::metadata(rt, name) {
@@ -195,8 +193,7 @@ fn replace<RT: Files + AllocGlobal>(rt: &RT, name: &str, text: &[u8]) -> io::Res
     exchange(rt, path.as_path().as_str(), permissions, text)
 }
 
-/// Writes the whole text to the file, or nothing. Returns the text's exit status, or 3 if the write fails, which is
-/// said on standard error.
+/// Writes the whole text to the file, or nothing. Returns the text's exit status; on failure says so, and returns 3.
 pub(crate) fn save<RT: Files + Eprint + AllocGlobal>(
     rt: &RT,
     name: &str,

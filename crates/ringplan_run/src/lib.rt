@@ -1,4 +1,4 @@
-//! The program over any input and output: from the command line and a bundle to what is printed and the exit status.
+//! The program over any input and output, from the command line to the exit status.
 #![tactic(auto)]
 
 mod advice;

@@ -14,14 +14,13 @@ use ringplan_jobs::{MAX_INPUT, status_of};
 use std::io::{Read, Write};
 use texts::Fields;
 
-// How many times more parts would be small enough: at least twice.
+// Returns how many times more parts would be small enough, at least 2.
 fn times(many: u64, most: u64) -> u64 {
     (many.saturating_sub(1) / most.max(1))
         .saturating_add(1)
         .max(2)
 }
 
-// When more parts do not help.
 const UNLESS: &str =
     ", unless one partition or what each part has, steps and outages, is too much\n";
 
@@ -60,7 +59,7 @@ fn say_none<RT: Eprint>(rt: &RT, choice: Choice, none: &NoPart) {
     }
 }
 
-// The number of partitions of the ring, from the text's second line.
+// Reads the ring's number of partitions, in the second line.
 fn partitions_of(text: &[u8]) -> Option<u64> {
     let mut lines = text.split(|byte| *byte == b'\n');
     let _ = lines.next()?;
@@ -69,7 +68,7 @@ fn partitions_of(text: &[u8]) -> Option<u64> {
     fields.value()
 }
 
-// Says that a named partition is not in the part's ring.
+// Says that a named partition is not in the ring.
 fn say_beyond<RT: Eprint>(rt: &RT, choice: Choice, part: &Part) {
     let Choice::Range { last, .. } = choice else {
         return;
@@ -108,7 +107,7 @@ fn print_cut<RT: AllocGlobal + Eprint, W: Write>(
     }
 }
 
-/// Reads a whole bundle, and prints the wanted part or an entry's place. Says on standard error why nothing is printed.
+/// Prints the wanted part of a bundle, or an entry's place. On failure says why.
 pub(crate) fn print_part<RT: AllocGlobal + Eprint, R: Read + Drop, W: Write>(
     rt: &RT,
     wish: PartWish,

@@ -1,4 +1,4 @@
-//! The program, over any input and any output.
+//! The program.
 
 ghost use Rattle.std.specs.Prelude.{◌≡◌, ◌≢◌, ◌<◌, ◌≤◌, ◌∷◌, true, false, Err, ℕ, List, [], IfOk, drop, map, option_map, string_bytes};
 ghost use Rattle.ring_names.specs.Refusals.{line_of};
@@ -38,32 +38,29 @@ use std::thread::Threads;
 // The line for lack of memory, which needs none.
 pub(crate) const NO_MEMORY: &[u8; 6] = b"no 60\n";
 
-// The exit status if memory, the input or the output failed.
 pub(crate) const FAILED: u8 = 3;
 
-// The exit status if the command line is refused.
 pub(crate) const REFUSED: u8 = 2;
 
-// The exit status of a plan with steps, if asked for.
 const STEPS: u8 = 4;
 
-/// Runs a command line, whose first word is the program's name, and returns the exit status:
+/// Runs a command line, from the program's name on. Returns the exit status:
 ///
 /// - 0 for what was printed, yes and help.
-/// - 1 for a plan that is refused or does not exist, a drive that broke off, and a history that is not a run.
-/// - 2 for a text or command line that is refused.
+/// - 1 for a refused or missing plan, a drive that broke off, and a history that is not a run.
+/// - 2 for a refused text or command line.
 /// - 3 if memory, an input or an output failed.
 /// - 4 for a plan with steps if `goal --exit-code` asks for that.
 ///
 /// `plan`, `check`, `play`, `drive`, `replay` and `migrate` print refusals of a bundle on the output, other commands on
 /// standard error. Faults of a command line go to standard error.
 ///
-/// Words for people have colours if the screen has them or the line says so. Named files are read one after the
-/// other instead of the input, which `-` names.
+/// Words for people have colours if the screen or the line says so. Named files are read in order instead of the input,
+/// which `-` names.
 ///
-/// With `-o`, what would be printed with status 0 or 4 is written to the file.
+/// With `-o`, writes what would be printed with status 0 or 4 to the file.
 ///
-/// Waits for the threads of `drive` and `check --workers`; other jobs are done by `run_alone`.
+/// Waits for the threads of `drive` and `check --workers`; `run_alone` does other jobs.
 pub fn run<
     RT: AllocGlobal + Files + Eprint + Threads + Wait + Sync,
     S: AsStr,
@@ -72,7 +69,6 @@ pub fn run<
 >(rt: &RT, screen: Screen, words: &[S], input: &mut R, output: &mut W) -> u8
     ensures line { RunsLine (asked (map S.text words.now)) (files_of (map S.text words.now)) (R.remaining input.old) (R.remaining input.new)
         (W.contents output.old) (W.contents output.new) result }
-    // Only the word `check` asks for the check, and only `migrate` for the migration.
     ensures job { (job : Job) → drop 1 (map S.text words.now) ≡ word_of job ∷ []
         → (bytes : List ℕ) × Tells (R.remaining input.old) bytes
         × Runs (only job) no_files bytes (W.contents output.old) (W.contents output.new) result }
@@ -102,7 +98,6 @@ fn limit_of(request: &Request) -> Limit {
     }
 }
 
-// A text in a named file is plain.
 fn seen_on(screen: Screen, target: &Option<String>) -> Screen {
     match target {
         None => screen,
@@ -110,7 +105,7 @@ fn seen_on(screen: Screen, target: &Option<String>) -> Screen {
     }
 }
 
-// Does the request with the whole input. Prints the result, or writes it to the target.
+// Prints the result, or writes it to the target.
 fn run_to<RT: AllocGlobal + Files + Eprint + Threads + Wait + Sync, R: Read + Drop, W: Write>(
     rt: &RT,
     request: Request,
@@ -135,7 +130,6 @@ fn run_to<RT: AllocGlobal + Files + Eprint + Threads + Wait + Sync, R: Read + Dr
     }
 }
 
-// Whether a text with this status is written to the named file.
 fn is_written(status: u8) -> bool
     ensures { result ≡ true → IsWritten status }
 {
@@ -201,7 +195,7 @@ fn run_making<RT: AllocGlobal + Files + Eprint, R: Read + Drop, W: Write>(
     }
 }
 
-// Prints the report, or why there is none on standard error. Returns the exit status.
+// Prints the report, or on standard error why there is none.
 fn print_report<RT: AllocGlobal + Eprint, R: Read + Drop, W: Write>(
     rt: &RT,
     making: Making,
@@ -241,7 +235,7 @@ fn report_of<R: Read + Drop>(
     }
 }
 
-/// Does a job with the whole input, prints the result, and returns the exit status, as `run` does. Waits for no thread.
+/// Does a job as `run` does, without waiting for threads.
 pub fn run_alone<R: Read + Drop, W: Write>(
     alloc: Global,
     job: Job,
@@ -255,14 +249,14 @@ pub fn run_alone<R: Read + Drop, W: Write>(
     tell(alloc, found, output)
 }
 
-/// Says that memory ran out, and returns its exit status, 3.
+/// Says that memory ran out, and returns exit status 3.
 pub fn end_without_memory<W: Write>(output: &mut W) -> u8
     ensures { Prints (W.contents output.old) (W.contents output.new) (line_of Refusal.OutOfMemory) 3 result }
 {
     finish(output, NO_MEMORY, FAILED)
 }
 
-/// Says that the words of a command line are not text, and returns its exit status, 2.
+/// Says that a command line is not text. Returns exit status 2.
 pub fn end_without_words<W: Write>(output: &mut W) -> u8
     ensures { Prints (W.contents output.old) (W.contents output.new) NO_WORDS.now 2 result }
 {
@@ -287,7 +281,6 @@ fn lacks_memory(found: &Result<Vec<u8>, Refusal>) -> bool
     }
 }
 
-// Prints the result as JSON, and returns its exit status.
 fn state<W: Write>(alloc: Global, found: Result<Vec<u8>, Refusal>, output: &mut W) -> u8
     ensures { PrintsStated (W.contents output.old) (W.contents output.new) (texts_of found) result }
 {

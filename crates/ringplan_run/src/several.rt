@@ -1,4 +1,4 @@
-//! Files that are read as one text.
+//! Reads files as one text.
 
 ghost use Rattle.std.specs.Prelude.{◌≡◌, ◌⊎◌, IfErr};
 
@@ -8,13 +8,12 @@ use std::io;
 use std::io::Read;
 use std::rt::Files;
 
-/// Files read one after the other, in the order of the command line, with nothing between them. The input may be among them.
+/// Files read in order, with nothing between them. The input may be among them.
 #[derive(Drop)]
 pub(crate) struct Several<'a, F, R> {
-    // None is the input
+    // None is the input.
     parts: Vec<Option<F>>,
     input: &'a mut R,
-    // how many parts have ended
     ended: usize,
 }
 
@@ -44,7 +43,7 @@ impl<'a, F: Read + Drop, R: Read + Drop> Read for Several<'a, F, R> {
     }
 }
 
-/// Opens the files to read one after the other, with `-` for the input. Fails as `open` does.
+/// Opens the files to read in order, with `-` for the input. Fails as `open` does.
 pub(crate) fn open_all<'a, RT: AllocGlobal + Files + Eprint, R: Read + Drop>(
     rt: &RT,
     names: &[String],

@@ -1,4 +1,4 @@
-//! Prints the judgement of a history while it is read.
+//! Judges a history while it is read.
 
 ghost use Rattle.ringplan_run.specs.Watch.{PrintsWatch, PrintsWatchOf};
 
@@ -31,7 +31,7 @@ fn print_by<RT: AllocGlobal, B: Read + Drop, R: Read + Drop, W: Write>(
     }
 }
 
-/// Reads the bundle in the named file, and judges the history on the input. Says on standard error why a file is not read.
+/// Judges the history on the input by the named bundle. On failure says why.
 pub(crate) fn print_watch<RT: AllocGlobal + Files + Eprint, R: Read + Drop, W: Write>(
     rt: &RT,
     names: &[String],
