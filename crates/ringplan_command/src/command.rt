@@ -27,7 +27,7 @@ use ringplan_job::{Job, Making, Screen};
 use std::alloc::{AllocError, Global};
 use std::convert::AsStr;
 
-/// A command line's request, and the files that it names.
+/// A request, and the files that it names.
 #[derive(Debug, Drop)]
 pub struct CommandLine {
     pub request: Request,
@@ -39,24 +39,24 @@ pub struct CommandLine {
 pub enum Request {
     /// Does a job with a bundle.
     Do(Job),
-    /// Checks a bundle with 1 to 64 workers.
+    /// Checks with 1 to 64 workers.
     CheckBy(u32),
-    /// Does a job with a bundle, and prints the answer as JSON.
+    /// Does a job, and answers in JSON.
     State(Job),
-    /// Checks a bundle with 1 to 64 workers, and prints the answer as JSON.
+    /// Checks with 1 to 64 workers, and answers in JSON.
     StateBy(u32),
-    /// Cuts a bundle's history, of any length, to a part.
+    /// Cuts a history, of any length, to a part.
     Part(PartWish),
-    /// Judges a history while it is read, by the bundle in the named file. Prints its progress after every so many
-    /// entries, unless 0.
+    /// Judges a history while it is read, by the named bundle. Prints its progress after every so many entries, unless
+    /// 0.
     Watch(u32),
-    /// Runs a bundle's plan with 1 to 64 workers and a client for each script, and prints the outcome.
+    /// Runs a plan with 1 to 64 workers and the scripts' clients.
     Drive(u32, Form),
-    /// Makes something for people from a bundle, given options on nodes and partitions.
+    /// Makes something for people, given options on nodes and partitions.
     Make(Making, Options),
     /// Prints this text about the program.
     Describe(Vec<u8>),
-    /// Prints this text of help, or the version.
+    /// Prints this help, or the version.
     Help(Vec<u8>),
     /// Prints this fault of the command line on standard error.
     Mistaken(Vec<u8>),
@@ -64,7 +64,6 @@ pub enum Request {
     OutOfMemory,
 }
 
-// Decides when the making's words have colours on the screen.
 fn painted(making: Making, screen: Screen) -> Making
     ensures word { word_of_making result ≡ word_of_making making }
     ensures means { (rows : List Row) (options : OptionsValue) → MeansMaking rows making options → MeansMaking rows result options }
@@ -77,7 +76,7 @@ fn painted(making: Making, screen: Screen) -> Making
 }
 
 impl Request {
-    /// Decides when the request's words have colours on the screen.
+    /// Decides when words have colours on the screen.
     pub fn on(self, screen: Screen) -> Request
         ensures { (asked : Asked) → Answers asked self → Answers asked result }
     {
@@ -100,12 +99,12 @@ impl Request {
     }
 }
 
-/// Reads a command line, whose first word is the program's name.
+/// Reads a command line, which begins with the program's name.
 pub fn parse<S: AsStr>(alloc: Global, words: &[S]) -> CommandLine
     ensures kinds { Answers (asked (map S.text words.now)) result.request }
     ensures job { (job : Job) → drop 1 (map S.text words.now) ≡ word_of job ∷ []
         → (result.request ≡ Request.Do job) ⊎ (result.request ≡ Request.OutOfMemory) }
-    // The files are those named. A line without a job names none.
+    // A line without a job names none.
     ensures files { (files_in result.files ≡ files_of (map S.text words.now))
         ⊎ ((files_in result.files ≡ no_files) × (IsJob result.request → ⊥)) }
 {
@@ -146,7 +145,7 @@ fn try_parse<S: AsStr>(alloc: Global, words: &[S]) -> Result<CommandLine, AllocE
     }
 }
 
-// The text of a refused line, with the successor of a former word.
+// Adds the successor of a former word.
 fn with_successor(text: String) -> Result<Vec<u8>, AllocError> {
     let mut text = text;
     for (fault, usage, words) in SUCCESSORS.iter() {
@@ -309,7 +308,7 @@ fn guide_line(alloc: Global, matches: &ArgMatches, guide: Guide) -> Result<Reque
     write_guide(alloc, options, guide)
 }
 
-/// The form of an answer: text, also by default, JSON, or an unknown word.
+/// The form of an answer. Text by default.
 #[derive(Clone, Copy)]
 pub(crate) enum Format {
     Text,
@@ -334,7 +333,7 @@ pub(crate) fn format_of(options: &ArgMatches) -> Format
     }
 }
 
-// Chooses between a request for text and one for JSON. An unknown form is refused.
+// Refuses an unknown form.
 fn in_format(
     alloc: Global,
     format: Format,

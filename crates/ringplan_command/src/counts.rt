@@ -10,7 +10,7 @@ pub const MOST_PARTS: u32 = 4_096;
 
 pub(crate) const MOST_WORKERS: u32 = 64;
 
-/// A number on the line: none, a number, or one outside its range.
+/// A number on the line: none, in range, or out of range.
 #[derive(Clone, Copy)]
 pub(crate) enum Count {
     Unnamed,

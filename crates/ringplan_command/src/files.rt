@@ -13,7 +13,7 @@ use std::alloc::{AllocError, Global};
 /// The files that a command line names.
 #[derive(Debug, Drop)]
 pub struct Files {
-    /// The inputs, read one after the other. `-` is standard input, which is also read if there are none.
+    /// The inputs, read in order. `-` is standard input, the default.
     pub inputs: Vec<String>,
     /// The output; standard output by default.
     pub output: Option<String>,
@@ -41,7 +41,7 @@ impl Files {
     }
 }
 
-// The input files; none if all are `-`.
+// Returns the input files; none if all are `-`.
 fn inputs_of(alloc: Global, options: &ArgMatches) -> Result<Vec<String>, AllocError>
     ensures { IfOk result (λ inputs. map string_bytes inputs.items
         ≡ but_dashes (unwrap_or (all_of (codes "file") (rows_of (found_of options.now))) [])) }
@@ -71,7 +71,7 @@ fn are_dashes(texts: &[String]) -> bool
     each_is_dash(texts)
 }
 
-/// Returns the text of an argument. `-` means a standard stream, as no text does.
+/// Returns the text of an argument. None if `-`, a standard stream.
 pub(crate) fn named(
     alloc: Global,
     options: &ArgMatches,

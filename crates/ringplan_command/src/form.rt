@@ -1,10 +1,9 @@
 //! How a drive is printed.
 
-/// How the outcome of a drive is printed.
+/// How a drive's outcome is printed.
 #[derive(Clone, Copy, Debug, PartialEq, Eq)]
 pub enum Form {
-    /// As its history.
     History,
-    /// As one line of JSON: the history, who finished each step, and the number of workers.
+    /// One line of JSON: history, finisher of each step, number of workers.
     Report,
 }

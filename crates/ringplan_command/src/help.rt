@@ -1,6 +1,6 @@
-//! The texts of help, and of command lines that are refused.
+//! The texts of help and of refused command lines.
 
-/// The versions of the program and its proofs' logic, which is the last word of `rt version`.
+/// Versions of program and logic, the last word of `rt version`.
 pub(crate) const VERSION: &str = "1.0.0 (Rattle logic dac8208d650f15bf)";
 
 pub(crate) const ABOUT: &str =
@@ -174,14 +174,16 @@ pub(crate) const NO_DETOUR: &[u8; 138] =
 pub(crate) const NO_SLOT: &[u8; 121] =
     b"error: invalid value for '--leave <P.I>': not a partition and an index, such as 3.1\n\nFor more information, try '--help'.\n";
 
-/// The answer to words or options that are not text.
+/// The answer to a line that is not text.
 pub const NO_WORDS: &[u8; 123] =
     b"error: invalid UTF-8 was detected in one or more arguments\n\nUsage: ringplan <COMMAND>\n\nFor more information, try '--help'.\n";
 
 pub(crate) const NO_SHELL: &[u8; 95] =
     b"error: invalid value for '<SHELL>': not bash, zsh or fish\n\nFor more information, try '--help'.\n";
 
-/// Former words: how the error begins, its command for an option, and a line that names the successor.
+/// Former words and their successors.
+///
+/// How the error begins, its command for an option, and a line with the successor.
 pub(crate) const SUCCESSORS: &[(&str, &str, &str); 6] = &[
     (
         "error: unrecognized subcommand 'judge'",

@@ -1,4 +1,4 @@
-//! The command line of the program, and the texts of help.
+//! The command line and the texts of help.
 #![tactic(auto)]
 
 mod command;

@@ -22,7 +22,6 @@ use plan_runs::Back;
 use ringplan_job::{Color, Cut, Detour, Exit, Extent, Making, Picture, Shape, Statement, Wish};
 use std::alloc::{AllocError, Global};
 
-// The most rounds of copies in a window, and the most windows.
 const MOST_ROUNDS: u32 = 1_000_000;
 
 pub(crate) fn make_line(
@@ -65,7 +64,7 @@ fn steps_line(alloc: Global, matches: &ArgMatches) -> Result<Request, AllocError
     Ok(Request::Make(Making::Steps, options))
 }
 
-// When words have colours. None if the named word is unknown.
+// None if the word is unknown.
 fn color_of(options: &ArgMatches) -> Option<Color>
     ensures { IfSome result (MeansColor (first_of (codes "color") (rows_of (found_of options.now)))) }
 {
@@ -106,7 +105,7 @@ fn why_line(alloc: Global, options: &ArgMatches) -> Result<Request, AllocError>
     }
 }
 
-// What is known of nodes and partitions. None if the racks are neither one character nor a known word.
+// None if the racks are neither one character nor a known word.
 fn known_of(alloc: Global, matches: &ArgMatches) -> Result<Option<Options>, AllocError>
     ensures { IfOk result (λ o. MatchOption o (HasNoRacks (rows_of (found_of matches.now))) (MeansKnown (rows_of (found_of matches.now)))) }
 {
@@ -321,7 +320,7 @@ fn exit_of(matches: &ArgMatches) -> Exit
     Exit::Printed
 }
 
-// How racks are known. None if the text is neither one character nor a known word.
+// None if the text is neither one character nor a known word.
 fn racks_of(options: &ArgMatches) -> Option<RackRule>
     ensures { MatchOption result (HasNoRacks (rows_of (found_of options.now)))
         (MeansRacks (first_of (codes "racks-behind") (rows_of (found_of options.now)))) }

@@ -1,4 +1,4 @@
-//! The manual page, in the language of man(7), made from the help of all commands.
+//! Makes the manual page, in man(7), from the help of all commands.
 
 use crate::help::{ABOUT, STREAMS, VERSION};
 use crate::tree::command;
@@ -8,7 +8,6 @@ use helpers::Words;
 use std::alloc::{AllocError, Global};
 use std::convert::AsStr;
 
-// The line of help before the exit statuses.
 const STATUSES: &str = "Exit status:\n";
 
 pub(crate) fn manual(alloc: Global) -> Result<Vec<u8>, AllocError> {
@@ -49,7 +48,7 @@ fn help_of<S: AsStr>(alloc: Global, words: &[S]) -> Result<String, AllocError> {
     }
 }
 
-// The text of help. Any other error means that memory ran out.
+// Returns the help. Any other error means that memory ran out.
 fn text_of(alloc: Global, error: &Error) -> Result<String, AllocError> {
     if error.kind() == ErrorKind::DisplayHelp {
         return format!(in alloc; "{error}");
@@ -89,7 +88,7 @@ fn push_entry(out: &mut Words, entry: &str) {
     }
 }
 
-// Adds a line of text, escaped for roff.
+// Escapes the line for roff.
 fn push_line(out: &mut Words, line: &str) {
     if line.starts_with('.') || line.starts_with('\'') {
         out.text(b"\\&");

@@ -24,7 +24,7 @@ pub(crate) fn names_of(
     Ok(names)
 }
 
-/// Returns the texts of a repeated argument, in order, as strings.
+/// Returns a repeated argument's strings, in order.
 pub(crate) fn texts_of(
     alloc: Global,
     matches: &ArgMatches,

@@ -1,4 +1,4 @@
-//! The part of a history that a command line asks for.
+//! The wanted part of a history.
 
 ghost use Rattle.std.specs.Prelude.{◌≡◌, ℕ, codes, MatchOption};
 ghost use Rattle.clap.specs.Words.{first_value, found_of, one_text};
@@ -10,7 +10,6 @@ use crate::counts::{Count, MOST_PARTS, count_of};
 use clap::ArgMatches;
 use ring_names::Choice;
 
-// The greatest entry number of a part that is judged.
 const MOST_ENTRY: u32 = 999_999;
 
 /// A wanted part of a history.
@@ -18,7 +17,7 @@ const MOST_ENTRY: u32 = 999_999;
 pub struct PartWish {
     /// The partitions that it sees.
     pub choice: Choice,
-    /// An entry of the part, 0 to 999,999, whose place in the whole is printed instead of the part.
+    /// An entry, 0 to 999,999. Its place in the whole is printed instead of the part.
     pub entry: Option<u32>,
 }
 
@@ -41,7 +40,7 @@ fn share_of(options: &ArgMatches) -> Option<Choice>
     }
 }
 
-// The partitions from A to B, from `A-B`.
+// From `A-B`.
 fn range_of(text: &str) -> Option<Choice>
     ensures { MatchOption result
         ((first last : ℕ) → IsRange text.now first last → ⊥)
@@ -61,7 +60,7 @@ fn range_of(text: &str) -> Option<Choice>
     }
 }
 
-// The named partitions, if they are one share or one range.
+// Returns the partitions, if one share or one range is named.
 fn choice_of(options: &ArgMatches) -> Option<Choice>
     ensures { MatchOption result
         ((choice : TheChoice) → MeansChoice (texts_in (found_of options.now)) choice → ⊥)

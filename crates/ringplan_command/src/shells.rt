@@ -1,4 +1,4 @@
-//! Shell completions, made from all commands and options.
+//! Makes shell completions from all commands and options.
 
 use crate::tree::command;
 use clap::{Arg, Command};
@@ -46,7 +46,7 @@ fn script(alloc: Global, shell: Shell, program: &Command) -> Result<Vec<u8>, All
 
 // ---- commands and arguments
 
-// Whether the argument names a file, as those that `Files` reads do.
+// Whether the argument names a file, as `Files` reads.
 fn names_file(arg: &Arg) -> bool {
     matches!(arg.get_id(), "file" | "output" | "layout")
 }
@@ -70,7 +70,7 @@ fn push_letter(out: &mut Words, arg: &Arg) {
     }
 }
 
-// Adds the names of an option, separated by `between`.
+// Adds an option's names, separated by `between`.
 fn push_flags(out: &mut Words, arg: &Arg, between: &[u8]) {
     if arg.get_short().is_some() {
         out.byte(b'-');
@@ -86,7 +86,7 @@ fn push_flags(out: &mut Words, arg: &Arg, between: &[u8]) {
     }
 }
 
-// Adds the possible first arguments: the program's commands, or the shells.
+// Adds the possible first arguments: commands, or shells.
 fn push_choices<'a>(out: &mut Words, program: &Command<'a>, command: &Command<'a>) {
     if matches!(command.get_name(), "ringplan" | "help") {
         for sub in program.get_subcommands() {
@@ -192,7 +192,6 @@ fn push_zsh_text(out: &mut Words, text: Option<&str>) {
     push_quoted(out, text, b"'\\''", b"[]:\\");
 }
 
-// Adds what follows the name of an option.
 fn push_zsh_option(out: &mut Words, arg: &Arg) {
     out.byte(b'[');
     push_zsh_text(out, arg.get_help());
@@ -253,7 +252,7 @@ fn push_zsh(out: &mut Words, program: &Command) {
     out.text(ZSH_END);
 }
 
-// Precedes an option, which may be repeated.
+// The option may be repeated.
 const ZSH_OPTION: &[u8] = b" \\\n                '*";
 
 const ZSH_BEGIN: &[u8] = b"\

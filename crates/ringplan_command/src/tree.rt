@@ -19,7 +19,6 @@ use crate::help::{
 use clap::{Arg, ArgAction, Command, value_parser};
 use std::alloc::{AllocError, Global};
 
-// A command, unless memory ran out.
 type Made<'a> = Result<Command<'a>, AllocError>;
 
 fn with_arg<'a>(command: Made<'a>, arg: Arg<'a>) -> Made<'a>
@@ -36,7 +35,6 @@ fn with<'a>(command: Made<'a>, more: Made<'a>) -> Made<'a>
     command?.subcommand(more?)
 }
 
-// An option without a value.
 fn flag<'a>(alloc: Global, word: &'a str, help: &'a str) -> Arg<'a>
     ensures rule { rule_of result ≡ flag_option word.entry.now }
     ensures local { result.global ≡ false }
@@ -47,7 +45,6 @@ fn flag<'a>(alloc: Global, word: &'a str, help: &'a str) -> Arg<'a>
         .action(ArgAction::SetTrue)
 }
 
-// An option with a value of this name.
 fn option<'a>(alloc: Global, word: &'a str, value: &'a str, help: &'a str) -> Arg<'a>
     ensures rule { rule_of result ≡ text_option word.entry.now }
     ensures local { result.global ≡ false }
@@ -58,7 +55,6 @@ fn option<'a>(alloc: Global, word: &'a str, value: &'a str, help: &'a str) -> Ar
         .help(help)
 }
 
-// `--workers K`, with K from 1 to 64.
 fn workers<'a>(alloc: Global, help: &'a str) -> Arg<'a>
     ensures rule { rule_of result ≡ workers_option }
     ensures local { result.global ≡ false }
@@ -66,7 +62,6 @@ fn workers<'a>(alloc: Global, help: &'a str) -> Arg<'a>
     option(alloc, "workers", "K", help).value_parser(value_parser!(u32).range(1..=64))
 }
 
-// `--of K`, with K from 1 to 4,096.
 fn of<'a>(alloc: Global) -> Arg<'a>
     ensures rule { rule_of result ≡ number_option (codes "of") 1 4096 }
     ensures local { result.global ≡ false }
@@ -74,7 +69,6 @@ fn of<'a>(alloc: Global) -> Arg<'a>
     option(alloc, "of", "K", OF).value_parser(value_parser!(u32).range(1..=4_096))
 }
 
-// `--part I`, with I from 0 to 4,095.
 fn part_number<'a>(alloc: Global) -> Arg<'a>
     ensures rule { rule_of result ≡ number_option (codes "part") 0 4095 }
     ensures local { result.global ≡ false }
@@ -82,7 +76,6 @@ fn part_number<'a>(alloc: Global) -> Arg<'a>
     option(alloc, "part", "I", PART_NUMBER).value_parser(value_parser!(u32).range(0..=4_095))
 }
 
-// `--map N`, with N from 0 to 999,999.
 fn entry<'a>(alloc: Global) -> Arg<'a>
     ensures rule { rule_of result ≡ number_option (codes "map") 0 999999 }
     ensures local { result.global ≡ false }
@@ -90,7 +83,6 @@ fn entry<'a>(alloc: Global) -> Arg<'a>
     option(alloc, "map", "N", ENTRY).value_parser(value_parser!(u32).range(0..=999_999))
 }
 
-// `--rate N`, with N from 1 to 4,294,967,295.
 fn rate<'a>(alloc: Global) -> Arg<'a>
     ensures rule { rule_of result ≡ rate_option }
     ensures local { result.global ≡ false }
@@ -98,7 +90,6 @@ fn rate<'a>(alloc: Global) -> Arg<'a>
     option(alloc, "rate", "N", RATE).value_parser(value_parser!(u32).range(1..=4_294_967_295))
 }
 
-// An option of `windows`, with a number from 1 to 1,000,000.
 fn number<'a>(alloc: Global, word: &'a str, value: &'a str, help: &'a str) -> Arg<'a>
     ensures rule { rule_of result ≡ cut_option word.entry.now }
     ensures local { result.global ≡ false }
@@ -116,7 +107,7 @@ fn file<'a>(alloc: Global) -> Arg<'a>
         .action(ArgAction::Append)
 }
 
-// `--dead NODE`, repeated; `help` says what a dead node is.
+// `help` says what a dead node is.
 fn dead<'a>(alloc: Global, help: &'a str) -> Arg<'a>
     ensures rule { rule_of result ≡ list_option (codes "dead") }
     ensures local { result.global ≡ false }
@@ -124,7 +115,6 @@ fn dead<'a>(alloc: Global, help: &'a str) -> Arg<'a>
     option(alloc, "dead", "NODE", help).action(ArgAction::Append)
 }
 
-// `--leave P.I`, repeated.
 fn leave<'a>(alloc: Global) -> Arg<'a>
     ensures rule { rule_of result ≡ list_option (codes "leave") }
     ensures local { result.global ≡ false }
@@ -132,7 +122,6 @@ fn leave<'a>(alloc: Global) -> Arg<'a>
     option(alloc, "leave", "P.I", LEAVE).action(ArgAction::Append)
 }
 
-// `-o FILE`.
 fn output<'a>(alloc: Global) -> Arg<'a>
     ensures rule { rule_of result ≡ output_option }
     ensures local { result.global ≡ false }
@@ -140,7 +129,6 @@ fn output<'a>(alloc: Global) -> Arg<'a>
     option(alloc, "output", "FILE", OUTPUT).short('o')
 }
 
-// A subcommand, with what it does, reads and prints.
 fn job<'a>(alloc: Global, word: &'a str, about: &'a str, streams: &'a str) -> Made<'a>
     ensures { IfOk result (IsApp (job_app word.entry.now)) }
 {
@@ -151,7 +139,7 @@ fn job<'a>(alloc: Global, word: &'a str, about: &'a str, streams: &'a str) -> Ma
     with_arg(with_arg(Ok(command), file(alloc)), output(alloc))
 }
 
-// A subcommand that reads nothing, with what it does and prints.
+// Reads no bundle.
 fn guide<'a>(alloc: Global, word: &'a str, about: &'a str, streams: &'a str) -> Made<'a>
     ensures { IfOk result (IsApp (guide_app word.entry.now)) }
 {
@@ -162,7 +150,6 @@ fn guide<'a>(alloc: Global, word: &'a str, about: &'a str, streams: &'a str) -> 
     with_arg(Ok(command), output(alloc))
 }
 
-// A required argument with a value of this name.
 fn needed<'a>(alloc: Global, word: &'a str, value: &'a str, help: &'a str) -> Arg<'a>
     ensures rule { rule_of result ≡ needed_argument word.entry.now }
     ensures local { result.global ≡ false }
@@ -204,7 +191,6 @@ fn part<'a>(alloc: Global) -> Made<'a>
     with_arg(command, entry(alloc))
 }
 
-// `--every K`, with K from 1 to 4,294,967,295.
 fn every<'a>(alloc: Global) -> Arg<'a>
     ensures rule { rule_of result ≡ number_option (codes "every") 1 4294967295 }
     ensures local { result.global ≡ false }
@@ -294,7 +280,7 @@ fn goal<'a>(alloc: Global) -> Made<'a>
     with_arg(command, option(alloc, "format", "FORMAT", FORMAT))
 }
 
-// Adds options on changes of a plan that has begun.
+// Adds options on changes of a begun plan.
 fn changed<'a>(alloc: Global, command: Made<'a>) -> Made<'a>
     ensures { (app : App) → IfOk command.entry (IsApp app) → IfOk result (IsApp (changed_app app)) }
 {

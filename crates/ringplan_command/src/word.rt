@@ -20,16 +20,14 @@ pub enum Word {
     Around,
 }
 
-/// A text about the program itself. It reads no bundle.
+/// A text about the program itself, made without a bundle.
 #[derive(Clone, Copy, Debug, PartialEq, Eq)]
 pub enum Guide {
-    /// The completions of a shell.
     Completions,
-    /// The manual page.
     Manual,
 }
 
-/// Returns the text about the program that the subcommand asks for, if any.
+/// Returns the text that the subcommand asks for, if any.
 pub(crate) fn guide_of(matches: &ArgMatches) -> Option<Guide>
     ensures { result ≡ guide_named (subcommand_rows_of matches.now) }
 {
@@ -42,7 +40,7 @@ pub(crate) fn guide_of(matches: &ArgMatches) -> Option<Guide>
     }
 }
 
-/// Returns the command for people that the subcommand is, if any.
+/// Returns the subcommand's command for people, if any.
 pub(crate) fn people_word(matches: &ArgMatches) -> Option<Word>
     ensures { result ≡ word_named (subcommand_rows_of matches.now) }
 {
