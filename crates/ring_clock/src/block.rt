@@ -1,4 +1,4 @@
-//! The entries of one group of writers. Clocks share them.
+//! One group's entries, which clocks share.
 
 ghost use Rattle.std.specs.Prelude.{◌≡◌, ◌↔◌, ◌*◌, ◌<◌, ◌≤◌, ◌∷◌, ◌++◌, [], ℕ, true, false, IsTrue, IfOk, OnOk, OnErr, max};
 ghost use Rattle.ring_clock.specs.Clock.{IsClock, IsAtMost, counter};
@@ -15,17 +15,17 @@ use std::marker::Model;
 use std::slice;
 use std::sync::Arc;
 
-// From so many entries of 16 bytes on, the 260 bytes of a whole group are not more.
+// From so many entries of 16 bytes on, 260 bytes for all are not more.
 const MANY: usize = 17;
 
-/// Returns the group of a writer: 64 consecutive writers, whose counters a clock keeps together.
+/// Returns the group of a writer: 64 consecutive ones, kept together.
 pub fn group_of(writer: WriterId) -> u32
     ensures { result ≡ group writer.0 }
 {
     writer.0 / GROUP
 }
 
-/// A few entries, or all counters of the group. One entry, as of a put without a get, is stored inline.
+/// A few entries, or all counters. One entry, as of a put without a get, is stored inline.
 #[derive(Drop)]
 pub enum Form {
     One(Entry),
@@ -33,7 +33,6 @@ pub enum Form {
     Full(Box<Full>),
 }
 
-// A form to read.
 #[derive(Clone, Copy)]
 pub enum Look<'a> {
     Few(&'a [Entry]),
@@ -52,8 +51,7 @@ impl Form {
         }
     }
 
-    // Raises the counters in place, and returns true. Does nothing if not full, or if a counter of the other is too
-    // great for a full block.
+    // Raises the counters in place. Does nothing, and returns false, if not full or if a counter is too great.
     fn raise(&mut self, other: &Form) -> bool
         requires first { IsBlock (entries_in self.old) }
         requires second { IsBlock (entries_in other.now) }
@@ -73,7 +71,7 @@ impl Form {
     }
 }
 
-/// Entries of one group. Copies share them.
+/// Entries of one group, shared by copies.
 #[derive(Drop)]
 pub struct Block {
     shared: Arc<Form>,
@@ -123,7 +121,7 @@ impl Block {
         Block::full(alloc, Full::of(entries.as_slice()))
     }
 
-    /// Copies the block. Takes no memory.
+    /// Copies the block without memory.
     pub fn try_copy(&self) -> Result<Block, AllocError>
         ensures { IfOk result (λ b. b ≡ self.now) }
     {
@@ -151,7 +149,7 @@ impl Block {
         }
     }
 
-    /// Returns the group of its writers.
+    /// Returns the writers' group.
     pub fn group(&self) -> u32
         ensures { result ≡ group_in self.now }
     {
@@ -161,7 +159,7 @@ impl Block {
         }
     }
 
-    /// Returns the counter of a writer, or 0.
+    /// Returns the writer's counter, or 0.
     pub fn counter(&self, writer: WriterId) -> u64
         requires { IsClock self.now }
         ensures { result ≡ counter self.now writer.0 }
@@ -172,7 +170,7 @@ impl Block {
         }
     }
 
-    /// Whether no counter exceeds that in the other block of the group.
+    /// Whether each counter is at most the other's.
     pub fn is_at_most(&self, other: &Block) -> bool
         requires first { IsBlock self.now }
         requires second { IsBlock other.now }
@@ -187,7 +185,7 @@ impl Block {
         }
     }
 
-    /// Whether no counter exceeds that in the other block, of any group. Fast if both are full, the usual case.
+    /// Whether each counter is at most the other's, of any group. Fast if both are full, the usual case.
     pub fn passes(&self, other: &Block) -> bool
         requires first { IsBlock self.now }
         requires second { IsBlock other.now }
@@ -201,8 +199,7 @@ impl Block {
         self.group() == other.group() && self.is_at_most(other)
     }
 
-    /// Returns the greater counters of two blocks of one group. Costs the entries of both. Takes memory only if neither
-    /// is at most the other.
+    /// Returns the greater counters. Costs the entries of both, and memory only if neither is at most the other.
     pub fn join(&self, alloc: Global, other: &Block) -> Result<Block, AllocError>
         requires first { IsBlock self.now }
         requires second { IsBlock other.now }
@@ -224,8 +221,7 @@ impl Block {
         }
     }
 
-    // Raises the counters in place, and returns true. Does nothing if the block is shared or not full, or if a counter
-    // of the other is too great for it.
+    // Raises the counters in place. Does nothing, and returns false, if shared, not full, or if a counter is too great.
     fn raise_here(&mut self, other: &Block) -> bool
         requires first { IsBlock self.old }
         requires second { IsBlock other.now }
@@ -239,10 +235,9 @@ impl Block {
         }
     }
 
-    /// Raises the counters to those of another block of the group. Costs the entries of both.
+    /// Raises the counters to the other's. Costs the entries of both.
     ///
-    /// Takes memory as `join` does. Takes none if the block is full and unshared, and no counter of the other
-    /// is too great for it.
+    /// Takes memory as `join` does, but none if the block is full and unshared, and no counter is too great for it.
     pub fn raise(&mut self, alloc: Global, other: &Block) -> Result<(), AllocError>
         requires first { IsBlock self.old }
         requires second { IsBlock other.now }
@@ -257,9 +252,9 @@ impl Block {
         Ok(())
     }
 
-    /// Merges entries of the group into a new block, by greater counters. Costs the entries of both.
+    /// Merges entries into a new block. Costs the entries of both.
     ///
-    /// The result takes 260 bytes if full, or 16 for each entry if some counter is too great for that.
+    /// Takes 260 bytes if full, or 16 for each entry if some counter is too great for that.
     pub fn merge(&self, alloc: Global, entries: &[Entry]) -> Result<Block, AllocError>
         requires first { IsBlock self.now }
         requires second { IsBlock entries.now }

@@ -1,4 +1,4 @@
-//! The blocks of a clock.
+//! A clock's blocks.
 
 ghost use Rattle.std.specs.Prelude.{◌≡◌, ◌↔◌, ◌+◌, ◌<◌, ◌∷◌, [], ℕ, true, false, IsTrue, IfOk, IfNone, IfSome, OnOk, OnErr, length, get_or, max};
 ghost use Rattle.ring_clock.specs.Clock.{IsAtMost, counter};
@@ -13,7 +13,7 @@ use std::alloc::{AllocError, Global};
 use std::slice;
 use std::sync::Arc;
 
-/// The blocks of a clock, ordered by group. One is stored inline, more are shared.
+/// Blocks ordered by group. One is stored inline, more are shared.
 #[derive(Drop)]
 pub enum Blocks {
     Empty,
@@ -22,7 +22,6 @@ pub enum Blocks {
 }
 
 impl Blocks {
-    /// Returns the blocks as a slice.
     pub fn as_slice(&self) -> &[Block]
         ensures { result.now ≡ listed self.now }
     {
@@ -33,7 +32,7 @@ impl Blocks {
         }
     }
 
-    /// Copies the blocks. Takes no memory.
+    /// Copies the blocks without memory.
     pub fn try_copy(&self) -> Result<Blocks, AllocError>
         ensures { IfOk result (λ a. listed a ≡ listed self.now) }
     {
@@ -71,8 +70,9 @@ fn place_of(blocks: &[Block], group: u32) -> Option<usize>
     }
 }
 
-/// Returns the block of a group. Costs the logarithm of the blocks, but one look if all lesser groups have blocks or
-/// all other blocks are lesser.
+/// Returns the block of a group.
+///
+/// Costs the logarithm of the blocks, or one look if all lesser groups have blocks or all other blocks are lesser.
 pub fn block_of(blocks: &[Block], group: u32) -> Option<&Block>
     requires { AreBlocks blocks.now }
     ensures some { IfSome result (λ b. IsBlockFor group (entries_of blocks.now) b.now) }
@@ -82,7 +82,7 @@ pub fn block_of(blocks: &[Block], group: u32) -> Option<&Block>
     Some(&blocks[place])
 }
 
-/// Returns the counter of a writer, or 0. Costs `block_of` and the logarithm of the block's entries.
+/// Returns the writer's counter, or 0. Costs `block_of` and the logarithm of the block's entries.
 pub fn counter_in(blocks: &[Block], writer: WriterId) -> u64
     requires { AreBlocks blocks.now }
     ensures { result ≡ counter (entries_of blocks.now) writer.0 }
@@ -109,7 +109,7 @@ fn is_reached(block: &Block, blocks: &[Block]) -> bool
     }
 }
 
-// Whether no counter in the first exceeds that in the second, except in the group `but`. Blocks of other groups stay unread.
+// Compares all groups but `but`. Reads only blocks of common groups.
 fn are_reached(but: Option<u32>, first: &[Block], second: &[Block]) -> bool
     requires first { AreBlocks first.now }
     requires second { AreBlocks second.now }
@@ -125,10 +125,10 @@ fn are_reached(but: Option<u32>, first: &[Block], second: &[Block]) -> bool
     true
 }
 
-/// Whether no counter in the first exceeds that in the second.
+/// Whether each counter is at most the second's.
 ///
-/// Costs the entries of common groups. Each block of the first costs a look, or the logarithm of the second's
-/// blocks if lesser groups lack one there.
+/// Costs the entries of common groups. Each block of the first costs a look, or the logarithm of the second's blocks if
+/// lesser groups lack one there.
 pub fn are_at_most(first: &[Block], second: &[Block]) -> bool
     requires first { AreBlocks first.now }
     requires second { AreBlocks second.now }
@@ -140,7 +140,7 @@ pub fn are_at_most(first: &[Block], second: &[Block]) -> bool
     }
 }
 
-// Takes the next block of the least group. Joins two of the same group.
+// Takes the next block of the least group. Joins two of one group.
 fn take_joined<'a>(
     alloc: Global,
     first: &mut &'a [Block],
@@ -202,7 +202,7 @@ fn push_joined(
     Ok(())
 }
 
-/// Returns the greater counters of two clocks. Costs the blocks of both and the entries of common groups.
+/// Returns the greater counters of two clocks. Costs the blocks and the entries of common groups.
 ///
 /// Takes memory for a list of several blocks, and for each block greater than both.
 pub fn joined(alloc: Global, first: &[Block], second: &[Block]) -> Result<Blocks, AllocError>
@@ -226,8 +226,7 @@ pub fn joined(alloc: Global, first: &[Block], second: &[Block]) -> Result<Blocks
     }
 }
 
-/// Returns the blocks with the writer's counter raised to the entry's. Makes the block of its group again, and the list
-/// if there are several.
+/// Raises the writer's counter to the entry's. Remakes the block of its group, and the list if there are several.
 pub fn raised(alloc: Global, blocks: &[Block], entry: Entry) -> Result<Blocks, AllocError>
     requires valid { AreBlocks blocks.now }
     requires some { 0 < entry.counter }
@@ -246,10 +245,10 @@ pub fn raised(alloc: Global, blocks: &[Block], entry: Entry) -> Result<Blocks, A
     }
 }
 
-/// Raises the block of one group in place, if both have it. Returns whether the others are reached then; if
-/// not, nothing has changed.
+/// Raises the block of one group in place, if both have it. Returns whether the others are reached; if not, nothing has
+/// changed.
 ///
-/// Costs the blocks of both. Takes memory only for that block, if it is shared or has few entries.
+/// Costs both clocks' blocks, and memory only for that block, if shared or with few entries.
 pub fn raise_one(
     alloc: Global,
     blocks: &mut Vec<Block>,
@@ -277,7 +276,7 @@ pub fn raise_one(
     Ok(true)
 }
 
-/// Lists the entries of the blocks. Costs their number, in memory too.
+/// Lists the entries. Costs their number, in memory too.
 pub fn list(alloc: Global, blocks: &[Block]) -> Result<Vec<Entry>, AllocError>
     ensures { IfOk result (λ v. v.items ≡ entries_of blocks.now) }
 {

@@ -1,4 +1,4 @@
-//! The clocks of the puts of one key.
+//! The clocks of one key's puts.
 
 ghost use Rattle.std.specs.Prelude.{◌≡◌, ◌+◌, ◌<◌, ◌≤◌, ◌==◌, [], ℕ, length, get_or, true, max, Some, None};
 ghost use Rattle.std.specs.Prelude.{if◌then◌else◌, IfOk, IfErr, OnOk, IfSome};
@@ -13,7 +13,7 @@ use ring_names::{Refusal, WriterId};
 use std::alloc::Global;
 use std::collections::HashMap;
 
-/// What a put knows of earlier puts: all by its writer, and the seen ones, by number.
+/// What a put knows: its writer's earlier puts, and seen ones.
 #[derive(Debug, Drop)]
 pub struct Cause {
     pub writer: WriterId,
@@ -127,10 +127,9 @@ fn push_clocks(
     Ok(())
 }
 
-/// Returns the clocks of one key's puts, in the order of starts. Costs what each put joins.
+/// Returns the clocks of one key's puts, by start. Costs what each joins.
 ///
-/// Each joins the clocks seen and the writer's last, and counts one more for the writer (DeCandia et al. 2007,
-/// section 4.4).
+/// Each joins those seen and the writer's last, and counts one more (DeCandia et al. 2007, section 4.4).
 pub fn clocks(alloc: Global, causes: &[Cause]) -> Result<Vec<Clock>, Refusal>
     requires { IsEarlier causes.now }
     ensures each { IfOk result (λ clocks. length clocks.items ≡ length causes.now) }

@@ -17,10 +17,10 @@ use std::sync::Arc;
 
 /// A vector clock: the counters of writers, 0 by default.
 ///
-/// Each 64 consecutive writers have a block. It takes 16 bytes for each counter above 0, or 260 bytes from 17
-/// counters on, if all are below 2^31.
+/// Each 64 consecutive writers have a block: 16 bytes for each counter above 0, or 260 bytes from 17 on, if all are
+/// below 2^31.
 ///
-/// Copies, `bump` and `join` share the blocks of groups that do not change.
+/// Copies, `bump` and `join` share the blocks of unchanged groups.
 pub struct Clock {
     alloc: Global,
     // The writer of the last raise. Its put knows the whole clock, so its counter mostly decides a comparison.
@@ -53,7 +53,7 @@ impl Drop for Clock {
 }
 
 impl Clock {
-    /// Returns the clock that is 0 for every writer.
+    /// Returns the clock without counts.
     pub fn new(alloc: Global) -> Clock
         ensures { result ≡ [] }
     {
@@ -71,7 +71,7 @@ impl Clock {
         self.blocks.as_slice()
     }
 
-    /// Iterates over the counters above 0, in the order of writers.
+    /// Iterates over the counters above 0, by writer.
     pub fn entries(&self) -> Walk<'_>
         ensures value { result ≡ self.now }
         ensures valid { IsClock self.now }
@@ -79,7 +79,7 @@ impl Clock {
         Walk::of(self.blocks())
     }
 
-    /// Lists the counters above 0, in the order of writers. Costs their number, in memory too.
+    /// Lists the counters above 0, by writer. Costs their number, in memory too.
     pub fn list(&self, alloc: Global) -> Result<Vec<Entry>, Refusal>
         ensures value { IfOk result (λ entries. entries.items ≡ self.now) }
         ensures memory { IfErr result (λ e. e ≡ OutOfMemory) }
@@ -87,26 +87,26 @@ impl Clock {
         Ok(list(alloc, self.blocks())?)
     }
 
-    /// Returns the writer of the last raise, a hint for lookups. `join` keeps that of the first clock; a new clock has
-    /// writer 0.
+    /// Returns the writer of the last raise, a hint for lookups. `join` keeps the first clock's; a new clock has 0.
     pub fn own(&self) -> WriterId {
         self.own
     }
 
-    /// Returns the counter of a writer. Costs the logarithm of the entries, or two looks if all lesser writers have entries.
+    /// Returns the writer's counter. Costs the logarithm of the entries, or two looks if all lesser writers have some.
     pub fn counter(&self, writer: WriterId) -> u64
         ensures { result ≡ counter self.now writer.0 }
     {
         counter_in(self.blocks(), writer)
     }
 
-    /// Whether no counter exceeds that in the other clock: then this clock's version equals the other's or is its
-    /// ancestor (DeCandia et al. 2007, section 4.4).
+    /// Whether this clock's version equals the other's or is its ancestor.
     ///
-    /// Takes no memory. Costs the entries of both, and `has_group` for each group.
+    /// No counter exceeds the other's (DeCandia et al. 2007, section 4.4).
     ///
-    /// With several groups, costs only the logarithm of the entries if the counter of the last raised writer is
-    /// less in the other.
+    /// Costs the entries of both, and `has_group` for each group.
+    ///
+    /// With several groups, costs only the logarithm of the entries if the last raised writer's counter is less in the
+    /// other.
     pub fn le(&self, other: &Clock) -> bool
         ensures { IsTrue result ↔ IsAtMost self.now other.now }
     {
@@ -139,8 +139,8 @@ impl Clock {
         })
     }
 
-    // Raises in place the group of the other's last raised writer. Returns whether the clock then reaches the other.
-    // Only if no clock shares the list of blocks.
+    // Raises in place the group of the other's last raised writer, if the list of blocks is unshared. Returns whether
+    // the clock then reaches the other.
     fn raise_own(&mut self, other: &Clock) -> Result<bool, Refusal>
         ensures raised { IfOk result (λ done. done ≡ true
             → (w : ℕ) → counter self.new w ≡ max (counter self.old w) (counter other.now w)) }
@@ -160,10 +160,10 @@ impl Clock {
 
     /// Raises the clock to another. Costs what `le` and `join` do.
     ///
-    /// Takes no memory if one is at most the other, and otherwise what `join` takes.
+    /// Takes the memory of `join`, but none if one is at most the other.
     ///
-    /// If only the group of the other's last raised writer is behind, takes memory only for it, and none for
-    /// unshared 260 bytes.
+    /// If only the group of the other's last raised writer is behind, takes memory only for it, and none for unshared
+    /// 260 bytes.
     ///
     /// For this, both must have the group, and the list of groups must be unshared.
     pub fn raise(&mut self, other: &Clock) -> Result<(), Refusal>
@@ -181,10 +181,9 @@ impl Clock {
         Ok(())
     }
 
-    /// Returns the clock with the writer's counter raised by one. Costs the entries of its group, and the groups.
+    /// Returns the clock with the writer's counter raised by one. Costs its group's entries, and the groups.
     ///
-    /// Takes memory for these entries, at most 260 bytes, or 1,024 if a counter is 2^31 or more. The other
-    /// entries are shared.
+    /// Takes memory for these entries, at most 260 bytes, or 1,024 if a counter is 2^31 or more. Shares the others.
     ///
     /// Several groups take 8 bytes each besides, or up to 16 if the group is new.
     pub fn bump(&self, writer: WriterId) -> Result<Clock, Refusal>
@@ -201,7 +200,7 @@ impl Clock {
         })
     }
 
-    /// Copies the clock, which shares the entries. Takes no memory. Fails only if 2^64 clocks would share them.
+    /// Copies the clock without memory, sharing entries. Fails only if 2^64 clocks would share them.
     pub fn try_copy(&self) -> Result<Clock, Refusal>
         ensures same { IfOk result (λ c. c ≡ self.now) }
         ensures memory { IfErr result (λ e. e ≡ OutOfMemory) }

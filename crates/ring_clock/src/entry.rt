@@ -5,17 +5,17 @@ ghost use Rattle.ring_clock.specs.Clock.{IsClock, counter};
 
 use ring_names::WriterId;
 
-/// How many consecutive writers form a group, whose entries are shared together.
+/// How many consecutive writers share a group.
 pub const GROUP: u32 = 64;
 
-/// How often a writer put, as a clock knows it: a counter above 0.
+/// How often a writer put, as a clock knows it: above 0.
 #[derive(Clone, Copy, Debug, PartialEq, Eq)]
 pub struct Entry {
     pub writer: WriterId,
     pub counter: u64,
 }
 
-// The counter of a writer, if each writer since the first has an entry: then the difference of numbers is its place.
+// Looks at the writer's place if all writers since the first have entries.
 fn guessed(entries: &[Entry], writer: WriterId) -> Option<u64>
     requires { IsClock entries.now }
     ensures { IfSome result (λ n. n ≡ counter entries.now writer.0) }
@@ -30,8 +30,8 @@ fn guessed(entries: &[Entry], writer: WriterId) -> Option<u64>
     }
 }
 
-/// Returns the counter of a writer among entries, or 0. Costs the logarithm of the entries, or one look if each writer
-/// since the first has an entry.
+/// Returns the writer's counter, or 0. Costs the logarithm of the entries, or one look if each writer since the first
+/// has one.
 pub fn counter_of(entries: &[Entry], writer: WriterId) -> u64
     requires { IsClock entries.now }
     ensures { result ≡ counter entries.now writer.0 }

@@ -1,4 +1,4 @@
-//! The counters of a group with many counters.
+//! All counters of a group.
 
 ghost use Rattle.std.specs.Prelude.{◌≡◌, ◌↔◌, ◌+◌, ◌*◌, ◌<◌, ◌≤◌, ◌++◌, ℕ, IsTrue, OnOk, slice_index, max};
 ghost use Rattle.std.specs.List.{All};
@@ -12,13 +12,12 @@ use ring_names::WriterId;
 use std::alloc::AllocError;
 use std::marker::Model;
 
-// The places for counters in a group.
 const PLACES: usize = GROUP as usize;
 
-// Counters of a full block are below this, so that the top bit of a difference shows which one is greater.
+// Counters are below this, so that the top bit of a difference shows the greater one.
 const LIMIT: u32 = 1 << 31;
 
-/// The counters of all writers of a group, each below 2^31, 0 by default. Takes 260 bytes.
+/// All counters of a group, each below 2^31, 0 by default. Takes 260 bytes.
 #[derive(Drop)]
 pub struct Full {
     group: u32,
@@ -42,7 +41,7 @@ impl Model for Full {
 }
 
 impl Full {
-    /// Makes a full block of entries.
+    /// Makes a block of entries.
     pub fn of(entries: &[Entry]) -> Full
         requires block { IsBlock entries.now }
         requires low { All IsLow entries.now }
@@ -74,7 +73,7 @@ impl Full {
         self.group
     }
 
-    /// Returns the counter of a writer, or 0.
+    /// Returns the writer's counter, or 0.
     pub fn counter(&self, writer: WriterId) -> u64
         ensures { result ≡ counter self.now writer.0 }
     {
@@ -110,7 +109,7 @@ impl Full {
         Ok(())
     }
 
-    /// Whether no counter exceeds that in the other block of the group.
+    /// Whether each counter is at most the other's.
     #[inline(always)]
     pub fn is_at_most(&self, other: &Full) -> bool
         requires { group_in self.now ≡ group_in other.now }
@@ -119,7 +118,7 @@ impl Full {
         are_below(&self.counters, &other.counters)
     }
 
-    /// Whether no entry exceeds the writer's counter.
+    /// Whether each entry is at most its writer's counter.
     pub fn is_above(&self, entries: &[Entry]) -> bool
         requires { IsClock entries.now }
         ensures { IsTrue result ↔ IsAtMost entries.now self.now }
@@ -132,7 +131,7 @@ impl Full {
         true
     }
 
-    /// Whether no counter exceeds that among entries. Costs a search for each counter above 0.
+    /// Whether each counter is at most that among entries. Costs a search for each above 0.
     pub fn is_below(&self, entries: &[Entry]) -> bool
         requires { IsClock entries.now }
         ensures { IsTrue result ↔ IsAtMost self.now entries.now }
@@ -148,7 +147,7 @@ impl Full {
         true
     }
 
-    /// Returns the greater counters of two blocks of one group.
+    /// Returns the greater counters.
     pub fn join(&self, other: &Full) -> Full
         requires first { IsBlock self.now }
         requires second { IsBlock other.now }
@@ -162,7 +161,7 @@ impl Full {
         made
     }
 
-    /// Raises the counters to those of another block of the group.
+    /// Raises the counters to the other's.
     pub fn raise(&mut self, other: &Full)
         requires first { IsBlock self.old }
         requires second { IsBlock other.now }
@@ -172,7 +171,7 @@ impl Full {
         raise_to(&mut self.counters, &other.counters);
     }
 
-    /// Raises the counters to those of entries of the group.
+    /// Raises the counters to the entries'.
     pub fn raise_to(&mut self, entries: &[Entry])
         requires first { IsBlock self.old }
         requires second { IsBlock entries.now }
@@ -183,7 +182,7 @@ impl Full {
         raise_to_entries(&mut self.counters, entries);
     }
 
-    /// Merges entries of the group into a new block, by greater counters.
+    /// Merges entries into a new block.
     pub fn merge(&self, entries: &[Entry]) -> Full
         requires first { IsBlock self.now }
         requires second { IsBlock entries.now }
@@ -218,15 +217,14 @@ pub fn group_among(entries: &[Entry]) -> u32
     }
 }
 
-/// Whether the counters of entries fit a full block.
+/// Whether the counters fit a full block.
 pub fn are_low(entries: &[Entry]) -> bool
     ensures { IsTrue result ↔ All IsLow entries.now }
 {
     entries.iter().all(|entry| entry.counter < u64::from(LIMIT))
 }
 
-// Whether no counter exceeds the other at its place. Looks at all places, so that several are compared at once, and is
-// inlined: a call costs a tenth of the work.
+// Looks at all places, so that several are compared at once. Inlined: a call costs a tenth of the work.
 #[inline(always)]
 fn are_below(first: &[u32; PLACES], second: &[u32; PLACES]) -> bool
     requires first { (k : ℕ) → slice_index first.now k < 2147483648 }

@@ -1,4 +1,4 @@
-//! Laws of clocks for callers that make them one at a time. Each is the contract of an empty function.
+//! Laws of clocks made one at a time. Each is the contract of an empty function.
 
 ghost use Rattle.std.specs.Prelude.{ℕ, List, [], ◌∷◌, ◌++◌, length, Option};
 ghost use Rattle.ring_clock.specs.declared.entry.Entry.{Entry as TheEntry};
@@ -6,8 +6,9 @@ ghost use Rattle.ring_clock.specs.declared.causes.Cause.{Cause as TheCause};
 ghost use Rattle.ring_clock.specs.Causes.{IsEarlier, IsSuccession};
 ghost use Rattle.ring_clock.specs.Built.{IsInput, IsLast, IsNext, AreClocks, with_clock};
 
-/// A further put's clock joins the clocks seen and the writer's last, and counts one more for the writer. Other puts
-/// keep their clocks.
+/// A further put's clock joins those seen and the writer's last.
+///
+/// It counts one more for the writer. Other clocks stay.
 pub fn clocks_grow()
     ensures { (causes : List TheCause) (cause : TheCause) (clock : ℕ → List TheEntry) (last : Option ℕ)
         (c : List TheEntry)
@@ -16,7 +17,7 @@ pub fn clocks_grow()
         → AreClocks (causes ++ cause ∷ []) (with_clock clock (length causes) c) }
 {}
 
-/// The first put's clock is at most the second's exactly if the second succeeds the first.
+/// A put succeeds another exactly if its clock is at least the other's.
 pub fn clocks_are_in_order()
     ensures { (causes : List TheCause) (clock : ℕ → List TheEntry) → AreClocks causes clock
         → IsSuccession causes clock }

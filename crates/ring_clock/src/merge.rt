@@ -7,7 +7,7 @@ ghost use Rattle.ring_clock.specs.Merge.{EntriesStandFor};
 use crate::entry::{Entry, GROUP};
 use std::alloc::{AllocError, Global};
 
-// How many leading places have the same writer in both lists. None if the first has a greater counter there.
+// Counts leading places with the same writers. None if the first has a greater counter there.
 fn aligned(first: &[Entry], second: &[Entry]) -> Option<usize>
     requires first { IsClock first.now }
     requires second { IsClock second.now }
@@ -30,7 +30,6 @@ fn aligned(first: &[Entry], second: &[Entry]) -> Option<usize>
     Some(first.len())
 }
 
-// Whether no counter in the first exceeds that in the second, wherever the writers are.
 fn unaligned(first: &[Entry], second: &[Entry]) -> bool
     requires first { IsClock first.now }
     requires second { IsClock second.now }
@@ -56,7 +55,7 @@ fn unaligned(first: &[Entry], second: &[Entry]) -> bool
     true
 }
 
-/// Whether no counter in the first exceeds that in the second. Mostly both have the same writers at the same places.
+/// Whether each counter is at most the second's. Mostly their writers have the same places.
 pub fn is_at_most(first: &[Entry], second: &[Entry]) -> bool
     requires first { IsClock first.now }
     requires second { IsClock second.now }
@@ -71,7 +70,7 @@ pub fn is_at_most(first: &[Entry], second: &[Entry]) -> bool
     }
 }
 
-// Takes the entry of the least writer, with the greater counter if both have it.
+// Takes the least writer's entry, with the greater counter.
 fn take_least<'a>(first: &mut &'a [Entry], second: &mut &'a [Entry]) -> Option<Entry>
     requires first { IsClock first.old.now }
     requires second { IsClock second.old.now }
@@ -125,7 +124,7 @@ fn merge_into(out: &mut Vec<Entry>, first: &[Entry], second: &[Entry]) -> Result
     Ok(())
 }
 
-/// Returns the greater counters of two clocks. For writers of one group it takes memory once, for at most as many entries.
+/// Returns the greater counters. For one group, takes memory once, for at most as many entries.
 pub fn merged(alloc: Global, first: &[Entry], second: &[Entry]) -> Result<Vec<Entry>, AllocError>
     requires first { IsClock first.now }
     requires second { IsClock second.now }

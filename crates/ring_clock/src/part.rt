@@ -7,7 +7,7 @@ use crate::entry::Entry;
 use ring_names::WriterId;
 use std::marker::Model;
 
-/// The remaining entries of a block: entries, or counters of consecutive writers.
+/// A block's remaining entries, or counters of consecutive writers.
 #[derive(Drop)]
 pub struct Part<'a> {
     few: &'a [Entry],
@@ -39,7 +39,7 @@ impl<'a> Part<'a> {
         }
     }
 
-    /// Iterates over the counters above 0, the first of which is that of writer `first`.
+    /// Iterates over the counters above 0; the first is writer `first`'s.
     pub fn full(first: u64, counters: &'a [u32]) -> Part<'a>
         requires { first + length counters.now ≤ 4294967296 }
         ensures { result ≡ entries_from first counters.now }

@@ -1,4 +1,4 @@
-//! Compares clocks with entries of several writers.
+//! Compares clocks with entries.
 
 ghost use Rattle.std.specs.Prelude.{◌↔◌, ◌<◌, IsTrue};
 ghost use Rattle.std.specs.List.{All};

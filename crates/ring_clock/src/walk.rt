@@ -8,7 +8,7 @@ use crate::entry::Entry;
 use crate::part::Part;
 use std::marker::Model;
 
-/// The remaining counters above 0 of a clock, in the order of writers.
+/// A clock's remaining counters above 0, by writer.
 #[derive(Drop)]
 pub struct Walk<'a> {
     part: Part<'a>,
