@@ -1,4 +1,4 @@
-//! Parts that sets of versions share.
+//! Parts that sets share.
 
 ghost use Rattle.std.specs.Prelude.{◌≡◌, ◌++◌, ◌∷◌, [], ℕ, true, false, max, IsTrue, IfOk, IfErr, OnErr};
 ghost use Rattle.ring_names.specs.declared.refusal.Refusal.TheVariants.{OutOfMemory};
@@ -15,7 +15,7 @@ use std::alloc::Global;
 use std::marker::Model;
 use std::sync::Arc;
 
-/// A part of a set, shared by copies. Its group is kept outside, so that a search reads only the parts that it needs.
+/// A part shared by copies. Its group is kept outside, so that a search reads only the parts it needs.
 #[derive(Drop)]
 pub struct Chunk {
     group: Group,
@@ -36,7 +36,7 @@ impl Model for Chunk {
 }
 
 impl Chunk {
-    /// Makes a chunk of the part.
+    /// Makes a chunk.
     pub fn of(alloc: Global, part: Part) -> Result<Chunk, Refusal>
         ensures ok { IfOk result (λ c. c ≡ part) }
         ensures memory { IfErr result (λ e. e ≡ OutOfMemory) }
@@ -46,7 +46,7 @@ impl Chunk {
         Ok(Chunk { group, shared })
     }
 
-    /// Copies the chunk. Takes no memory.
+    /// Copies the chunk without memory.
     pub fn try_copy(&self) -> Result<Chunk, Refusal>
         ensures ok { IfOk result (λ c. c ≡ self.now) }
         ensures memory { IfErr result (λ e. e ≡ OutOfMemory) }
@@ -58,13 +58,12 @@ impl Chunk {
         })
     }
 
-    /// Returns the group for which its part was made.
+    /// Returns the part's group.
     pub fn group(&self) -> u32 {
         self.group.number
     }
 
-    /// Adds a copy of the version in place and raises the join to its clock. Does nothing and returns false if another
-    /// set shares the chunk.
+    /// Adds a copy in place, raising the join. Returns false, without changes, if the chunk is shared.
     pub fn add(&mut self, version: &Version, join: &mut Clock) -> Result<bool, Refusal>
         ensures added { IfOk result (λ done. done ≡ true → self.new ≡ self.old ++ version.now ∷ []) }
         ensures raised { IfOk result (λ done. done ≡ true

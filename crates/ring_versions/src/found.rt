@@ -1,4 +1,4 @@
-//! Versions with the join of their clocks.
+//! Versions with their join.
 
 ghost use Rattle.std.specs.Prelude.{◌≡◌, [], List, IfOk, IfErr};
 ghost use Rattle.ring_names.specs.declared.refusal.Refusal.TheVariants.{OutOfMemory};
@@ -13,7 +13,7 @@ use ring_names::{Listed, Refusal};
 use std::alloc::Global;
 use std::marker::Model;
 
-/// Versions that were found, and the join of their clocks, kept up to date.
+/// Versions found, and the join of their clocks.
 #[derive(Drop)]
 pub struct Found {
     versions: Versions,
@@ -33,7 +33,7 @@ impl Model for Found {
 }
 
 impl Found {
-    /// No versions.
+    /// Starts empty.
     pub fn new(alloc: Global) -> Found
         ensures { result ≡ [] }
     {
@@ -43,14 +43,14 @@ impl Found {
         }
     }
 
-    /// Returns the join of the versions' clocks.
+    /// Returns the join.
     pub fn join(&self) -> &Clock
         ensures { RaisesTo [] (IsClockIn self.now) result.now }
     {
         &self.join
     }
 
-    /// Returns the numbers of the puts, ascending. Costs a sort.
+    /// Returns the puts, ascending. Costs a sort.
     pub fn puts(&self) -> Result<Listed<u32>, Refusal>
         ensures ok { IfOk result (λ ns. ArePuts self.now ns) }
         ensures memory { IfErr result (λ e. e ≡ OutOfMemory) }
@@ -76,8 +76,7 @@ impl Found {
         Ok(join)
     }
 
-    /// Returns the merge with another set, made aside. Costs a merge, and the entries of both joins if the other brings
-    /// a version.
+    /// Returns the merge with another set. Costs a merge, and both joins' entries if the other brings a version.
     pub fn with(&self, more: &Versions) -> Result<Found, Refusal>
         ensures ok { IfOk result (IsMerge self.now more.now) }
         ensures memory { IfErr result (λ e. e ≡ OutOfMemory) }

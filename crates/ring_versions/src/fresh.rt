@@ -1,10 +1,10 @@
-//! The result of a merge, before it is taken in.
+//! A merge before it is taken in.
 
 ghost use Rattle.std.specs.Prelude.{◌↔◌, IsTrue};
 
 use crate::versions::Versions;
 
-/// The merge of a set with another, made aside so that taking it in cannot fail. Empty if the set covers the other.
+/// A merge made aside, so that taking it in cannot fail. Empty if the set covers the other.
 #[derive(Drop)]
 pub struct Fresh {
     pub(crate) merged: Versions,

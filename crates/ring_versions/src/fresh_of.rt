@@ -1,4 +1,4 @@
-//! Finds the versions that others do not cover.
+//! Finds uncovered versions.
 
 ghost use Rattle.std.specs.Prelude.{◌≡◌, IfOk, IfErr};
 ghost use Rattle.ring_names.specs.declared.refusal.Refusal.TheVariants.{OutOfMemory};
@@ -12,7 +12,7 @@ use crate::version::Version;
 use ring_names::Refusal;
 use std::alloc::{AllocError, Global};
 
-// Reserves exact room for an empty list: most sets stay as they are made.
+// Reserves exact room: most sets stay as they are made.
 fn make_room(out: &mut Vec<Version>, room: usize) -> Result<(), AllocError>
     ensures { out.new.items ≡ out.old.items }
 {

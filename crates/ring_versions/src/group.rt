@@ -1,4 +1,4 @@
-//! Groups of writers, by which versions are kept together.
+//! Groups of writers, which order versions.
 
 ghost use Rattle.std.specs.Prelude.{◌≡◌, ◌∷◌, ◌++◌, [], List, IsTrue};
 ghost use Rattle.ring_clock.specs.Clock.{IsAtMost, counter};
@@ -8,7 +8,7 @@ ghost use Rattle.ring_versions.specs.declared.version.Version.{Version as TheVer
 
 use ring_clock::{Clock, Entry, group_of};
 
-/// A group of writers, and whether each version added is known to have a counter there.
+/// A group, and whether each version added has a counter there.
 #[derive(Clone, Copy)]
 pub struct Group {
     pub number: u32,
@@ -16,7 +16,7 @@ pub struct Group {
 }
 
 impl Group {
-    /// A group without versions.
+    /// Starts empty.
     pub fn new(number: u32) -> Group
         ensures { AreOf result [] }
     {
@@ -26,7 +26,7 @@ impl Group {
         }
     }
 
-    /// Adds a version, given its own writer's entry.
+    /// Adds a version, given its writer's entry.
     pub fn with(self, own: Entry) -> Group
         ensures { (vs : List TheVersion) → (v : TheVersion) → own.counter ≡ counter v.clock own.writer.0
             → AreOf self vs → AreOf result (vs ++ v ∷ []) }
@@ -37,7 +37,9 @@ impl Group {
         }
     }
 
-    /// Whether the group shows that no added version's clock is at most this one: each has a counter there, this one has none.
+    /// Whether the group shows that no added clock is at most this one.
+    ///
+    /// Each counts in the group, this one does not.
     pub fn is_beyond(self, top: &Clock) -> bool
         ensures { IsTrue result → (vs : List TheVersion) → AreOf self vs
             → (v : TheVersion) → IsIn v vs → IsAtMost v.clock top.now → ⊥ }

@@ -1,4 +1,4 @@
-//! The versions of a set, as a merge reads them.
+//! A set's versions, as a merge reads them.
 
 ghost use Rattle.std.specs.Prelude.{◌≡◌, ◌↔◌, IsTrue};
 ghost use Rattle.ring_versions.specs.Versions.{Covers};
@@ -19,7 +19,6 @@ pub enum Held<'a> {
 impl<'a> Held<'a> {
     ghost use Rattle.ring_versions.specs.Shared.{looked_at};
 
-    /// Iterates over the versions.
     pub fn walk(self) -> Walk<'a>
         ensures { result ≡ looked_at self.entry }
     {
@@ -29,7 +28,7 @@ impl<'a> Held<'a> {
         }
     }
 
-    /// Whether some version's clock is at least this one.
+    /// Whether some version covers the clock.
     pub fn covers(self, clock: &Clock) -> bool
         ensures { IsTrue result ↔ Covers (looked_at self.entry) clock.now }
     {
@@ -39,7 +38,7 @@ impl<'a> Held<'a> {
         }
     }
 
-    /// Whether some version's own writer is of the group. Costs a look at each version of a list, or at each chunk.
+    /// Whether some writer is of the group. Costs a look at each version of a list, or at each chunk.
     pub fn has_group(self, group: u32) -> bool {
         match self {
             Held::Few(list) => list

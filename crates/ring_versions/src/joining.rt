@@ -1,4 +1,4 @@
-//! The join of the clocks of versions.
+//! Joins the clocks of versions.
 
 ghost use Rattle.std.specs.Prelude.{◌≡◌, [], IfOk, IfErr};
 ghost use Rattle.ring_names.specs.declared.refusal.Refusal.TheVariants.{OutOfMemory};
@@ -9,7 +9,7 @@ use ring_clock::Clock;
 use ring_names::Refusal;
 use std::alloc::Global;
 
-/// Returns the join of the versions' clocks. Halving costs their entries times the logarithm of their number.
+/// Returns the join. Halving costs the entries times the logarithm of the versions.
 pub fn join_of(alloc: Global, versions: &[Version]) -> Result<Clock, Refusal>
     ensures ok { IfOk result (RaisesTo [] (IsClockIn versions.now)) }
     ensures memory { IfErr result (λ e. e ≡ OutOfMemory) }

@@ -1,4 +1,4 @@
-//! What remains of a set in chunks when others come.
+//! What remains of chunks after a merge.
 
 ghost use Rattle.std.specs.Prelude.{◌≡◌, ◌<◌, ◌∷◌, ◌++◌, [], List, length, IfOk, IfErr, OnOk};
 ghost use Rattle.ring_names.specs.declared.refusal.Refusal.TheVariants.{OutOfMemory};
@@ -18,14 +18,14 @@ use ring_clock::{Clock, group_of};
 use ring_names::Refusal;
 use std::alloc::Global;
 
-/// Chunks that stay, and parts that are made.
+/// Chunks that stay, and new parts.
 #[derive(Drop)]
 pub struct Left {
     pub kept: Vec<Chunk>,
     pub made: Vec<Part>,
 }
 
-// Returns the place of the group's part, which is made if missing.
+// Returns the place of the group's part, made if missing.
 fn place_for(alloc: Global, made: &mut Vec<Part>, group: u32) -> Result<usize, Refusal>
     ensures same { all_of made.new.items ≡ all_of made.old.items }
     ensures ok { IfOk result (λ place. place < length made.new.items) }
@@ -49,7 +49,7 @@ fn put(alloc: Global, made: &mut Vec<Part>, version: &Version) -> Result<(), Ref
     made[place].put(version)
 }
 
-/// Puts copies of versions into the parts of their own writers' groups.
+/// Copies versions to the parts of their writers' groups.
 pub fn put_all(alloc: Global, made: &mut Vec<Part>, versions: Held) -> Result<(), Refusal>
     ensures ok { OnOk result (IsReordered (all_of made.old.items ++ looked_at versions.entry) (all_of made.new.items)) }
     ensures memory { IfErr result (λ e. e ≡ OutOfMemory) }
@@ -61,7 +61,7 @@ pub fn put_all(alloc: Global, made: &mut Vec<Part>, versions: Held) -> Result<()
     Ok(())
 }
 
-// Keeps a chunk that the fresh versions do not cover: as it is, or as a part if a fresh version will be added.
+// Keeps an uncovered chunk: as it is, or as a part if a fresh version will be added.
 fn keep_all(alloc: Global, left: &mut Left, chunk: &Chunk, fresh: Held) -> Result<(), Refusal>
     ensures ok { OnOk result (IsReordered (all_left left.old ++ chunk.now) (all_left left.new)) }
     ensures memory { IfErr result (λ e. e ≡ OutOfMemory) }
@@ -74,7 +74,7 @@ fn keep_all(alloc: Global, left: &mut Left, chunk: &Chunk, fresh: Held) -> Resul
     Ok(())
 }
 
-// Keeps the versions of a chunk that the fresh ones do not cover.
+// Keeps a chunk's uncovered versions.
 fn keep(
     alloc: Global,
     left: &mut Left,
@@ -99,7 +99,7 @@ fn keep(
     Ok(())
 }
 
-/// Returns the versions of the chunks that the fresh ones do not cover. `top` is at least each fresh clock.
+/// Returns the uncovered versions. `top` is at least each fresh clock.
 ///
 /// Costs a look at each version, and copies those of chunks that change.
 pub fn left_of(alloc: Global, chunks: &[Chunk], fresh: Held, top: &Clock) -> Result<Left, Refusal>

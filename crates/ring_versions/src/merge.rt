@@ -17,7 +17,7 @@ use ring_clock::Clock;
 use ring_names::Refusal;
 use std::alloc::Global;
 
-// Merges fresh versions with few held ones. If none of these stays, the others are the merge.
+// If no held version stays, the others are the merge.
 fn merged_with_few(
     alloc: Global,
     held: &[Version],
@@ -37,7 +37,7 @@ fn merged_with_few(
     Versions::of_list(alloc, fresh)
 }
 
-// Merges fresh versions with many held ones. Chunks that do not change are shared.
+// Shares unchanged chunks.
 fn merged_with_many(
     alloc: Global,
     held: &Whole,
@@ -65,7 +65,7 @@ fn is_beside(versions: &[Version], clock: &Clock) -> bool
     versions.iter().all(|version| !clock.le(&version.clock) && !version.clock.le(clock))
 }
 
-/// Adds a copy of the version if it is in conflict with each one of the list. Returns whether it did.
+/// Adds a copy if the version conflicts with each listed one. Returns whether it did.
 ///
 /// Costs at most two comparisons with each, and memory for one version.
 pub fn add_beside(list: &mut Vec<Version>, version: &Version) -> Result<bool, Refusal>
@@ -84,7 +84,7 @@ pub fn add_beside(list: &mut Vec<Version>, version: &Version) -> Result<bool, Re
     Ok(true)
 }
 
-/// Merges two single versions: nothing if the held one covers the other, the other's set in the reverse case, otherwise both.
+/// Merges two single versions. Empty if the held one covers the other; if the other covers it, shares the other's set.
 pub fn merged_one(
     alloc: Global,
     held: &Version,
@@ -107,8 +107,7 @@ pub fn merged_one(
     Versions::of_list(alloc, both)
 }
 
-/// Returns the merge, or no version if those held cover the others. Takes no memory then. If the others cover all held
-/// ones, shares them.
+/// Returns the merge. Empty, without memory, if those held cover the others. Shares the others if they cover all.
 pub fn merged(alloc: Global, held: Held, others: &Versions) -> Result<Versions, Refusal>
     requires { IsApart (looked_at held) }
     ensures ok { IfOk result (Brings (looked_at held.entry) others.now) }

@@ -14,7 +14,7 @@ use ring_names::Refusal;
 use std::alloc::Global;
 use std::marker::Model;
 
-/// Versions of writers of one group, each with its own writer's entry. The join is at least each version's clock.
+/// Versions of one group, each with its writer's entry. The join is at least each clock.
 #[derive(Drop)]
 pub struct Part {
     group: Group,
@@ -56,7 +56,7 @@ fn owns_of(alloc: Global, versions: &[Version]) -> Result<Vec<Entry>, Refusal>
     Ok(owns)
 }
 
-/// Whether some version's clock is at least this one. Tries all.
+/// Whether some version covers the clock. Tries all.
 pub fn is_among(versions: &[Version], clock: &Clock) -> bool
     ensures { IsTrue result ↔ Covers versions.now clock.now }
 {
@@ -82,7 +82,7 @@ fn copies_of(alloc: Global, versions: &[Version]) -> Result<Vec<Version>, Refusa
 }
 
 impl Part {
-    /// No versions.
+    /// Starts empty.
     pub fn new(alloc: Global, group: u32) -> Part
         ensures { result ≡ [] }
     {
@@ -94,7 +94,7 @@ impl Part {
         }
     }
 
-    /// Returns the part with only these of its versions.
+    /// Keeps only these versions.
     pub fn with(&self, alloc: Global, versions: Vec<Version>) -> Result<Part, Refusal>
         requires { (v : TheVersion) → IsIn v versions.items → IsIn v self.now }
         ensures ok { IfOk result (λ p. p ≡ versions.items) }
@@ -110,7 +110,7 @@ impl Part {
         })
     }
 
-    /// Copies the part, with room for one version more. Reads no clocks.
+    /// Copies the part, with room for one more. Reads no clocks.
     pub fn try_copy(&self, alloc: Global) -> Result<Part, Refusal>
         ensures ok { IfOk result (λ p. p ≡ self.now) }
         ensures memory { IfErr result (λ e. e ≡ OutOfMemory) }
@@ -127,7 +127,7 @@ impl Part {
         })
     }
 
-    /// Adds a copy of a version. If refused, nothing changes.
+    /// Adds a copy. If refused, nothing changes.
     pub fn put(&mut self, version: &Version) -> Result<(), Refusal>
         ensures ok { OnOk result (self.new ≡ self.old ++ version.now ∷ []) }
         ensures err { OnErr result (self.new ≡ self.old) }
@@ -143,7 +143,7 @@ impl Part {
         Ok(())
     }
 
-    /// Adds a copy of a version, and raises the join to its clock. If refused, neither changes.
+    /// Adds a copy, and raises the join. If refused, neither changes.
     pub fn put_under(&mut self, version: &Version, join: &mut Clock) -> Result<(), Refusal>
         ensures ok { OnOk result (self.new ≡ self.old ++ version.now ∷ []) }
         ensures raised { OnOk result
@@ -164,21 +164,20 @@ impl Part {
         Ok(())
     }
 
-    /// Returns the group for which it was made.
+    /// Returns the group.
     pub fn group(&self) -> Group
         ensures { AreOf result self.now }
     {
         self.group
     }
 
-    /// Returns the versions.
     pub fn versions(&self) -> &[Version]
         ensures { result.now ≡ self.now }
     {
         self.versions.as_slice()
     }
 
-    /// Whether the version of the clock's own writer covers the clock.
+    /// Whether the clock's own writer's version covers the clock.
     pub fn leads(&self, clock: &Clock) -> bool
         ensures { IsTrue result → Covers self.now clock.now }
     {
@@ -192,7 +191,7 @@ impl Part {
         }
     }
 
-    /// Whether some version's clock is at least this one.
+    /// Whether some version covers the clock.
     pub fn covers(&self, clock: &Clock) -> bool
         ensures { IsTrue result ↔ Covers self.now clock.now }
     {
@@ -203,7 +202,7 @@ impl Part {
         is_among(self.versions.as_slice(), clock)
     }
 
-    /// Whether the versions' own counters show that no version's clock is at most this one.
+    /// Whether own counters show that no clock is at most this one.
     pub fn is_beyond(&self, top: &Clock) -> bool
         ensures { IsTrue result → (v : TheVersion) → IsIn v self.now → IsAtMost v.clock top.now → ⊥ }
     {

@@ -6,7 +6,7 @@ ghost use Rattle.ring_names.specs.declared.refusal.Refusal.TheVariants.{OutOfMem
 use ring_clock::Clock;
 use ring_names::{Refusal, Value};
 
-/// What a put stored: number, clock and value.
+/// What a put stored.
 #[derive(Drop)]
 pub struct Version {
     pub put: u32,
@@ -15,7 +15,7 @@ pub struct Version {
 }
 
 impl Version {
-    /// Copies the version, sharing clock entries and value. Takes no memory.
+    /// Copies the version without memory, sharing clock entries and value.
     #[inline(always)]
     pub fn try_copy(&self) -> Result<Version, Refusal>
         ensures same { IfOk result (λ v. v ≡ self.now) }

@@ -30,18 +30,14 @@ use std::sync::Arc;
 // From this many versions on, a set has chunks. Fewer are searched as fast without.
 const MANY: usize = 8;
 
-/// A set of versions whose clocks are not ordered. Copies share them.
+/// A set of unordered versions, shared by copies.
 ///
-/// Costs are given for clocks of puts, and for eight versions or more. Such a clock covers a version exactly if
-/// it reaches the own writer's counter.
+/// Costs are for clocks of puts, and eight versions or more. Such a clock covers a version exactly if it reaches the
+/// own writer's counter. Other clocks may cost a comparison with each version.
 ///
-/// With other clocks, a look may cost a comparison with each version.
+/// From eight versions on, each is in a chunk for the group of its own writer. A set takes 16 bytes for each chunk.
 ///
-/// From eight versions on, each is in a chunk for the group of its own writer. A set takes 16 bytes for each
-/// chunk.
-///
-/// A shared chunk takes about 100 bytes, 16 bytes for each version besides the version, and the unshared
-/// entries of its join.
+/// A shared chunk takes about 100 bytes, 16 for each version besides the version, and the unshared entries of its join.
 pub struct Versions {
     alloc: Global,
     shared: Shared,
@@ -69,7 +65,7 @@ impl Drop for Versions {
 }
 
 impl Versions {
-    /// No versions.
+    /// Starts empty.
     pub fn new(alloc: Global) -> Versions
         ensures { result ≡ [] }
     {
@@ -93,7 +89,7 @@ impl Versions {
         Versions::of_left(alloc, join_of(alloc, list.as_slice())?, Left { kept, made })
     }
 
-    // Makes the set of these versions, given the join of their clocks.
+    // Makes the set, given the join of its clocks.
     pub(crate) fn of_left(alloc: Global, join: Clock, left: Left) -> Result<Versions, Refusal>
         requires apart { IsApart (all_left left) }
         requires join { RaisesTo [] (IsClockIn (all_left left)) join }
@@ -126,7 +122,7 @@ impl Versions {
         }
     }
 
-    /// Iterates over the versions, in no particular order.
+    /// Iterates in no particular order.
     pub fn versions(&self) -> Walk<'_>
         ensures value { result ≡ self.now }
         ensures apart { IsApart self.now }
@@ -134,7 +130,7 @@ impl Versions {
         self.held().walk()
     }
 
-    /// Returns some version, if there is one.
+    /// Returns some version, if any.
     pub fn first(&self) -> Option<&Version>
         ensures value { option_map (λ v. v.now) result ≡ slice_get self.now 0 }
         ensures apart { IsApart self.now }
@@ -160,10 +156,9 @@ impl Versions {
         }
     }
 
-    /// Whether some version's clock is at least this one. Costs a look at the join.
+    /// Whether some version covers the clock. Costs a look at the join.
     ///
-    /// If that reaches the clock, also costs a look at each chunk's group and at one chunk's entries, and a
-    /// comparison.
+    /// If that reaches the clock, also looks at each chunk's group and one chunk's entries, and compares once.
     pub fn covers(&self, clock: &Clock) -> bool
         ensures { IsTrue result ↔ Covers self.now clock.now }
     {
@@ -172,19 +167,18 @@ impl Versions {
 
     /// Merges another set: the result covers what either covered, without ancestors. If refused, nothing changes.
     ///
-    /// Costs a look for each version of the other set. Each own chunk costs a look at its group.
+    /// Costs a look for each version of the other set, and for each own chunk one at its group.
     ///
-    /// If new versions have counters there, a chunk costs looks at the versions' own entries instead, or one
-    /// look if these may cover it.
+    /// If new versions have counters there, a chunk costs looks at the versions' own entries instead, or one look if
+    /// these may cover it.
     ///
-    /// Takes no memory if this set covers the other. One version in conflict with all is added in place if no
-    /// set shares them, for the memory of one version.
+    /// Takes no memory if this set covers the other. One version that conflicts with all is added in place if no set
+    /// shares them, for one version's memory.
     ///
-    /// A set below eight compares the version at most twice with each; a larger one raises two joins
-    /// (`Clock::raise`).
+    /// A set below eight compares the version at most twice with each; a larger one raises two joins (`Clock::raise`).
     ///
-    /// Otherwise copies new versions and staying ones; from eight on only those in chunks that change, the
-    /// chunks and the join.
+    /// Otherwise copies new and staying versions; from eight on only those in chunks that change, the chunks and the
+    /// join.
     pub fn merge(&mut self, other: &Versions) -> Result<(), Refusal>
         ensures ok { OnOk result (IsMerge self.old other.now self.new) }
         ensures err { OnErr result (self.new ≡ self.old) }
@@ -200,8 +194,8 @@ impl Versions {
         Ok(())
     }
 
-    // Merges one version in place. Does nothing and returns false unless it is in conflict with each one held and the
-    // changed part is unshared. A list never reaches eight versions here.
+    // Merges one version in place. Returns false, without changes, unless it conflicts with each and the changed part
+    // is unshared. A list never reaches eight here.
     fn add(&mut self, version: &Version) -> Result<bool, Refusal>
         ensures added { IfOk result (λ done. done ≡ true → IsMerge self.old (version.now ∷ []) self.new) }
         ensures same { IfOk result (λ done. done ≡ false → self.new ≡ self.old) }
@@ -221,7 +215,7 @@ impl Versions {
         }
     }
 
-    /// Prepares a merge: makes it aside, empty if this set covers the other. Costs what `merge` does.
+    /// Prepares a merge, empty if this set covers the other. Costs what `merge` does.
     pub fn fresh_of(&self, other: &Versions) -> Result<Fresh, Refusal>
         ensures ok { IfOk result (λ f. IsFreshFor self.now other.now f) }
         ensures memory { IfErr result (λ e. e ≡ OutOfMemory) }
@@ -230,7 +224,6 @@ impl Versions {
         Ok(Fresh { merged })
     }
 
-    // Returns the merge, or no version if this set covers the other.
     pub(crate) fn made_with(&self, other: &Versions) -> Result<Versions, Refusal>
         ensures ok { IfOk result (Brings self.now other.now) }
         ensures memory { IfErr result (λ e. e ≡ OutOfMemory) }
@@ -242,7 +235,7 @@ impl Versions {
         }
     }
 
-    /// Completes a merge that was prepared for this set. Cannot fail. Costs dropping the old versions.
+    /// Completes a merge prepared for this set. Cannot fail. Costs dropping the old versions.
     pub fn absorb(&mut self, fresh: Fresh)
         requires { FitsIn self.old fresh }
         ensures { (other : List Version) → IsFreshFor self.old other fresh → IsMerge self.old other self.new }
@@ -253,7 +246,7 @@ impl Versions {
         }
     }
 
-    /// Returns the numbers of the puts, ascending. Costs a sort.
+    /// Returns the puts, ascending. Costs a sort.
     pub fn puts(&self) -> Result<Listed<u32>, Refusal>
         ensures ok { IfOk result (λ ns. ArePuts self.now ns) }
         ensures memory { IfErr result (λ e. e ≡ OutOfMemory) }
@@ -261,7 +254,7 @@ impl Versions {
         puts_of(self.alloc, self.versions())
     }
 
-    // Returns the join of the versions' clocks. Free from eight versions on, otherwise costs their entries.
+    // Free from eight versions on, otherwise costs the entries.
     pub(crate) fn join(&self) -> Result<Clock, Refusal>
         ensures ok { IfOk result (RaisesTo [] (IsClockIn self.now)) }
         ensures memory { IfErr result (λ e. e ≡ OutOfMemory) }
@@ -272,7 +265,7 @@ impl Versions {
         }
     }
 
-    /// Returns the join of the versions' clocks if it is kept: for one version, and from eight on.
+    /// Returns the join, kept for one version and from eight on.
     pub fn top(&self) -> Option<&Clock>
         ensures { IfSome result (λ c. RaisesTo [] (IsClockIn self.now) c.now) }
     {
@@ -283,7 +276,7 @@ impl Versions {
         }
     }
 
-    /// Copies the set, which shares the versions. Takes no memory. Fails only if 2^64 sets would share them.
+    /// Copies the set without memory, sharing versions. Fails only if 2^64 sets would share them.
     pub fn try_copy(&self) -> Result<Versions, Refusal>
         ensures same { IfOk result (λ s. s ≡ self.now) }
         ensures apart { IsApart self.now }

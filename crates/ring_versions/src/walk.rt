@@ -7,7 +7,7 @@ use crate::chunk::Chunk;
 use crate::version::Version;
 use std::marker::Model;
 
-/// The remaining versions of a set, in no particular order.
+/// The remaining versions, in no particular order.
 #[derive(Drop)]
 pub struct Walk<'a> {
     rest: &'a [Version],

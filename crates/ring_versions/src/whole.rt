@@ -1,4 +1,4 @@
-//! What sets of versions share.
+//! What sets share.
 
 ghost use Rattle.std.specs.Prelude.{◌≡◌, ◌↔◌, ◌<◌, ◌∷◌, [], true, false, length, IsTrue, IfOk, IfErr, IfSome, OnErr};
 ghost use Rattle.ring_names.specs.declared.refusal.Refusal.TheVariants.{OutOfMemory};
@@ -15,14 +15,14 @@ use ring_names::Refusal;
 use std::marker::Model;
 use std::sync::Arc;
 
-/// Many versions in shared chunks, and the join of their clocks.
+/// Many versions in shared chunks, and their join.
 #[derive(Drop)]
 pub struct Whole {
     join: Clock,
     chunks: Vec<Chunk>,
 }
 
-/// What copies of a set share: nothing, one version in one allocation, or more.
+/// What copies share: nothing, one version in one allocation, or more.
 #[derive(Drop)]
 pub enum Shared {
     Nothing,
@@ -71,7 +71,6 @@ fn is_in_some(chunks: &[Chunk], clock: &Clock) -> bool
     false
 }
 
-// Whether the versions' own counters show that no version's clock is at most this one.
 fn are_beyond(chunks: &[Chunk], clock: &Clock) -> bool
     ensures { IsTrue result → (v : TheVersion) → IsIn v (all_of chunks.now) → IsAtMost v.clock clock.now → ⊥ }
 {
@@ -92,7 +91,7 @@ fn place_of(chunks: &[Chunk], group: u32) -> Option<usize>
 }
 
 impl Whole {
-    /// Makes the versions of these chunks.
+    /// Wraps the chunks.
     pub fn of(join: Clock, chunks: Vec<Chunk>) -> Whole
         requires { RaisesTo [] (IsClockIn (all_of chunks.items)) join }
         ensures { result ≡ all_of chunks.items }
@@ -100,7 +99,7 @@ impl Whole {
         Whole { join, chunks }
     }
 
-    /// Returns the join of the versions' clocks.
+    /// Returns the join.
     pub fn join(&self) -> &Clock
         ensures { RaisesTo [] (IsClockIn self.now) result.now }
     {
@@ -114,13 +113,13 @@ impl Whole {
         self.chunks.as_slice()
     }
 
-    /// Whether some chunk was made for the group. Costs a look at each, not into them.
+    /// Whether some chunk has the group. Costs a look at each, not into them.
     pub fn has_group(&self, group: u32) -> bool {
         self.chunks.iter().any(|chunk| chunk.group() == group)
     }
 
-    /// Whether some version's clock is at least this one. Mostly its own writer decides: by the join if no version is,
-    /// otherwise by that writer's own version.
+    /// Whether some version covers the clock. Mostly its own writer decides: by the join if no version covers it,
+    /// otherwise by that writer's version.
     pub fn covers(&self, clock: &Clock) -> bool
         ensures { IsTrue result ↔ Covers self.now clock.now }
     {
@@ -132,7 +131,7 @@ impl Whole {
         leads(chunks, clock) || is_in_some(chunks, clock)
     }
 
-    // Whether it is clear that no version's clock is at least or at most this one.
+    // Whether each version clearly conflicts with the clock.
     fn is_beside(&self, clock: &Clock) -> bool
         ensures { IsTrue result → IsBeside self.now clock.now }
     {
@@ -140,11 +139,11 @@ impl Whole {
         self.join.counter(own) < clock.counter(own) && are_beyond(self.chunks.as_slice(), clock)
     }
 
-    /// Merges one version in place. Does nothing and returns false unless it is clearly in conflict with each
-    /// and its group's chunk is unshared.
+    /// Merges one version in place. Returns false, without changes, unless it clearly conflicts with each and its
+    /// group's chunk is unshared.
     ///
-    /// Costs the entries of two joins. Costs a look at each chunk's group, or at its versions' own entries if
-    /// the version has counters there.
+    /// Costs the entries of two joins, and a look at each chunk's group, or at its versions' own entries if the version
+    /// counts there.
     pub fn add(&mut self, version: &Version) -> Result<bool, Refusal>
         requires { IsApart self.old }
         ensures added { IfOk result (λ done. done ≡ true → IsMerge self.old (version.now ∷ []) self.new) }
