@@ -3,8 +3,8 @@
 /// The partitions that a part of a history sees.
 #[derive(Clone, Copy, Debug, PartialEq, Eq)]
 pub enum Choice {
-    /// Partition p if p modulo `of` is `part`; `of` is not 0.
+    /// Partition p if p modulo `of`, which is not 0, is `part`.
     Share { of: u32, part: u32 },
-    /// The partitions from `first` to `last`.
+    /// From `first` to `last`.
     Range { first: u32, last: u32 },
 }

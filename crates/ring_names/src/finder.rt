@@ -8,19 +8,21 @@ use crate::noted::{FREE, Noted, find, note};
 use std::alloc::{AllocError, Global};
 use std::collections::BTreeMap;
 
-/// Finds the numbers of bytes in a list: by a checksum, or by order if too many checksums are close.
+/// Finds bytes in a list, by a checksum.
+///
+/// If too many checksums are close, finds them by order.
 ///
 /// So bytes chosen to collide cost their length times the logarithm of their number, others their length.
 #[derive(Drop)]
 pub struct Finder {
     alloc: Global,
     table: Vec<Noted>,
-    // those without a place in the table
+    // Those without a place in the table.
     others: BTreeMap<Vec<u8>, usize>,
 }
 
 impl Finder {
-    /// Starts without bytes.
+    /// Starts empty.
     pub fn new(alloc: Global) -> Finder
         ensures { Knows result [] }
     {
@@ -31,7 +33,7 @@ impl Finder {
         }
     }
 
-    /// Returns the number of these bytes, if they are in the list.
+    /// Returns the bytes' number, if listed.
     pub fn number_of(&self, list: &[Vec<u8>], bytes: &[u8]) -> Option<usize>
         requires { Knows self.now (map (λ b. b.items) list.now) }
         ensures { result ≡ place (map (λ b. b.items) list.now) bytes.now }
@@ -45,8 +47,8 @@ impl Finder {
         }
     }
 
-    /// Adds new bytes, the next of the list. If refused, nothing changes. Costs the bytes of the list when their number
-    /// has doubled.
+    /// Adds the list's next bytes. If refused, nothing changes. Costs the bytes of the list when their number has
+    /// doubled.
     pub fn add(&mut self, list: &[Vec<u8>], bytes: &[u8]) -> Result<(), AllocError>
         requires knows { Knows self.old (map (λ b. b.items) list.now) }
         requires new { place (map (λ b. b.items) list.now) bytes.now ≡ None }
@@ -76,13 +78,13 @@ impl Finder {
         Ok(())
     }
 
-    // Makes a larger table once the list fills half of this one.
+    // Makes a larger table once the list fills half.
     fn make_room(&mut self, list: &[Vec<u8>]) -> Result<(), AllocError>
         requires { Knows self.old (map (λ b. b.items) list.now) }
         ensures { Knows self.new (map (λ b. b.items) list.now) }
     {
         let count = list.len();
-        // Above the second bound memory cannot suffice, and below it the sum stays in range.
+        // Above the second bound memory cannot suffice; below it the sum stays in range.
         if count < self.table.len() / 2 || count > 1 << 40 {
             return Ok(());
         }

@@ -1,10 +1,10 @@
-//! Numbers with types of their own.
+//! Typed numbers.
 
-/// A node, by its place among the node lines of its ring, from 0.
+/// A node, by its place among the ring's node lines, from 0.
 #[derive(Clone, Copy, Debug, PartialEq, Eq, PartialOrd, Ord, Hash)]
 pub struct NodeId(pub u32);
 
-/// A writer, by order of first sight in its bundle, from 0.
+/// A writer, by first sight in its bundle, from 0.
 #[derive(Clone, Copy, Debug, PartialEq, Eq)]
 pub struct WriterId(pub u32);
 

@@ -1,4 +1,4 @@
-//! What every crate names: refusals, the numbers of nodes, writers and slots, and names numbered by first sight.
+//! What every crate names: refusals, numbers of nodes, writers and slots, and names.
 //!
 //! A function without a `Result` takes no memory.
 #![tactic(auto)]

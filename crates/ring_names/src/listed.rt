@@ -44,7 +44,7 @@ impl<T> Listed<T> {
 }
 
 impl<T: Drop> Listed<T> {
-    /// Adds the item; the first makes room for 12. Fails only if memory runs out, and then nothing changes.
+    /// Adds the item; the first makes room for 12. If refused, nothing changes.
     pub fn push(&mut self, item: T) -> Result<(), Refusal>
         ensures ok { OnOk result (self.new ≡ self.old ++ item ∷ []) }
         ensures err { OnErr result (self.new ≡ self.old) }

@@ -11,8 +11,7 @@ use std::hash::Hash;
 
 /// A list of values for each key, empty by default.
 ///
-/// Keys are hashed with a fixed seed. So use it for few keys, such as nodes and slots, not for keys chosen by
-/// the author of a text.
+/// Keys are hashed with a fixed seed: use it for few keys, such as nodes, not for keys chosen by a text's author.
 #[derive(Drop)]
 pub struct Lists<K: Eq + Hash, V> {
     alloc: Global,
@@ -20,7 +19,7 @@ pub struct Lists<K: Eq + Hash, V> {
 }
 
 impl<K: Eq + Hash + Drop, V: Drop> Lists<K, V> {
-    /// Starts with empty lists.
+    /// Starts empty.
     pub fn new(alloc: Global) -> Lists<K, V>
         ensures { (key : K) → list_at K.eq result key ≡ [] }
     {
@@ -30,7 +29,7 @@ impl<K: Eq + Hash + Drop, V: Drop> Lists<K, V> {
         }
     }
 
-    /// Returns the values of the key, in the order of their addition.
+    /// Returns the key's values, in the order of addition.
     #[inline(always)]
     pub fn items(&self, key: &K) -> &[V]
         ensures { result.now ≡ list_at K.eq self.now key.now }
@@ -41,7 +40,7 @@ impl<K: Eq + Hash + Drop, V: Drop> Lists<K, V> {
         }
     }
 
-    /// Adds the value to the end of the key's list.
+    /// Adds the value to the key's list.
     #[inline(always)]
     pub fn add(&mut self, key: K, value: V) -> Result<(), Refusal>
         ensures ok { OnOk result (AddsLast K.eq self.old self.new key value) }

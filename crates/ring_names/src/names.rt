@@ -33,7 +33,7 @@ impl Model for Names {
 }
 
 impl Names {
-    /// No names. Memory comes from `alloc`.
+    /// Starts empty.
     pub fn new(alloc: Global) -> Names
         ensures { result ≡ [] }
     {
@@ -49,7 +49,7 @@ impl Names {
         self.names.len() as u32
     }
 
-    /// Returns the number of `name`, old or new. Only a new name can fail.
+    /// Returns the name's number. Only a new name can fail.
     pub fn add(&mut self, name: &[u8]) -> Result<u32, Refusal>
         requires { length self.old < 4294967295 }
         ensures number { IfOk result (λ n. place self.new name.now ≡ Some n) }
@@ -61,7 +61,7 @@ impl Names {
         Ok(number as u32)
     }
 
-    /// Returns the number of `name`, if it was seen.
+    /// Returns the name's number, if seen.
     pub fn number_of(&self, name: &[u8]) -> Option<u32>
         ensures { result ≡ place self.now name.now }
     {
@@ -71,7 +71,7 @@ impl Names {
         }
     }
 
-    /// Returns the name of a number, if there is one.
+    /// Returns a number's name, if any.
     pub fn name_of(&self, number: u32) -> Option<&[u8]>
         ensures { option_map (λ name. name.now) result ≡ slice_get self.now number }
     {

@@ -4,7 +4,7 @@ ghost use Rattle.std.specs.Prelude.{◌≡◌, ℕ, List, Some, true, false, len
 ghost use Rattle.std.specs.List.{fold};
 ghost use Rattle.ring_names.specs.Noted.{IsNoted, first_place, next_sum, noted_at, sum_of, sum_of_words};
 
-/// An entry of the table: a checksum of some bytes, and 1 plus their number, or 0 if free.
+/// A checksum of bytes, and 1 plus their number, or 0 if free.
 #[derive(Clone, Copy)]
 pub struct Noted {
     sum: u32,
@@ -25,7 +25,7 @@ fn next_sum(sum: u64, word: u64) -> u64
     product ^ (product >> 32)
 }
 
-// The sum of fewer than 8 bytes.
+// Sums fewer than 8 bytes.
 fn sum_of_few(bytes: &[u8]) -> u64
     ensures { result ≡ fold next_sum 0 bytes.now }
 {
@@ -34,7 +34,7 @@ fn sum_of_few(bytes: &[u8]) -> u64
         .fold(0, |sum, byte| next_sum(sum, u64::from(*byte)))
 }
 
-// The sum of all whole words.
+// Sums the whole words.
 fn sum_of_words(bytes: &[u8]) -> u64
     ensures { result ≡ sum_of_words 0 bytes.now }
 {
@@ -47,7 +47,6 @@ fn sum_of_words(bytes: &[u8]) -> u64
     sum
 }
 
-// A checksum that depends on the bytes and their order.
 fn sum_of(bytes: &[u8]) -> u32
     ensures { result ≡ sum_of bytes.now }
 {
@@ -58,7 +57,7 @@ fn sum_of(bytes: &[u8]) -> u32
     (sum >> 32) as u32
 }
 
-// The first place of a checksum in a table. A product and a shift are much faster than a division.
+// A product and a shift are much faster than a division.
 fn first_place(places: usize, sum: u32) -> usize
     ensures { result ≡ first_place places sum }
 {
@@ -77,7 +76,7 @@ fn number_at(table: &[Noted], place: usize, sum: u32) -> Option<usize>
     }
 }
 
-/// Returns the bytes of a number, if there are any.
+/// Returns the number's bytes, if any.
 pub fn bytes_at(list: &[Vec<u8>], number: usize) -> Option<&[u8]>
     ensures { option_map (λ bytes. bytes.now) result ≡ slice_get (map (λ b. b.items) list.now) number }
 {
@@ -115,7 +114,7 @@ fn found_at(
     None
 }
 
-/// Returns the number of these bytes, if it was noted. Costs their length.
+/// Returns the bytes' number, if noted. Costs their length.
 pub fn find(table: &[Noted], list: &[Vec<u8>], bytes: &[u8]) -> Option<usize>
     ensures found { IfSome result (λ n. slice_get (map (λ b. b.items) list.now) n ≡ Some bytes.now) }
     ensures none { IfNone result
@@ -147,7 +146,7 @@ fn put(table: &mut [Noted], place: usize, noted: Noted) -> bool
     false
 }
 
-/// Notes the number of these bytes, if a place near their checksum's is free. Earlier notes stay.
+/// Notes the bytes' number, if a place near their checksum's is free. Earlier notes stay.
 pub fn note(table: &mut [Noted], bytes: &[u8], number: usize) -> bool
     ensures noted { result ≡ true → IsNoted table.new bytes.now number }
     ensures same { result ≡ false → table.new ≡ table.old }

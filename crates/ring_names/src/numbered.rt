@@ -12,8 +12,7 @@ use std::marker::Model;
 
 /// Bytes, numbered by first sight from 0.
 ///
-/// Authors of texts choose them: a look-up mostly costs their length, and in the worst case their length times
-/// the logarithm of their number.
+/// Authors of texts choose them: a look-up mostly costs their length, at worst times the logarithm of their number.
 #[derive(Drop)]
 pub struct Numbered {
     alloc: Global,
@@ -33,7 +32,7 @@ impl Model for Numbered {
 }
 
 impl Numbered {
-    /// No bytes. Memory comes from `alloc`.
+    /// Starts empty.
     pub fn new(alloc: Global) -> Numbered
         ensures { result ≡ [] }
     {
@@ -51,7 +50,7 @@ impl Numbered {
         self.list.len()
     }
 
-    /// Returns the number of these bytes, old or new. Only new bytes can fail.
+    /// Returns the bytes' number. Only new bytes can fail.
     pub fn add(&mut self, bytes: &[u8]) -> Result<usize, Refusal>
         ensures number { IfOk result (λ n. place self.new bytes.now ≡ Some n) }
         ensures below { IfOk result (λ n. n ≤ length self.old) }
@@ -70,14 +69,14 @@ impl Numbered {
         Ok(number)
     }
 
-    /// Returns the number of these bytes, if they were seen.
+    /// Returns the bytes' number, if seen.
     pub fn number_of(&self, bytes: &[u8]) -> Option<usize>
         ensures { result ≡ place self.now bytes.now }
     {
         self.finder.number_of(self.list.as_slice(), bytes)
     }
 
-    /// Returns the bytes of a number, if there are any.
+    /// Returns the number's bytes, if any.
     pub fn get(&self, number: usize) -> Option<&[u8]>
         ensures { option_map (λ bytes. bytes.now) result ≡ slice_get self.now number }
     {

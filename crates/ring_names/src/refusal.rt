@@ -11,14 +11,14 @@ use thiserror::Error;
 
 /// Why a text, a plan, an event or a run was refused.
 ///
-/// Each has a number and up to two values: lines count from 1, steps, facts, chains, nodes and entries from 0.
+/// Lines count from 1; steps, facts, chains, nodes and entries from 0.
 #[derive(Clone, Copy, PartialEq, Eq, Error)]
 pub enum Refusal {
-    /// 1 (line): the line is not in the grammar.
+    /// 1 (line): not in the grammar.
     BadLine(u32),
-    /// 2 (line): a limit is exceeded.
+    /// 2 (line): over a limit.
     TooLarge(u32),
-    /// 3 (line): the name is not declared.
+    /// 3 (line): an undeclared name.
     UnknownNode(u32),
     /// 4 (line): declared, joined, retired or named twice.
     Repeated(u32),
@@ -26,13 +26,13 @@ pub enum Refusal {
     QuorumTooSmall(u32),
     /// 11 (line): one owner twice in a partition.
     SharedNode(u32),
-    /// 12 (line, or node for events): the node is not a member.
+    /// 12 (line, or node for events): not a member.
     NotMember(u32),
     /// 20 (line): the dependency is not an earlier step.
     LaterDependency(u32),
     /// 21 (step): the step does not fit the slot's stage.
     WrongStage(u32),
-    /// 22 (step): not ordered after the slot's step before it.
+    /// 22 (step): not ordered after the slot's previous step.
     UnorderedSlot(u32),
     /// 23 (step): a listed slot twice, or fewer than R listed.
     BadSource(u32),
@@ -40,17 +40,17 @@ pub enum Refusal {
     MovingSource(u32),
     /// 25 (step): the node may still serve another slot of the partition, from the start or since an earlier step.
     SharedInPlan(u32),
-    /// 26 (step): the node is declared `out`, and none of its joins is ordered before the step that mirrors or retires it.
+    /// 26 (step): the node is declared `out`, and no join of it is ordered before the step that mirrors or retires it.
     NotJoined(u32),
-    /// 27 (step): something that the node held, from the start or since a mirror, has no drop ordered before its retirement.
+    /// 27 (step): something the node held, from the start or since a mirror, has no drop ordered before its retirement.
     RetiredInUse(u32),
     /// 28: the planner found none.
     NoPlan,
-    /// 30 (fact): fewer than two steps, or a link is not a direct dependency.
+    /// 30 (fact): fewer than two steps, or a link that is not a direct dependency.
     BadPath(u32),
-    /// 32 (node, step): none of the node's chains has the copy, although the node takes part in it.
+    /// 32 (node, step): no chain of the node has the copy, although the node takes part.
     CoverMissing(u32, u32),
-    /// 33 (chain): a link is not ordered, or an entry is not a copy in which the node takes part.
+    /// 33 (chain): an unordered link, or an entry that is not a copy in which the node takes part.
     ChainBroken(u32),
     /// 34 (node): more chains than the allowance, on one side if it has two.
     TooManyChains(u32),
@@ -58,27 +58,27 @@ pub enum Refusal {
     NotReady,
     /// 41: already done.
     AlreadyDone,
-    /// 42 (node): that node must be up.
+    /// 42 (node): the node must be up.
     NodeDown(u32),
     /// 43: the keeper has a hint for another slot of the partition.
     KeeperTaken,
     /// 44: the keeper owns or mirrors a slot of the partition.
     KeeperInPartition,
-    /// 45 (current): fewer than W slots have a current ticket.
+    /// 45 (current): fewer than W current tickets.
     StaleTickets(u32),
-    /// 46 (read): fewer than R slots were read.
+    /// 46 (read): fewer than R slots read.
     TooFewSlots(u32),
     /// 47: no such step of that kind, put, get, partition, slot or chunk.
     UnknownNumber,
-    /// 48: hints that must be handed off first.
+    /// 48: hints must be handed off first.
     HintsLeft,
     /// 49: the copy is not open.
     NotOpen,
-    /// 50 (left): that many chunks are not marked.
+    /// 50 (left): that many chunks are unmarked.
     ChunksLeft(u32),
     /// 51: the history has 1,000,000 entries.
     HistoryFull,
-    /// 52: as many nodes lost their data already as the ring allows.
+    /// 52: as many nodes lost their data as the ring allows.
     LossesSpent,
     /// 60: memory ran out.
     OutOfMemory,
@@ -86,16 +86,16 @@ pub enum Refusal {
     ReadFailed,
     /// 62: the output failed.
     WriteFailed,
-    /// 70 (index, code): the first entry whose event is refused (code is that refusal's number) or has another reply (code 0).
+    /// 70 (index, code): the first entry whose event is refused (code: that refusal) or has another reply (code 0).
     Mismatch(u32, u32),
     /// 70: the records of a run disagree.
     Disagree,
-    /// 71: a stated limit of turns was used up.
+    /// 71: a stated limit of turns is used up.
     TurnsSpent,
 }
 
 impl Refusal {
-    /// Returns the number by which formats and programs know the refusal.
+    /// Returns the number used by formats and programs.
     pub fn number(&self) -> u8
         ensures { result ≡ number_of self.now }
     {
@@ -160,7 +160,7 @@ impl Refusal {
         }
     }
 
-    /// Adds the refusal's line: `no`, its number and its values, between single spaces, and a newline.
+    /// Adds the refusal's line: `no`, its number and values, and a newline.
     pub fn write_line(&self, out: &mut Vec<u8>) -> Result<(), AllocError>
         ensures ok { OnOk result (out.new.items ≡ out.old.items ++ line_of self.now) }
     {
@@ -177,7 +177,7 @@ impl Refusal {
         Ok(())
     }
 
-    /// Returns the values of the refusal's line, in order.
+    /// Returns the line's values, in order.
     pub fn values(&self) -> (Option<u32>, Option<u32>)
         ensures { option_to_list result.0 ++ option_to_list result.1 ≡ values_of self.now }
     {
@@ -210,7 +210,6 @@ impl Refusal {
     }
 }
 
-// The line, without its newline.
 impl fmt::Display for Refusal {
     fn fmt<W: fmt::Write>(&self, f: &mut fmt::Formatter<W>) -> fmt::Result {
         let number = self.number();

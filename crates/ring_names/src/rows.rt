@@ -8,10 +8,10 @@ use crate::refusal::Refusal;
 use std::alloc::Global;
 use std::marker::Model;
 
-/// Rows of numbers in one vector, so that a row needs no allocation.
+/// Rows in one vector, so that a row needs no allocation.
 #[derive(Debug)]
 pub struct Rows {
-    // where each row ends
+    // Where each row ends.
     ends: Vec<usize>,
     numbers: Vec<u32>,
 }
@@ -25,7 +25,6 @@ impl Drop for Rows {
     }
 }
 
-// Where the row at that place begins.
 fn start_of(ends: &[usize], place: usize) -> usize
     requires { place ≤ length ends.now }
     ensures { result ≡ slice_index (0 ∷ ends.now) place }
@@ -33,7 +32,6 @@ fn start_of(ends: &[usize], place: usize) -> usize
     if place == 0 { 0 } else { ends[place - 1] }
 }
 
-// The numbers of the row at that place.
 fn row_at<'a>(ends: &[usize], numbers: &'a [u32], place: usize) -> &'a [u32]
     requires there { place < length ends.now }
     requires from { slice_index (0 ∷ ends.now) place ≤ slice_index ends.now place }
@@ -55,7 +53,7 @@ impl Model for Rows {
 }
 
 impl Rows {
-    /// No rows.
+    /// Starts empty.
     pub fn new(alloc: Global) -> Rows
         ensures { result ≡ [] }
     {
@@ -72,7 +70,7 @@ impl Rows {
         self.ends.len()
     }
 
-    /// Counts the numbers of all rows.
+    /// Counts all rows' numbers.
     pub fn total(&self) -> usize
         ensures { result ≡ sum_by (λ row. length row) self.now }
     {
@@ -87,7 +85,7 @@ impl Rows {
         row_at(self.ends.as_slice(), self.numbers.as_slice(), place)
     }
 
-    /// Adds a row. Fails only if memory runs out, and then nothing changes.
+    /// Adds a row. If refused, nothing changes.
     #[inline(always)]
     pub fn push(&mut self, row: &[u32]) -> Result<(), Refusal>
         ensures ok { OnOk result (self.new ≡ self.old ++ row.now ∷ []) }
@@ -100,7 +98,7 @@ impl Rows {
         Ok(())
     }
 
-    /// Removes the last row, if there is one.
+    /// Removes the last row, if any.
     pub fn pop(&mut self)
         ensures { self.new ≡ take (length self.old - 1) self.old }
     {

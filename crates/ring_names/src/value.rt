@@ -34,7 +34,7 @@ impl Drop for Value {
 }
 
 impl Value {
-    /// Makes a value of the bytes, unless they are too many. Takes memory for one reference count.
+    /// Makes a value, unless the bytes are too many. Takes memory for one reference count.
     pub fn of(alloc: Global, bytes: Vec<u8>) -> Result<Option<Value>, AllocError>
         ensures some { IfOk result (λ value. is_some value ≡ is_value bytes.items) }
         ensures same { IfOk result (λ value. IfSome value (λ v. v ≡ bytes.items)) }
@@ -64,7 +64,7 @@ impl Value {
         }
     }
 
-    /// Copies the value, which shares the bytes. Takes no memory. Fails only if 2^64 values would share them.
+    /// Copies the value without memory, sharing the bytes. Fails only if 2^64 values would share them.
     pub fn try_copy(&self) -> Result<Value, AllocError>
         ensures { IfOk result (λ value. value ≡ self.now) }
     {
