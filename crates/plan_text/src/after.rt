@@ -8,7 +8,6 @@ use crate::plan::Plan;
 use ring_names::Refusal;
 use texts::{CAP, Fields, NumberRow};
 
-// Steps that the next one of the plan waits for.
 fn dependencies<'a>(
     plan: &Plan,
     fields: &Fields,
@@ -38,7 +37,7 @@ fn dependencies<'a>(
     Ok(row)
 }
 
-/// Nothing, or `after` and the numbers behind it. Takes no memory.
+/// Reads the numbers after `after`, if any. Takes no memory.
 #[tactic(auto, unfolding(crate::specs::Reading::after_at))]
 pub fn after<'a>(plan: &Plan, fields: &mut Fields<'a>) -> Result<NumberRow<'a>, Refusal>
     ensures { Does (after_at plan.now) fields.old result fields.new }

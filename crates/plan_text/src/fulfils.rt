@@ -8,21 +8,19 @@ ghost use Rattle.plan_text.specs.Changes.{numbers, step_names};
 use crate::step::Step;
 use ring_names::NodeId;
 
-// Whether the number is that of one of these.
 fn is_number_of(nodes: &[NodeId], number: u32) -> bool
     ensures { result ≡ list_any (λ x. number == x.0) nodes.now }
 {
     nodes.iter().any(|x| number == x.0)
 }
 
-// Whether the node is one of these.
 fn is_among(nodes: &[NodeId], node: NodeId) -> bool
     ensures { result ≡ has node.0 (numbers nodes.now) }
 {
     is_number_of(nodes, node.0)
 }
 
-// Whether the node that the step joins is one of `joins`, and the one that it retires one of `leaves`.
+// Whether the node that the step joins is one of `joins`, or the one it retires one of `leaves`.
 fn names_only(joins: &[NodeId], leaves: &[NodeId], step: &Step) -> bool
     ensures { result ≡ step_names joins.now leaves.now step.now }
 {
@@ -33,7 +31,7 @@ fn names_only(joins: &[NodeId], leaves: &[NodeId], step: &Step) -> bool
     }
 }
 
-/// Whether the steps join none but these nodes, and retire none but those.
+/// Whether the steps join and retire only these nodes.
 pub fn all_name_only(joins: &[NodeId], leaves: &[NodeId], steps: &[Step]) -> bool
     ensures { result ≡ list_all (step_names joins.now leaves.now) steps.now }
 {

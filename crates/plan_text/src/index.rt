@@ -1,4 +1,4 @@
-//! What a plan keeps besides its steps, so that nothing has to be looked for in them.
+//! A plan's index, so that no search goes through its steps.
 
 ghost use Rattle.std.specs.Prelude.{◌≡◌, ℕ, length, ◌++◌, ◌∷◌, [], ◌==◌, ◌&&◌, not, List, Some, None, IfErr, OnOk};
 ghost use Rattle.std.specs.Prelude.{OnErr, if◌then◌else◌, true};
@@ -14,7 +14,7 @@ use ring_names::{NodeId, Refusal, Slot};
 use std::alloc::Global;
 use std::collections::HashMap;
 
-/// The first step that speaks of each node, and whether each was met once only.
+/// Where each node is first named, and whether only once.
 #[derive(Drop)]
 pub struct NodeIndex {
     firsts: HashMap<NodeId, u32>,
@@ -22,7 +22,7 @@ pub struct NodeIndex {
 }
 
 impl NodeIndex {
-    /// No node was met.
+    /// Starts empty.
     pub fn new(alloc: Global) -> NodeIndex
         ensures firsts { (x : ℕ) → first_of result x ≡ None }
         ensures different { result.different ≡ true }
@@ -33,28 +33,28 @@ impl NodeIndex {
         }
     }
 
-    /// The number of the first step that met the node.
+    /// Returns the first step that names the node.
     pub fn first(&self, node: NodeId) -> Option<u32>
         ensures { result ≡ first_of self.now node.0 }
     {
         self.firsts.get(&node).copied()
     }
 
-    /// Whether the node was met.
+    /// Whether the node was named.
     pub fn holds(&self, node: NodeId) -> bool
         ensures { result ≡ holds self.now node.0 }
     {
         self.first(node).is_some()
     }
 
-    /// Whether each node was met once only.
+    /// Whether each node was named only once.
     pub fn all_different(&self) -> bool
         ensures { result ≡ self.now.different }
     {
         self.different
     }
 
-    /// Meets one more node, in the step of that number.
+    /// Adds a node that this step names.
     pub fn add(&mut self, node: NodeId, number: u32) -> Result<(), Refusal>
         ensures firsts { OnOk result ((x : ℕ)
             → first_of self.new x ≡ option_or (first_of self.old x) (if x == node.0 then Some number else None)) }
@@ -72,14 +72,14 @@ impl NodeIndex {
     }
 }
 
-/// The index of a plan.
+/// A plan's steps by slot and by node.
 pub struct Index {
     slots: SlotSteps,
     joins: NodeIndex,
     retirements: NodeIndex,
 }
 
-// Dropped by a call, as a plan is.
+// Dropping is a call, as a plan's is.
 impl Drop for Index {
     fn drop(self) {
         let Index {
@@ -94,7 +94,7 @@ impl Drop for Index {
 }
 
 impl Index {
-    /// The index of the plan of no steps.
+    /// Starts without steps.
     pub fn new(alloc: Global) -> Index
         ensures { HoldsSteps result [] }
     {
@@ -105,7 +105,7 @@ impl Index {
         }
     }
 
-    /// Takes in the plan's next step.
+    /// Adds the plan's next step.
     #[inline(always)]
     pub fn add(&mut self, step: &Step, number: u32) -> Result<(), Refusal>
         ensures ok { OnOk result ((plan : List Planned) → HoldsSteps self.old plan → length plan ≡ number
@@ -123,7 +123,7 @@ impl Index {
         }
     }
 
-    /// The numbers of the slot's steps.
+    /// Returns the slot's steps.
     #[inline(always)]
     pub fn slot_numbers(&self, slot: Slot) -> &[u32]
         ensures { result.now ≡ numbers_at self.now.slots slot }
@@ -131,14 +131,14 @@ impl Index {
         self.slots.items(slot)
     }
 
-    /// The first step that joins the node.
+    /// Returns the first step that joins the node.
     pub fn join_of(&self, node: NodeId) -> Option<u32>
         ensures { result ≡ first_of self.now.joins node.0 }
     {
         self.joins.first(node)
     }
 
-    /// The first step that retires the node.
+    /// Returns the first step that retires the node.
     pub fn retirement_of(&self, node: NodeId) -> Option<u32>
         ensures { result ≡ first_of self.now.retirements node.0 }
     {
@@ -159,7 +159,7 @@ impl Index {
         self.retirements.holds(node)
     }
 
-    /// Whether no node joins twice, and none retires twice.
+    /// Whether no node joins twice or retires twice.
     pub fn all_different(&self) -> bool
         ensures { result ≡ (self.now.joins.different && self.now.retirements.different) }
     {

@@ -1,11 +1,11 @@
-//! A few slots of a partition, by index.
+//! A partition's slots, by index.
 
 ghost use Rattle.std.specs.Prelude.{◌≡◌, ◌≤◌, true, length, nat_lt, IfSome, IfNone};
 ghost use Rattle.std.specs.List.{list_all};
 
 use std::marker::Model;
 
-/// Up to 7 slots of a partition by index, in the order written.
+/// Up to 7 slots by index, in the order written.
 #[derive(Debug, Drop)]
 pub struct Indexes {
     first: [u8; 7],
@@ -29,7 +29,7 @@ fn are_small(numbers: &[u32]) -> bool
 }
 
 impl Indexes {
-    /// Keeps these indexes, if there are at most 7 and each is below 256.
+    /// Keeps at most 7 indexes, each below 256.
     pub fn of(numbers: &[u32]) -> Option<Indexes>
         ensures some { IfSome result (λ x. x ≡ numbers.now) }
         ensures none { IfNone result (length numbers.now ≤ 7 → list_all (λ i. nat_lt i 256) numbers.now ≡ true → ⊥) }
@@ -55,7 +55,7 @@ impl Indexes {
         }
     }
 
-    /// Returns the same indexes.
+    /// Copies the indexes.
     pub(crate) fn copy(&self) -> Indexes
         ensures { result ≡ self.now }
     {

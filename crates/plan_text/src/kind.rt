@@ -1,4 +1,4 @@
-//! What a step is, by its line.
+//! Reads what a step does.
 
 ghost use Rattle.std.specs.Prelude.{◌≡◌, ◌≤◌};
 ghost use Rattle.texts.specs.Judging.{map_item, Does};
@@ -12,7 +12,7 @@ use ring_names::{Refusal, Slot};
 use ring_table::Ring;
 use texts::{Fields, NumberRow, both};
 
-// Listed slots of a ring of n slots.
+// Reads listed slots of a ring with n slots.
 fn indexes(n: u32, fields: &Fields, row: &NumberRow) -> Result<Indexes, Refusal>
     requires { n ≤ 7 }
     ensures { result ≡ judge_indexes n fields.now.number row.now }
@@ -36,7 +36,7 @@ fn indexes(n: u32, fields: &Fields, row: &NumberRow) -> Result<Indexes, Refusal>
     }
 }
 
-// `owner`, or `slots` and the numbers behind it.
+// Reads `owner`, or `slots` and numbers.
 #[tactic(auto, unfolding(crate::specs::Reading::source_at))]
 fn source(n: u32, fields: &mut Fields) -> Result<Source, Refusal>
     requires { n ≤ 7 }
@@ -54,7 +54,7 @@ fn source(n: u32, fields: &mut Fields) -> Result<Source, Refusal>
     Err(Refusal::BadLine(fields.line()))
 }
 
-// A slot, and where its copy reads.
+// Reads a slot, and where its copy reads.
 #[tactic(auto, unfolding(crate::specs::Reading::copy_at))]
 fn copy(ring: &Ring, fields: &mut Fields) -> Result<(Slot, Source), Refusal>
     ensures { Does (copy_at ring.now) fields.old result fields.new }
@@ -64,7 +64,7 @@ fn copy(ring: &Ring, fields: &mut Fields) -> Result<(Slot, Source), Refusal>
     both(slot, source)
 }
 
-/// What the step is, behind the steps of a plan. Takes no memory.
+/// Reads what the plan's next step does. Takes no memory.
 #[tactic(auto, unfolding(crate::specs::Reading::kind_at))]
 pub fn kind(ring: &Ring, plan: &Plan, fields: &mut Fields) -> Result<Step, Refusal>
     ensures { Does (kind_at ring.now plan.now) fields.old result fields.new }

@@ -1,4 +1,4 @@
-//! A plan: steps that change the ring, each with the earlier steps that it waits for.
+//! Plans: steps that change the ring, each with the earlier steps that it waits for.
 #![tactic(auto)]
 
 mod after;

@@ -1,4 +1,4 @@
-//! The nodes and slots of a step's line.
+//! Reads a line's nodes and slots.
 
 ghost use Rattle.std.specs.Prelude.{◌≡◌};
 ghost use Rattle.texts.specs.Judging.{field_at, Does};
@@ -9,7 +9,6 @@ use ring_names::{NodeId, Refusal, Slot};
 use ring_table::{Ring, node_field};
 use texts::{Fields, both};
 
-// A number below a limit.
 #[inline(always)]
 fn below(limit: u32, fields: &mut Fields) -> Result<u32, Refusal>
     ensures { Does (λ k. field_at k (judge_below k limit)) fields.old result fields.new }
@@ -22,7 +21,7 @@ fn below(limit: u32, fields: &mut Fields) -> Result<u32, Refusal>
     }
 }
 
-/// A slot of the ring. Else that is `BadLine` or `TooLarge`.
+/// Reads a slot of the ring, or fails with `BadLine` or `TooLarge`.
 #[tactic(auto, unfolding(crate::specs::Reading::slot_at))]
 #[inline(always)]
 pub fn slot(ring: &Ring, fields: &mut Fields) -> Result<Slot, Refusal>
@@ -34,7 +33,7 @@ pub fn slot(ring: &Ring, fields: &mut Fields) -> Result<Slot, Refusal>
     Ok(Slot { partition, index })
 }
 
-/// A slot, and behind it a declared node.
+/// Reads a slot, then a declared node.
 #[tactic(auto, unfolding(crate::specs::Reading::slot_node_at))]
 #[inline(always)]
 pub fn slot_node(ring: &Ring, fields: &mut Fields) -> Result<(Slot, NodeId), Refusal>
@@ -45,7 +44,9 @@ pub fn slot_node(ring: &Ring, fields: &mut Fields) -> Result<(Slot, NodeId), Ref
     both(slot, node)
 }
 
-/// A node that was no member before the plan, and that the plan does not join yet. Else that is `Repeated`.
+/// Reads a node that may join, or fails with `Repeated`.
+///
+/// It was not a member before the plan, and no earlier step joins it.
 #[tactic(auto, unfolding(crate::specs::Reading::joining_at))]
 pub fn joining(ring: &Ring, plan: &Plan, fields: &mut Fields) -> Result<NodeId, Refusal>
     ensures { Does (joining_at ring.now plan.now) fields.old result fields.new }
@@ -58,7 +59,7 @@ pub fn joining(ring: &Ring, plan: &Plan, fields: &mut Fields) -> Result<NodeId, 
     }
 }
 
-/// A node that the plan does not retire yet. Else that is `Repeated`.
+/// Reads a node not yet retired, or fails with `Repeated`.
 #[tactic(auto, unfolding(crate::specs::Reading::retiring_at))]
 pub fn retiring(ring: &Ring, plan: &Plan, fields: &mut Fields) -> Result<NodeId, Refusal>
     ensures { Does (retiring_at ring.now plan.now) fields.old result fields.new }

@@ -1,4 +1,4 @@
-//! The plan as a value that is always well formed.
+//! Plans, always well formed.
 
 ghost use Rattle.std.specs.Prelude.{◌≡◌, ◌+◌, ◌<◌, ◌≤◌, ◌++◌, ◌∷◌, ◌↔◌, [], Some, length, slice_get, slice_index};
 ghost use Rattle.std.specs.Prelude.{EachIndex, option_map, IsTrue, OnOk, IfErr, IfSome, OnErr};
@@ -18,12 +18,12 @@ use std::marker::Model;
 /// A plan. Its steps have numbers from 0, in the order written.
 pub struct Plan {
     steps: Vec<Step>,
-    // by step, the steps that it waits for
+    // By step, its dependencies.
     rows: Rows,
     index: Index,
 }
 
-// Dropped by a call, so that no crate above goes through its parts wherever a plan ends.
+// Dropping is a call, so crates above need not check the parts.
 impl Drop for Plan {
     fn drop(self) {
         let Plan { steps, rows, index } = self;
@@ -51,7 +51,7 @@ impl Plan {
     ghost use Rattle.plan_text.specs.Valid.{IsPlanned, IsPlan, Suits, step_suits};
     ghost use Rattle.plan_text.specs.Changes.{fulfils, step_names};
 
-    /// A plan of no steps.
+    /// Starts without steps.
     pub fn new(alloc: Global) -> Plan
         ensures { result ≡ [] }
     {
@@ -62,7 +62,7 @@ impl Plan {
         }
     }
 
-    /// Adds the next step, with the steps that it waits for.
+    /// Adds the next step and its dependencies.
     #[inline(always)]
     pub fn push(&mut self, step: Step, after: &[u32]) -> Result<(), Refusal>
         requires planned { IsPlanned (length self.old) (record { step = step; after = after.now }) }
@@ -83,7 +83,7 @@ impl Plan {
         Ok(())
     }
 
-    /// The number of steps, at most 131,072.
+    /// Counts the steps, at most 131,072.
     pub fn len(&self) -> u32
         ensures value { result ≡ length self.now }
         ensures valid { IsPlan self.now }
@@ -91,7 +91,7 @@ impl Plan {
         self.steps.len() as u32
     }
 
-    /// The step of that number.
+    /// Returns the step of this number.
     pub fn step(&self, n: u32) -> &Step
         requires { n < length self.now }
         ensures value { option_map (λ x. x.step) (slice_get self.now n) ≡ Some result.now }
@@ -100,7 +100,7 @@ impl Plan {
         &self.steps[n as usize]
     }
 
-    /// The direct dependencies of the step of that number, strictly ascending.
+    /// Returns a step's direct dependencies, strictly ascending.
     pub fn deps(&self, n: u32) -> &[u32]
         requires { n < length self.now }
         ensures value { option_map (λ x. x.after) (slice_get self.now n) ≡ Some result.now }
@@ -109,7 +109,7 @@ impl Plan {
         self.rows.row(n as usize)
     }
 
-    /// The numbers of the slot's steps, ascending.
+    /// Returns the slot's steps, ascending.
     #[inline(always)]
     pub fn slot_steps(&self, slot: Slot) -> &[u32]
         ensures value { result.now ≡ steps_of self.now slot }
@@ -119,7 +119,7 @@ impl Plan {
         self.index.slot_numbers(slot)
     }
 
-    /// How many dependencies the steps have together, at most 524,288.
+    /// Counts all dependencies, at most 524,288.
     pub fn dependencies(&self) -> u32
         ensures value { result ≡ dependencies self.now }
         ensures valid { IsPlan self.now }
@@ -127,7 +127,7 @@ impl Plan {
         self.rows.total() as u32
     }
 
-    /// Whether step `a` is a direct dependency of step `b`.
+    /// Whether step `b` directly depends on step `a`.
     pub fn depends(&self, a: u32, b: u32) -> bool
         requires { b < length self.now }
         ensures { result ≡ depends self.now a b }
@@ -135,7 +135,7 @@ impl Plan {
         self.deps(b).binary_search(&a).is_ok()
     }
 
-    /// The step that joins the node, if there is one.
+    /// Returns the step that joins the node, if any.
     pub fn join_of(&self, node: NodeId) -> Option<u32>
         ensures value { result ≡ join_of self.now node.0 }
         ensures within { IfSome result (λ j. j < length self.now) }
@@ -143,7 +143,7 @@ impl Plan {
         self.index.join_of(node)
     }
 
-    /// The step that retires the node, if there is one.
+    /// Returns the step that retires the node, if any.
     pub fn retirement_of(&self, node: NodeId) -> Option<u32>
         ensures value { result ≡ retirement_of self.now node.0 }
         ensures within { IfSome result (λ j. j < length self.now) }
@@ -165,23 +165,24 @@ impl Plan {
         self.index.is_retired(node)
     }
 
-    /// Whether the plan's nodes and slots are the ring's, no member joins, and no node joins or retires twice.
-    /// Takes no memory.
+    /// Whether the plan suits the ring. Takes no memory.
+    ///
+    /// Its nodes and slots are the ring's, no member joins, and no node joins or retires twice.
     pub fn suits(&self, ring: &Ring) -> bool
         ensures { IsTrue result ↔ Suits ring.now self.now }
     {
         self.index.all_different() && self.all_suit(ring)
     }
 
-    // Whether each step speaks of nodes and slots of the ring alone, and joins no member.
     fn all_suit(&self, ring: &Ring) -> bool
         ensures { result ≡ list_all (λ x. step_suits ring.now x.step) self.now }
     {
         all_suit(ring, self.steps.as_slice())
     }
 
-    /// Whether the join steps name exactly the nodes of `joins`, and the retire steps those of `leaves`, in any
-    /// order. Takes no memory.
+    /// Whether the plan joins exactly `joins` and retires exactly `leaves`.
+    ///
+    /// In any order, without memory.
     pub fn fulfils(&self, joins: &[NodeId], leaves: &[NodeId]) -> bool
         ensures { result ≡ fulfils self.now joins.now leaves.now }
     {
@@ -194,21 +195,18 @@ impl Plan {
         self.names_only(joins, leaves)
     }
 
-    // Whether some step joins each of the nodes.
     fn joins_all(&self, nodes: &[NodeId]) -> bool
         ensures { result ≡ list_all (λ x. has x.0 (joined self.now)) nodes.now }
     {
         nodes.iter().all(|x| self.is_joined(*x))
     }
 
-    // Whether some step retires each of the nodes.
     fn retires_all(&self, nodes: &[NodeId]) -> bool
         ensures { result ≡ list_all (λ x. has x.0 (retired self.now)) nodes.now }
     {
         nodes.iter().all(|x| self.is_retired(*x))
     }
 
-    // Whether the steps join and retire no other nodes.
     fn names_only(&self, joins: &[NodeId], leaves: &[NodeId]) -> bool
         ensures { result ≡ list_all (λ x. step_names joins.now leaves.now x.step) self.now }
     {

@@ -1,4 +1,4 @@
-//! Reading a plan.
+//! Reads a plan.
 
 ghost use Rattle.std.specs.Prelude.{◌≡◌, ◌≤◌, ◌+◌, ◌++◌, ◌∷◌, [], length, List, ℕ, nat_lt, Ok, IfOk, IfErr, OnOk};
 ghost use Rattle.ring_names.specs.declared.refusal.Refusal.TheVariants.{OutOfMemory};
@@ -21,7 +21,7 @@ use ring_table::Ring;
 use std::alloc::Global;
 use texts::{Fields, Lines, NumberRow, end, finish_both, header, need};
 
-// What a step's line says, behind the steps of the plan. Takes no memory.
+// Reads the plan's next step from a line. Takes no memory.
 #[tactic(auto, unfolding(crate::specs::Reading::said_at))]
 fn step_line<'a>(
     ring: &Ring,
@@ -32,7 +32,7 @@ fn step_line<'a>(
     ensures next { IfOk result (λ x. IsNext plan.now (planned_of x)) }
     ensures at { IfErr result (λ e. IsAt fields.entry.number e) }
 {
-    // A ring is valid, which the prover knows once a number of it is read.
+    // So the prover knows that the ring is valid.
     let slots = ring.n();
     prove!(slots <= 7);
     let room = need(plan.len() < 131072, &fields);
@@ -41,7 +41,6 @@ fn step_line<'a>(
     finish_both(room, step, after, fields)
 }
 
-// Adds the step of a line that was judged behind the steps of the plan.
 fn add(alloc: Global, plan: &mut Plan, step: Step, after: NumberRow) -> Result<(), Refusal>
     requires { IsNext plan.old (planned_of (step, after)) }
     ensures ok { OnOk result (plan.new ≡ plan.old ++ planned_of (step, after.entry) ∷ []) }
@@ -54,14 +53,14 @@ fn add(alloc: Global, plan: &mut Plan, step: Step, after: NumberRow) -> Result<(
     plan.push(step, after.as_slice())
 }
 
-// Reads steps behind those of the plan, up to a line that begins with `end`.
+// Reads further steps, up to a line that begins with `end`.
 fn read_into(alloc: Global, ring: &Ring, plan: &mut Plan, lines: &mut Lines) -> Result<(), Refusal>
     requires none { plan.old ≡ [] }
     ensures read { Reads (map_ok (λ _. plan.new) result) lines.new
         (steps_from ring.now plan.old lines.old.line lines.old.lines) }
     ensures late { Late 1 result lines.old lines.new (steps_from ring.now plan.old lines.old.line lines.old.lines) }
 {
-    // the steps that the next one waits for
+    // The dependencies.
     let mut after = Vec::new(alloc);
     'steps: while !lines.begins(b"end") {
         if take_plain(ring, plan, lines, &mut after) {
@@ -74,7 +73,6 @@ fn read_into(alloc: Global, ring: &Ring, plan: &mut Plan, lines: &mut Lines) -> 
     Ok(())
 }
 
-// Reads the steps of a plan.
 #[tactic(auto, unfolding(crate::specs::Reading::steps_at))]
 fn read_steps(alloc: Global, ring: &Ring, lines: &mut Lines) -> Result<Plan, Refusal>
     ensures read { Reads result lines.new (steps_at ring.now lines.old) }
@@ -85,7 +83,6 @@ fn read_steps(alloc: Global, ring: &Ring, lines: &mut Lines) -> Result<Plan, Ref
     Ok(plan)
 }
 
-// Reads the lines of a plan.
 #[tactic(auto, unfolding(crate::specs::Reading::plan_at))]
 fn read_parts(alloc: Global, ring: &Ring, lines: &mut Lines) -> Result<Plan, Refusal>
     ensures read { Reads result lines.new (plan_at ring.now lines.old) }
@@ -97,21 +94,19 @@ fn read_parts(alloc: Global, ring: &Ring, lines: &mut Lines) -> Result<Plan, Ref
     Ok(plan)
 }
 
-/// Reads the lines of a plan, up to its line `end`, and leaves what follows them. Refused as `read_plan` is.
+/// Reads a plan up to its line `end`, and leaves the rest. Fails as `read_plan` does.
 pub fn read_plan_section(alloc: Global, ring: &Ring, lines: &mut Lines) -> Result<Plan, Refusal>
     ensures read { Reads result lines.new (plan_at ring.now lines.old) }
-    // What is read is a plan that suits the ring.
     ensures found { IfOk result (λ v. IsPlan v × Suits ring.now v) }
-    // Memory may run out behind its first two lines, if these have no fault, and later only behind lines that have none.
+    // Memory may run out only after two lines without a fault, later only after lines without one.
     ensures late { Late 2 result lines.old lines.new (plan_at ring.now lines.old) }
 {
-    // A ring is valid, which the prover knows once a number of it is read.
+    // So the prover knows that the ring is valid.
     let slots = ring.n();
     prove!(slots <= 7);
     read_parts(alloc, ring, lines)
 }
 
-// Reads a plan from its whole text.
 fn read_whole(alloc: Global, ring: &Ring, text: &[u8]) -> Result<Plan, Refusal>
     ensures exact { Gives result (plan_reading ring.now text.now) }
     ensures late { IfErr result (λ e. e ≡ OutOfMemory → NoFaultBefore 3 (plan_reading ring.now text.now)) }
@@ -124,20 +119,18 @@ fn read_whole(alloc: Global, ring: &Ring, text: &[u8]) -> Result<Plan, Refusal>
 
 /// Reads a plan of the ring from its whole text.
 ///
-/// The first line at fault decides, and in it the least number: 1 `BadLine`, 2 `TooLarge`, 3 `UnknownNode`, 4
-/// `Repeated`, 20 `LaterDependency`. `OutOfMemory` comes only after lines without a fault.
+/// Fails at the first faulty line with its least number: 1 `BadLine`, 2 `TooLarge`, 3 `UnknownNode`, 4 `Repeated`, 20
+/// `LaterDependency`. `OutOfMemory` comes only after lines without a fault.
 pub fn read_plan(alloc: Global, ring: &Ring, text: &[u8]) -> Result<Plan, Refusal>
-    // What is read is a plan that suits the ring, and spelled so.
     ensures found { IfOk result (λ v. IsPlan v × Suits ring.now v × (text.now ≡ plan_text ring.now v)) }
-    // What is spelled so is read, unless memory runs out.
+    // The text of a plan is read, unless memory runs out.
     ensures only { (v : List Planned) → IsPlan v → Suits ring.now v → text.now ≡ plan_text ring.now v
         → Gives result (Ok v) }
-    // Which fault it is.
     ensures exact { Gives result (plan_reading ring.now text.now) }
     // Memory may run out only if the first two lines have no fault.
     ensures late { IfErr result (λ e. e ≡ OutOfMemory → NoFaultBefore 3 (plan_reading ring.now text.now)) }
 {
-    // A ring is valid, which the prover knows once a number of it is read.
+    // So the prover knows that the ring is valid.
     let slots = ring.n();
     prove!(slots <= 7);
     read_whole(alloc, ring, text)

@@ -1,4 +1,4 @@
-//! The numbers of each slot's steps.
+//! Each slot's steps.
 
 ghost use Rattle.std.specs.Prelude.{◌≡◌, ◌<◌, ◌≤◌, ◌==◌, ℕ, true, [], ◌++◌, ◌∷◌, length, if◌then◌else◌, IfErr, OnOk, OnErr};
 ghost use Rattle.ring_names.specs.declared.ids.Slot.{Slot as TheSlot};
@@ -9,7 +9,7 @@ ghost use Rattle.plan_text.specs.SlotSteps.{has_place, place_of, list_at, number
 use ring_names::{Listed, Lists, Refusal, Slot};
 use std::alloc::Global;
 
-/// Lists by place for all slots that a ring may have, and by key for others.
+/// Steps by place for slots of a ring, by key for others.
 #[derive(Drop)]
 pub struct SlotSteps {
     alloc: Global,
@@ -17,7 +17,6 @@ pub struct SlotSteps {
     others: Lists<Slot, u32>,
 }
 
-// Whether a ring may have the slot.
 fn has_place(slot: Slot) -> bool
     ensures { result ≡ has_place slot }
 {
@@ -40,7 +39,7 @@ fn at(lists: &[Listed<u32>], place: usize) -> &[u32]
     }
 }
 
-// Adds empty lists, up to that number of lists.
+// Adds empty lists, up to this count.
 fn lengthen(alloc: Global, lists: &mut Vec<Listed<u32>>, count: usize) -> Result<(), Refusal>
     ensures same { (k : ℕ) → list_at lists.new.items k ≡ list_at lists.old.items k }
     ensures room { OnOk result (count ≤ length lists.new.items) }
@@ -52,7 +51,6 @@ fn lengthen(alloc: Global, lists: &mut Vec<Listed<u32>>, count: usize) -> Result
     Ok(())
 }
 
-// Adds the number to the list at the place.
 fn add_at(
     alloc: Global,
     lists: &mut Vec<Listed<u32>>,
@@ -71,7 +69,7 @@ fn add_at(
 }
 
 impl SlotSteps {
-    /// Starts with empty lists.
+    /// Starts empty.
     pub fn new(alloc: Global) -> SlotSteps
         ensures { (s : TheSlot) → numbers_at result s ≡ [] }
     {
@@ -82,7 +80,7 @@ impl SlotSteps {
         }
     }
 
-    /// Returns the slot's numbers, in the order of their addition.
+    /// Returns the slot's steps, in the order of addition.
     #[inline(always)]
     pub fn items(&self, slot: Slot) -> &[u32]
         ensures { result.now ≡ numbers_at self.now slot }
@@ -94,7 +92,7 @@ impl SlotSteps {
         }
     }
 
-    /// Adds the number to the end of the slot's list.
+    /// Adds the number to the slot's list.
     #[inline(always)]
     pub fn add(&mut self, slot: Slot, number: u32) -> Result<(), Refusal>
         ensures ok { OnOk result ((s : TheSlot) → numbers_at self.new s

@@ -1,4 +1,4 @@
-//! The steps of a plan.
+//! Steps of a plan.
 
 ghost use Rattle.std.specs.Prelude.{◌≡◌};
 
@@ -8,22 +8,22 @@ use ring_names::{Listed, NodeId, Slot};
 /// One step of a plan.
 #[derive(Debug, Drop)]
 pub enum Step {
-    /// The node becomes a member.
+    /// Makes the node a member.
     Join(NodeId),
-    /// Writes to the slot go to the node too, from here on.
+    /// Sends the slot's writes to the node too, from here on.
     Mirror(Slot, NodeId),
-    /// The mirror is given what the source has.
+    /// Gives the mirror what the source has.
     Copy(Slot, Source),
-    /// The mirror becomes the owner of the slot.
+    /// Makes the mirror the owner.
     Switch(Slot),
-    /// The node drops what it still has of a slot that it owned.
+    /// Drops what the node still has of a slot that it owned.
     Drop(Slot, NodeId),
-    /// The node is not a member any more.
+    /// Ends the node's membership.
     Retire(NodeId),
 }
 
 impl Step {
-    /// Returns the same step.
+    /// Copies the step.
     pub fn copy(&self) -> Step
         ensures { result ≡ self.now }
     {
@@ -41,14 +41,14 @@ impl Step {
 /// Where a copy reads.
 #[derive(Debug, Drop)]
 pub enum Source {
-    /// The owner of the slot itself.
+    /// The slot's owner.
     Owner,
-    /// Slots of the same partition by index, 1 to 7 of them, in the order written.
+    /// 1 to 7 slots of the partition, in the order written.
     Slots(Indexes),
 }
 
 impl Source {
-    /// Returns the same source.
+    /// Copies the source.
     pub fn copy(&self) -> Source
         ensures { result ≡ self.now }
     {
@@ -59,7 +59,7 @@ impl Source {
     }
 }
 
-/// A step, and the numbers of the steps that must be done before it.
+/// A step and its dependencies.
 #[derive(Debug, Drop)]
 pub struct Planned {
     pub step: Step,

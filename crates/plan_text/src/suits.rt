@@ -1,4 +1,4 @@
-//! Whether a step speaks of nodes and slots of a ring alone.
+//! Whether a step names only the ring's nodes and slots.
 
 ghost use Rattle.std.specs.Prelude.{◌≡◌, ◌&&◌, not, length, nat_lt};
 ghost use Rattle.std.specs.List.{list_all};
@@ -15,7 +15,7 @@ pub fn all_suit(ring: &Ring, steps: &[Step]) -> bool
     steps.iter().all(|x| step_suits(ring, x))
 }
 
-/// Whether the nodes and slots of the step are the ring's, and it joins no member.
+/// Whether the step's nodes and slots fit, and it joins no member.
 pub fn step_suits(ring: &Ring, step: &Step) -> bool
     ensures { result ≡ step_suits ring.now step.now }
 {
@@ -30,7 +30,7 @@ pub fn step_suits(ring: &Ring, step: &Step) -> bool
     }
 }
 
-// Whether the listed slots are slots by index.
+// Whether the indexes are those of slots.
 fn source_suits(ring: &Ring, source: &Source) -> bool
     ensures { result ≡ source_suits ring.now source.now }
 {
@@ -40,7 +40,6 @@ fn source_suits(ring: &Ring, source: &Source) -> bool
     }
 }
 
-// Whether each number is below the limit.
 fn are_below(numbers: &[u8], limit: u32) -> bool
     ensures { result ≡ list_all (λ i. nat_lt i limit) numbers.now }
 {

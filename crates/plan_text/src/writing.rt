@@ -1,4 +1,4 @@
-//! Writing a plan.
+//! Writes a plan.
 
 ghost use Rattle.std.specs.Prelude.{◌≡◌, ◌++◌, ◌∷◌, [], map, IfOk, IfErr, OnOk};
 ghost use Rattle.std.specs.Fmt.{decimal};
@@ -17,14 +17,14 @@ use ring_table::{Ring, push_name};
 use std::alloc::{AllocError, Global};
 use texts::push_numbers;
 
-// `<p> <i>`, behind a space.
+// Writes ` <p> <i>`.
 fn push_slot(out: &mut Vec<u8>, slot: Slot) -> Result<(), AllocError>
     ensures { OnOk result (out.new.items ≡ out.old.items ++ spaced (slot_fields slot)) }
 {
     push_numbers(out, &[slot.partition, slot.index])
 }
 
-// The indexes, each after a space.
+// Writes the indexes, each after a space.
 fn push_indexes(out: &mut Vec<u8>, indexes: &[u8]) -> Result<(), AllocError>
     ensures { OnOk result (out.new.items ≡ out.old.items ++ spaced (map decimal indexes.now)) }
 {
@@ -34,7 +34,7 @@ fn push_indexes(out: &mut Vec<u8>, indexes: &[u8]) -> Result<(), AllocError>
     Ok(())
 }
 
-// Where a copy reads, after a space.
+// Writes where a copy reads, after a space.
 fn push_source(out: &mut Vec<u8>, source: &Source) -> Result<(), AllocError>
     ensures { OnOk result (out.new.items ≡ out.old.items ++ spaced (source_fields source.now)) }
 {
@@ -47,7 +47,6 @@ fn push_source(out: &mut Vec<u8>, source: &Source) -> Result<(), AllocError>
     }
 }
 
-// What the step is.
 fn push_kind(out: &mut Vec<u8>, ring: &Ring, step: &Step) -> Result<(), AllocError>
     ensures { OnOk result
         (out.new.items ≡ out.old.items ++ join_with_byte 32 (kind_fields (names_of ring.now) step.now)) }
@@ -83,7 +82,6 @@ fn push_kind(out: &mut Vec<u8>, ring: &Ring, step: &Step) -> Result<(), AllocErr
     }
 }
 
-// The steps that a step waits for.
 fn push_after(out: &mut Vec<u8>, after: &[u32]) -> Result<(), AllocError>
     ensures { OnOk result (out.new.items ≡ out.old.items ++ spaced (after_fields after.now)) }
 {
@@ -94,7 +92,6 @@ fn push_after(out: &mut Vec<u8>, after: &[u32]) -> Result<(), AllocError>
     push_numbers(out, after)
 }
 
-// The line of a step.
 fn push_step(out: &mut Vec<u8>, ring: &Ring, step: &Step, after: &[u32]) -> Result<(), AllocError>
     ensures { OnOk result (out.new.items ≡ out.old.items
         ++ line_text (step_fields (names_of ring.now) (record { step = step.now; after = after.now }))) }
@@ -105,7 +102,6 @@ fn push_step(out: &mut Vec<u8>, ring: &Ring, step: &Step, after: &[u32]) -> Resu
     Ok(())
 }
 
-// The lines of the steps.
 fn push_steps(out: &mut Vec<u8>, ring: &Ring, plan: &Plan) -> Result<(), AllocError>
     ensures { OnOk result (out.new.items ≡ out.old.items ++ text_of (map (step_fields (names_of ring.now)) plan.now)) }
 {
@@ -115,7 +111,7 @@ fn push_steps(out: &mut Vec<u8>, ring: &Ring, plan: &Plan) -> Result<(), AllocEr
     Ok(())
 }
 
-/// The one text of a plan that suits the ring. Its only refusal is `OutOfMemory`.
+/// Writes the only text of a plan that suits the ring. Fails only with `OutOfMemory`.
 pub fn write_plan(alloc: Global, ring: &Ring, plan: &Plan) -> Result<Vec<u8>, Refusal>
     requires { Suits ring.now plan.now }
     ensures text { IfOk result (λ v. v.items ≡ plan_text ring.now plan.now) }
