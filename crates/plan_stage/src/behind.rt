@@ -1,4 +1,4 @@
-//! What a backward pass over a slot's steps knows of the steps it has passed.
+//! Walks backward over a slot's steps.
 
 ghost use Rattle.std.specs.Prelude.{◌≡◌, ◌++◌, ◌∷◌, [], None, IfErr, OnOk, if◌then◌else◌};
 ghost use Rattle.ring_names.specs.declared.ids.NodeId.{NodeId as TheNode};
@@ -14,10 +14,10 @@ use plan_text::Step;
 use ring_names::{NodeId, Refusal};
 use std::alloc::Global;
 
-/// The first two switches of a slot's later steps, the first drop of each node, and the holdings that these steps begin.
+/// The later steps' first two switches, first drops by node, and holdings.
 #[derive(Drop)]
 pub struct Behind {
-    /// The first switch after this place, if there is one.
+    /// The first later switch, if any.
     pub next_switch: Option<u32>,
     second_switch: Option<u32>,
     drops: Drops,
@@ -25,7 +25,7 @@ pub struct Behind {
 }
 
 impl Behind {
-    /// Returns the state after the last step.
+    /// Starts after the last step.
     pub fn new(alloc: Global) -> Behind
         ensures next { result.next_switch ≡ None }
         ensures second { result.second_switch ≡ None }
@@ -40,7 +40,7 @@ impl Behind {
         }
     }
 
-    /// Goes back over one step.
+    /// Goes back over a step.
     pub fn add(&mut self, step: &Step, number: u32) -> Result<(), Refusal>
         ensures ok { OnOk result (GoesBehind self.old self.new step.now number) }
         ensures memory { IfErr result (λ e. e ≡ OutOfMemory) }
@@ -81,7 +81,6 @@ impl Behind {
         self.held.add(node, Holding { begin, end, drop })
     }
 
-    /// Returns what the nodes hold.
     pub fn into_held(self) -> Held
         ensures { result ≡ self.held }
     {

@@ -1,4 +1,4 @@
-//! The test of a partition's clauses, and the stage of a slot.
+//! Checks a partition's clauses, and returns a slot's stage.
 
 ghost use Rattle.std.specs.Prelude.{◌≡◌, ◌<◌, IfOk, IfErr, true, length, nat_lt, slice_index, EachIndex};
 ghost use Rattle.std.specs.List.{list_all};
@@ -24,10 +24,11 @@ use ring_names::{Refusal, Slot};
 use ring_table::Ring;
 use std::alloc::Global;
 
-/// Tests a partition's clauses in order: its slots by index with their steps by number, then the plan's steps
-/// by number.
+/// Checks a partition's clauses.
 ///
-/// Reads only the partition's steps, and the retirements of the nodes that hold its slots.
+/// Checks slots by index, each slot's steps by number, then the plan's steps by number.
+///
+/// Reads only the partition's steps, and the retirements of nodes that hold its slots.
 pub fn check_partition(
     alloc: Global,
     ring: &Ring,
@@ -51,7 +52,6 @@ fn check_in(alloc: Global, context: &Context, partition: u32) -> Result<(), Refu
     check_steps(alloc, context, partition)
 }
 
-/// Tests whether the steps of each slot act in order.
 pub(crate) fn check_slots(alloc: Global, context: &Context, partition: u32) -> Result<(), Refusal>
     requires partition { partition < context.now.ring.now.q }
     ensures { Gives result (below (λ i. slot_clauses context.now.ring.now context.now.plan.now (order context.now)
@@ -77,7 +77,7 @@ fn check_slot(alloc: Global, context: &Context, slot: Slot) -> Result<(), Refusa
     Ok(())
 }
 
-// Tests the slot's k-th step before it acts.
+// Checks the slot's k-th step before it acts.
 fn check_place(walk: &Walk, context: &Context, numbers: &[u32], k: usize) -> Result<(), Refusal>
     requires k { k < length numbers.now }
     requires within { EachIndex numbers.now (λ i. slice_index numbers.now i < length context.now.plan.now) }
@@ -123,7 +123,7 @@ fn check_numbers(
     Ok(())
 }
 
-/// Returns the stage of a slot after its first `k` steps, or after all if it has fewer.
+/// Returns a slot's stage after `k` steps, or all if fewer.
 pub fn stage_at(
     alloc: Global,
     ring: &Ring,

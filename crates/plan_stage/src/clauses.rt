@@ -1,4 +1,4 @@
-//! The clauses of one step.
+//! A step's clauses.
 
 ghost use Rattle.std.specs.Prelude.{◌≡◌, ◌<◌, ◌||◌, ◌&&◌, ◌==◌, not, true, length, slice_get, option_map, Some, nat_lt};
 ghost use Rattle.std.specs.Prelude.{nat_le, EachIndex, slice_index, reverse};
@@ -55,7 +55,7 @@ fn switches(plan: &Plan, number: u32) -> bool
     number < plan.len() && matches!(plan.step(number), Step::Switch(_))
 }
 
-// Whether the other step is not a switch, or comes before or after the step.
+// Whether the other step is not a switch, or is ordered with the step.
 fn settles(context: &Context, number: u32, other: u32) -> bool
     ensures { result ≡ is_settling context.now.plan.now (order context.now) number other }
 {
@@ -100,7 +100,8 @@ fn begins_before(holding: &Holding, number: u32) -> bool
     }
 }
 
-// Whether the holdings that begin before the step have ended by then. Goes from the last on, and stops at the first that begins later.
+// Whether the holdings that begin before the step have ended. Looks from the last on, and stops at the first that
+// begins later.
 fn are_left(context: &Context, number: u32, held: &[Holding]) -> bool
     ensures { result ≡ are_left (order context.now) number (reverse held.now) }
 {
@@ -110,7 +111,6 @@ fn are_left(context: &Context, number: u32, held: &[Holding]) -> bool
         .all(|holding| ends_before(context, holding.end, number))
 }
 
-// Whether the node's holdings that begin before the step have ended by then.
 fn are_first_left(context: &Context, number: u32, node: NodeId, found: &[Found]) -> bool
     ensures { result ≡ list_all (is_left_before (order context.now) number) (held_among found.now node) }
 {
@@ -149,7 +149,7 @@ fn are_dropped(context: &Context, number: u32, held: &[Holding]) -> bool
         .all(|holding| ends_before(context, holding.drop, number))
 }
 
-// Whether what the node held is dropped by the step.
+// Whether what the node held is dropped before the step.
 fn are_first_dropped(context: &Context, number: u32, node: NodeId, found: &[Found]) -> bool
     ensures { result ≡ list_all (is_dropped_before (order context.now) number) (held_among found.now node) }
 {
@@ -178,7 +178,7 @@ fn is_dropped_at(
     }
 }
 
-// Whether the node has left each other slot of the partition that it served before the step.
+// Whether the node has left the partition's other slots that it served before the step.
 fn has_left(context: &Context, holdings: &Holdings, number: u32, slot: Slot, node: NodeId) -> bool
     requires { AreHeld context.now.ring.now context.now.plan.now slot.partition holdings.now }
     ensures { result ≡ has_left context.now.ring.now context.now.plan.now (order context.now) number slot node }
@@ -252,7 +252,7 @@ fn check_copy(context: &Context, number: u32, slot: Slot, source: &Source) -> Re
     }
 }
 
-/// Tests the step's clauses in the partition.
+/// Checks the step's clauses in the partition.
 pub fn check_step(
     context: &Context,
     holdings: &Holdings,

@@ -1,4 +1,4 @@
-//! The steps that a partition has to look at.
+//! Finds a partition's steps.
 
 ghost use Rattle.std.specs.Prelude.{◌≡◌, ℕ, ◌<◌, IfOk, IfErr, OnOk, length, true};
 ghost use Rattle.ring_names.specs.Lists.{has};
@@ -13,7 +13,7 @@ use ring_names::{NodeId, Refusal, Slot};
 use ring_table::Ring;
 use std::alloc::Global;
 
-/// Returns the numbers of the steps that a partition has to look at, ascending. Costs a sort.
+/// Returns the steps that a partition must check, ascending. Costs a sort.
 pub fn concerned(
     alloc: Global,
     ring: &Ring,
@@ -30,7 +30,7 @@ pub fn concerned(
     Ok(numbers)
 }
 
-/// Sorts the numbers, and keeps each once.
+/// Sorts the numbers, without duplicates.
 pub fn put_in_order(numbers: &mut Vec<u32>)
     ensures ascending { ascending numbers.new.items ≡ true }
     ensures same { (n : ℕ) → has n numbers.new.items ≡ has n numbers.old.items }
@@ -51,7 +51,7 @@ fn gather(alloc: Global, ring: &Ring, plan: &Plan, partition: u32) -> Result<Vec
     Ok(numbers)
 }
 
-// Adds the slot's mirrors and copies, and the retirements of its first owner and of mirrored nodes.
+// Adds the slot's mirrors and copies, and retirements of its first owner and mirrored nodes.
 fn add_slot(numbers: &mut Vec<u32>, ring: &Ring, plan: &Plan, slot: Slot) -> Result<(), Refusal>
     requires partition { slot.partition < ring.now.q }
     requires index { slot.index < ring.now.n }
@@ -68,7 +68,7 @@ fn add_slot(numbers: &mut Vec<u32>, ring: &Ring, plan: &Plan, slot: Slot) -> Res
     Ok(())
 }
 
-// Adds the step if it is a mirror or a copy, and for a mirror also the node's retirement.
+// Adds a mirror or a copy, and for a mirror the node's retirement.
 fn add_step(numbers: &mut Vec<u32>, plan: &Plan, number: u32) -> Result<(), Refusal>
     requires { number < length plan.now }
     ensures grows { OnOk result (Grows plan.now numbers.old.items numbers.new.items) }

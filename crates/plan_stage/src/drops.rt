@@ -1,4 +1,4 @@
-//! The step in which each node drops what it has of a slot.
+//! Where nodes drop what they have of a slot.
 
 ghost use Rattle.std.specs.Prelude.{◌≡◌, None, Some, IfErr, OnOk, if◌then◌else◌};
 ghost use Rattle.ring_names.specs.declared.ids.NodeId.{NodeId as TheNode};
@@ -11,14 +11,14 @@ use ring_names::{NodeId, Refusal};
 use std::alloc::Global;
 use std::collections::HashMap;
 
-/// A node, and the step in which it drops what it has.
+/// A node, and the step of its drop.
 #[derive(Clone, Copy)]
 pub struct Dropped {
     pub node: NodeId,
     pub number: u32,
 }
 
-/// The drop that was set last for each node. The first few take no memory.
+/// The last drop set for each node. The first few take no memory.
 #[derive(Drop)]
 pub struct Drops {
     alloc: Global,
@@ -27,7 +27,7 @@ pub struct Drops {
 }
 
 impl Drops {
-    /// Returns an empty set of drops.
+    /// Starts empty.
     pub fn new(alloc: Global) -> Drops
         ensures { (x : TheNode) → dropped_in result x ≡ None }
     {
@@ -41,7 +41,7 @@ impl Drops {
         }
     }
 
-    /// Returns the drop of the node, if there is one.
+    /// Returns the node's drop, if any.
     pub fn get(&self, node: NodeId) -> Option<u32>
         ensures { result ≡ dropped_in self.now node }
     {
@@ -53,7 +53,7 @@ impl Drops {
         dropped_among(self.first.as_slice(), node)
     }
 
-    /// Sets the drop of the node.
+    /// Sets the node's drop.
     pub fn set(&mut self, node: NodeId, number: u32) -> Result<(), Refusal>
         ensures ok { OnOk result
             ((x : TheNode) → dropped_in self.new x ≡ (if is_node x node then Some number else dropped_in self.old x)) }
@@ -75,7 +75,6 @@ impl Drops {
     }
 }
 
-// The last drop of the node among these.
 fn dropped_among(drops: &[Dropped], node: NodeId) -> Option<u32>
     ensures { result ≡ dropped_among drops.now node }
 {

@@ -1,10 +1,10 @@
-//! A few values without an allocation.
+//! A few values without allocation.
 
 ghost use Rattle.std.specs.Prelude.{◌≡◌, [], ◌∷◌, ◌++◌, length, nat_lt, if◌then◌else◌};
 
 use std::marker::Model;
 
-/// At most four values, in the order in which they were added.
+/// At most four values, in the order of addition.
 #[derive(Drop)]
 pub struct Few<T> {
     places: [T; 4],
@@ -22,7 +22,7 @@ impl<T> Model for Few<T> {
 }
 
 impl<T: Copy> Few<T> {
-    /// Returns an empty list. The filler stands in unused places.
+    /// Starts empty. The filler occupies unused places.
     pub fn new(filler: T) -> Few<T>
         ensures { result ≡ [] }
     {
@@ -32,7 +32,7 @@ impl<T: Copy> Few<T> {
         }
     }
 
-    /// Adds the value if there is room, and returns whether there was.
+    /// Adds the value if there is room. Returns whether there was.
     pub fn try_push(&mut self, value: T) -> bool
         ensures place { result ≡ nat_lt (length self.old) 4 }
         ensures items { self.new ≡ (if result then self.old ++ value ∷ [] else self.old) }

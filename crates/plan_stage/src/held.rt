@@ -1,4 +1,4 @@
-//! What the nodes hold of one slot.
+//! What nodes hold of a slot.
 
 ghost use Rattle.std.specs.Prelude.{◌≡◌, [], ◌∷◌, ◌++◌, IfErr, OnOk, if◌then◌else◌};
 ghost use Rattle.ring_names.specs.declared.ids.NodeId.{NodeId as TheNode};
@@ -11,14 +11,14 @@ use crate::holding::Holding;
 use ring_names::{Lists, NodeId, Refusal};
 use std::alloc::Global;
 
-/// A node, and one of its holdings of the slot.
+/// A node, and one of its holdings.
 #[derive(Clone, Copy)]
 pub struct Found {
     pub node: NodeId,
     pub holding: Holding,
 }
 
-/// What each node holds of one slot. The first few holdings take no memory.
+/// What each node holds of a slot. The first few holdings take no memory.
 #[derive(Drop)]
 pub struct Held {
     alloc: Global,
@@ -27,7 +27,7 @@ pub struct Held {
 }
 
 impl Held {
-    /// Returns an empty set of holdings.
+    /// Starts empty.
     pub fn new(alloc: Global) -> Held
         ensures { (x : TheNode) → held_of result x ≡ [] }
     {
@@ -46,7 +46,7 @@ impl Held {
         }
     }
 
-    /// Adds a holding after the others of its node.
+    /// Adds a holding after its node's others.
     pub fn add(&mut self, node: NodeId, holding: Holding) -> Result<(), Refusal>
         ensures ok { OnOk result ((x : TheNode) → held_of self.new x
             ≡ (if is_node x node then held_of self.old x ++ holding ∷ [] else held_of self.old x)) }
@@ -72,7 +72,7 @@ impl Held {
         self.first.as_slice()
     }
 
-    /// Returns the node's later holdings.
+    /// Returns the node's other holdings.
     pub fn others(&self, node: NodeId) -> &[Holding]
         ensures { result.now ≡ held_beside self.now.others node }
     {

@@ -1,4 +1,4 @@
-//! How long nodes hold versions of a partition's slots.
+//! How long nodes hold a partition's slots.
 
 ghost use Rattle.std.specs.Prelude.{◌≡◌, ◌<◌, IfOk, IfErr, option_copied, slice_get};
 ghost use Rattle.ring_names.specs.declared.refusal.Refusal.TheVariants.{OutOfMemory};
@@ -12,18 +12,20 @@ use ring_names::{Refusal, Slot};
 use ring_table::Ring;
 use std::alloc::Global;
 
-/// One period for which a node holds versions of a slot, by step numbers.
+/// A period in which a node holds versions of a slot.
+///
+/// Given by step numbers.
 #[derive(Clone, Copy, Debug)]
 pub struct Holding {
-    /// The step that mirrored the slot to the node. None if the node owned it from the start.
+    /// The step that mirrored the slot to the node. None for the first owner.
     pub begin: Option<u32>,
-    /// The step after which the node no longer owns the slot, if there is one.
+    /// After this step, if any, the node no longer owns the slot.
     pub end: Option<u32>,
-    /// The next step in which the node drops the slot's versions, if there is one.
+    /// The node's next drop of the slot's versions, if any.
     pub drop: Option<u32>,
 }
 
-// What each node holds of one slot, the last holding first. Takes one pass over the slot's steps.
+// The last holding comes first. Costs one pass over the slot's steps.
 fn slot_holdings(alloc: Global, ring: &Ring, plan: &Plan, slot: Slot) -> Result<Held, Refusal>
     requires partition { slot.partition < ring.now.q }
     requires index { slot.index < ring.now.n }
@@ -41,14 +43,14 @@ fn slot_holdings(alloc: Global, ring: &Ring, plan: &Plan, slot: Slot) -> Result<
     Ok(behind.into_held())
 }
 
-/// What each node holds of the slots of a partition, by index.
+/// What each node holds of a partition's slots, by index.
 #[derive(Drop)]
 pub struct Holdings {
     slots: Vec<Held>,
 }
 
 impl Holdings {
-    /// Returns what nodes hold of a partition, by one pass over the steps of its slots.
+    /// Returns what nodes hold of a partition. Costs one pass over its steps.
     pub fn of(alloc: Global, ring: &Ring, plan: &Plan, partition: u32) -> Result<Holdings, Refusal>
         requires partition { partition < ring.now.q }
         requires staged { IsStagedIn ring.now plan.now partition }
@@ -62,7 +64,7 @@ impl Holdings {
         Ok(Holdings { slots })
     }
 
-    /// Returns what the nodes hold of a slot, the last holding first.
+    /// Returns what nodes hold of a slot, the last holding first.
     pub fn slot(&self, index: u32) -> Option<&Held>
         ensures { option_copied result ≡ slice_get self.now.slots.items index }
     {

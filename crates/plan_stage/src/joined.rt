@@ -13,7 +13,7 @@ use plan_text::Plan;
 use ring_names::NodeId;
 use ring_table::Ring;
 
-/// Whether the node is a member at the start, or joins before the step. Takes no memory.
+/// Whether the node is an initial member, or joins before the step.
 pub fn has_joined(ring: &Ring, plan: &Plan, facts: &Facts, step: u32, node: NodeId) -> bool
     requires suits { Suits ring.now plan.now }
     requires facts { AreFactsOf plan.now facts.now }
@@ -23,7 +23,7 @@ pub fn has_joined(ring: &Ring, plan: &Plan, facts: &Facts, step: u32, node: Node
     has_joined_by(&context, step, node)
 }
 
-/// As `has_joined`, by the ring, plan and facts of a context.
+/// Answers as `has_joined`, by a context.
 pub fn has_joined_by(context: &Context, step: u32, node: NodeId) -> bool
     ensures { result ≡ has_joined context.now.ring.now context.now.plan.now (order context.now) step node }
 {

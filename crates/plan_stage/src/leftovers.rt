@@ -1,4 +1,4 @@
-//! A small set of nodes by number: mostly one.
+//! A small set of nodes, mostly one.
 
 ghost use Rattle.std.specs.Prelude.{◌≡◌, [], IfOk, IfErr, OnOk};
 ghost use Rattle.ring_names.specs.declared.refusal.Refusal.TheVariants.{OutOfMemory};
@@ -12,9 +12,9 @@ use std::marker::Model;
 /// The nodes that owned a slot and have not dropped it. A single one takes no memory.
 #[derive(Drop)]
 pub struct Leftovers {
-    // the node, if it is the only one
+    // The node, if it is the only one.
     one: Option<NodeId>,
-    // otherwise all of them
+    // Otherwise all.
     more: BTreeSet<NodeId>,
 }
 
@@ -31,7 +31,7 @@ impl Model for Leftovers {
 }
 
 impl Leftovers {
-    /// Returns the empty set.
+    /// Starts empty.
     pub fn new(alloc: Global) -> Leftovers
         ensures { result ≡ [] }
     {
@@ -41,7 +41,7 @@ impl Leftovers {
         }
     }
 
-    /// Whether the node is among them.
+    /// Whether the set has the node.
     pub fn contains(&self, node: NodeId) -> bool
         ensures { result ≡ is_among node self.now }
     {
@@ -51,7 +51,7 @@ impl Leftovers {
         }
     }
 
-    /// Adds the node, if it is not there.
+    /// Adds the node, unless present.
     pub fn add(&mut self, node: NodeId) -> Result<(), Refusal>
         ensures ok { OnOk result (self.new ≡ with_node node self.old) }
         ensures memory { IfErr result (λ e. e ≡ OutOfMemory) }
@@ -70,7 +70,7 @@ impl Leftovers {
         Ok(())
     }
 
-    /// Removes the node, if it is there.
+    /// Removes the node, if present.
     pub fn remove(&mut self, node: NodeId)
         ensures { self.new ≡ without_node node self.old }
     {
@@ -86,7 +86,7 @@ impl Leftovers {
         }
     }
 
-    /// Returns the nodes, by number.
+    /// Returns the nodes by number.
     pub fn to_vec(&self, alloc: Global) -> Result<Vec<NodeId>, AllocError>
         ensures { IfOk result (λ list. list.items ≡ self.now) }
     {
@@ -101,7 +101,7 @@ impl Leftovers {
     }
 }
 
-/// The nodes of a set, by number.
+/// Lists the nodes by number.
 pub fn listed(alloc: Global, nodes: &BTreeSet<NodeId>) -> Result<Vec<NodeId>, AllocError>
     ensures { IfOk result (λ list. list.items ≡ nodes.now.keys) }
 {

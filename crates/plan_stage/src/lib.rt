@@ -1,5 +1,6 @@
-//! The stages through which a plan's steps take each slot, and the clauses of these steps. They say that steps
-//! act in order, and what mirrors, copies and retirements must meet. Also who takes part in a copy.
+//! The stages of a slot, the clauses of its steps, and the nodes in a copy.
+//!
+//! Clauses say that steps act in order, and what mirrors, copies and retirements must meet.
 #![tactic(auto)]
 
 mod behind;

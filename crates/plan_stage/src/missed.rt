@@ -1,4 +1,4 @@
-//! Which clauses of a partition's steps may fail: a walk that goes on after the first that does.
+//! Finds which clauses may fail: a walk that continues after a failure.
 
 ghost use Rattle.std.specs.Prelude.{◌≡◌, ℕ, ◌<◌, IfOk, IfErr, OnOk, Some, None, true, false, length, nat_lt};
 ghost use Rattle.std.specs.List.{list_all};
@@ -33,12 +33,12 @@ pub struct Missed {
     pub left: bool,
     /// A mirrored node has not joined.
     pub joined: bool,
-    /// A node retires before it has dropped what it held.
+    /// A node retires before it dropped what it held.
     pub dropped: bool,
 }
 
 impl Missed {
-    /// No clause fails.
+    /// Starts without failures.
     pub fn none() -> Missed
         ensures { (r : TheRefusal) → misses result r ≡ false }
     {
@@ -51,7 +51,7 @@ impl Missed {
         }
     }
 
-    // Notes a refusal. The step's clause after the one that failed was not tested, so it is noted too.
+    // Notes a refusal, and the clause after it, which was not checked.
     fn note(&mut self, refusal: &Refusal)
         ensures noted { IsNoted self.new refusal.now }
         ensures stays { StaysNoted self.old self.new }
@@ -145,10 +145,9 @@ fn note_steps(
     note_numbers(context, &holdings, partition, numbers.as_slice(), missed)
 }
 
-/// Notes which kinds of clauses may fail at the partition's steps. Costs as much as a `check_partition` that
-/// says yes.
+/// Notes which clauses may fail at the partition's steps. Costs as much as a `check_partition` that accepts.
 ///
-/// Returns whether the steps of each slot act in order: if not, nothing is noted.
+/// Returns whether each slot's steps act in order: if not, nothing is noted.
 pub fn note_partition(
     alloc: Global,
     context: &Context,

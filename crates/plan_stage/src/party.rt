@@ -1,4 +1,4 @@
-//! The nodes that take part in a copy.
+//! The nodes in a copy.
 
 ghost use Rattle.std.specs.Prelude.{◌≡◌, ◌<◌, true, nat_lt, count_by, map, IfErr, IfOk, OnOk};
 ghost use Rattle.std.specs.List.{list_all};
@@ -18,8 +18,7 @@ use ring_table::{Ring, Side};
 use std::alloc::Global;
 use std::collections::BTreeSet;
 
-/// Returns the nodes that take part in a copy, by number: the mirror, and its sources' owners just before. None
-/// if the step is not a copy.
+/// Returns a copy's nodes by number: mirror, and sources' owners just before. None if the step is not a copy.
 pub fn parties(
     alloc: Global,
     ring: &Ring,
@@ -33,7 +32,7 @@ pub fn parties(
     parties_on(alloc, ring, plan, Side::Both, step)
 }
 
-/// Returns the nodes from which a copy reads, by number: its sources' owners just before it. None if the step is not a copy.
+/// Returns a copy's source nodes by number: the sources' owners just before. None if the step is not a copy.
 pub fn sources(
     alloc: Global,
     ring: &Ring,
@@ -47,7 +46,6 @@ pub fn sources(
     parties_on(alloc, ring, plan, Side::Give, step)
 }
 
-// A step of a plan of a ring.
 #[derive(Clone, Copy)]
 struct Before<'a> {
     alloc: Global,
@@ -56,7 +54,7 @@ struct Before<'a> {
     step: u32,
 }
 
-// The nodes that take part in a copy on that side, by number. None if the step is not a copy.
+// None if the step is not a copy.
 fn parties_on(
     alloc: Global,
     ring: &Ring,
@@ -161,7 +159,7 @@ fn listed_owners(before: &Before, partition: u32, from: &[u8]) -> Result<BTreeSe
     Ok(party)
 }
 
-// Adds the slot's owner just before the step.
+// Adds the slot's owner just before.
 fn add_owner(before: &Before, slot: Slot, party: &mut BTreeSet<NodeId>) -> Result<(), Refusal>
     requires partition { slot.partition < before.now.ring.now.q }
     requires index { slot.index < before.now.ring.now.n }
@@ -192,7 +190,6 @@ fn stage_before(before: &Before, slot: Slot) -> Result<Stage, Refusal>
     stage_at(before.alloc, before.ring, before.plan, slot, count)
 }
 
-// How many of the slot's steps come before the step.
 fn count_before(plan: &Plan, step: u32, slot: Slot) -> u32
     ensures { result ≡ count_below step (steps_of plan.now slot) }
 {

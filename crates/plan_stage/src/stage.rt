@@ -1,16 +1,16 @@
-//! The state of a slot between two of its steps.
+//! The state of a slot between steps.
 
 use ring_names::{Listed, NodeId};
 
-/// The stage of a slot.
+/// A slot's stage.
 #[derive(Debug, Drop)]
 pub struct Stage {
     /// The node that answers for the slot.
     pub owner: NodeId,
-    /// The node that takes the slot's writes too, if a step has set one.
+    /// The node that also takes the slot's writes, if any.
     pub mirror: Option<NodeId>,
     /// Whether the mirror has received what the slot has.
     pub copied: bool,
-    /// The nodes that owned the slot and have not dropped it, by number.
+    /// Former owners that have not dropped the slot, by number.
     pub leftovers: Listed<NodeId>,
 }

@@ -12,7 +12,6 @@ use ring_names::{Listed, NodeId, Refusal, Slot};
 use ring_table::Ring;
 use std::alloc::Global;
 
-/// A stage with its leftovers as a set.
 #[derive(Drop)]
 pub struct Walk {
     owner: NodeId,
@@ -22,7 +21,7 @@ pub struct Walk {
 }
 
 impl Walk {
-    /// Returns the stage before the first step.
+    /// Starts before the first step.
     pub fn new(alloc: Global, ring: &Ring, slot: Slot) -> Walk
         requires partition { slot.partition < ring.now.q }
         requires index { slot.index < ring.now.n }
@@ -71,7 +70,6 @@ impl Walk {
         Ok(())
     }
 
-    // Makes the mirror the owner, and the owner a leftover.
     fn switch(&mut self) -> Result<(), Refusal>
         ensures ok { OnOk result (stage_of self.new ≡ switched (stage_of self.old)) }
         ensures memory { IfErr result (λ e. e ≡ OutOfMemory) }
@@ -83,7 +81,7 @@ impl Walk {
         Ok(())
     }
 
-    /// Returns the stage, with its leftovers as a list.
+    /// Returns the stage.
     pub fn into_stage(self, alloc: Global) -> Result<Stage, Refusal>
         ensures ok { IfOk result (λ stage. stage ≡ stage_of self) }
         ensures memory { IfErr result (λ e. e ≡ OutOfMemory) }
