@@ -1,9 +1,9 @@
-//! Which of two numbers is less, by their digits.
+//! Compares numbers by digits.
 
 ghost use Rattle.std.specs.Prelude.{◌≡◌, true, nat_lt, length};
 ghost use Rattle.texts.specs.Number.{value_from, is_number};
 
-// Whether of as many digits the first spell less.
+// Both have as many digits.
 fn is_less_digits(first: &[u8], second: &[u8]) -> bool
     requires { length first.now ≡ length second.now }
     ensures { is_number first.now ≡ true → is_number second.now ≡ true
@@ -20,7 +20,7 @@ fn is_less_digits(first: &[u8], second: &[u8]) -> bool
     false
 }
 
-/// Whether the first of two numbers is less, of any length. Neither is parsed.
+/// Whether the first number, of any length, is less. Neither is parsed.
 pub fn is_less(first: &[u8], second: &[u8]) -> bool
     ensures { is_number first.now ≡ true → is_number second.now ≡ true
         → result ≡ nat_lt (value_from 0 first.now) (value_from 0 second.now) }

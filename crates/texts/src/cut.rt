@@ -1,4 +1,4 @@
-//! Cutting bytes at a separator.
+//! Cuts bytes at a separator.
 
 ghost use Rattle.std.specs.Prelude.{◌≡◌, ◌∷◌, [], ◌==◌, ◌||◌, MatchOption};
 ghost use Rattle.std.specs.List.{slice_split};
@@ -7,7 +7,7 @@ ghost use Rattle.texts.specs.Parts.{until};
 
 use memchr::memchr;
 
-// The bytes in front of the first separator, and those behind it where there is one.
+// Cuts at the first separator, if any.
 #[inline(always)]
 pub fn cut(bytes: &[u8], separator: u8) -> (&[u8], Option<&[u8]>)
     ensures { MatchOption result.1
@@ -20,7 +20,7 @@ pub fn cut(bytes: &[u8], separator: u8) -> (&[u8], Option<&[u8]>)
     }
 }
 
-// Cuts at a near separator: four bytes at a time, which is faster than a search there.
+// Cuts at a near separator, four bytes at a time: faster than a search there.
 #[inline(always)]
 pub fn cut_near(bytes: &[u8], separator: u8) -> (&[u8], Option<&[u8]>)
     ensures { MatchOption result.1
@@ -44,8 +44,7 @@ pub fn cut_near(bytes: &[u8], separator: u8) -> (&[u8], Option<&[u8]>)
     (bytes, None)
 }
 
-// Whether the bytes before the first space or `end` are this word. Byte by byte, since the word is known at the
-// call.
+// Whether the bytes before the first space or `end` are this word. Byte by byte, since callers pass known words.
 #[inline(always)]
 pub fn stands_in_front(bytes: &[u8], word: &[u8], end: u8) -> bool
     ensures { result ≡ bytes_eq (until (λ b. (b == 32) || (b == end)) bytes.now) word.now }

@@ -1,4 +1,4 @@
-//! The fields of a line, one after the other.
+//! Iterates over a line's fields.
 
 ghost use Rattle.std.specs.Prelude.{◌≡◌, ◌∷◌, [], List, ℕ, true, false, drop, option_map, is_some, MatchOption};
 ghost use Rattle.std.specs.Str.{bytes_eq};
@@ -13,7 +13,7 @@ use crate::number_row::NumberRow;
 use ring_names::Refusal;
 use std::marker::Model;
 
-/// The fields of a line that were not taken yet, and the number of the line.
+/// The remaining fields of a line, and its number.
 #[derive(Drop)]
 pub struct Fields<'a> {
     line: u32,
@@ -29,7 +29,7 @@ impl<'a> Model for Fields<'a> {
 }
 
 impl<'a> Fields<'a> {
-    /// All fields of a line, given without its last byte 0A.
+    /// Returns all fields of a line without its last byte 0A.
     #[inline(always)]
     pub fn of(line: u32, text: &'a [u8]) -> Fields<'a>
         ensures { result ≡ record { number = line; fields = fields_of text.now } }
@@ -40,15 +40,14 @@ impl<'a> Fields<'a> {
         }
     }
 
-    /// The number of the line.
+    /// Returns the line's number.
     pub fn line(&self) -> u32
         ensures { result ≡ self.now.number }
     {
         self.line
     }
 
-    /// Takes the next field, and returns the number that it spells, at most `CAP`: decimal, of any length,
-    /// without sign and without leading zeros.
+    /// Takes the next field, if any.
     #[inline(always)]
     pub fn next(&mut self) -> Option<&'a [u8]>
         ensures field { MatchOption result ((self.old.fields ≡ []) × (self.new.fields ≡ []))
@@ -58,7 +57,7 @@ impl<'a> Fields<'a> {
         self.rest.next()
     }
 
-    /// Takes the next field if it is this word, and tells whether it was.
+    /// Takes the next field if it is this word. Returns whether it was.
     #[inline(always)]
     pub fn takes(&mut self, word: &[u8]) -> bool
         ensures taken { result ≡ true → self.old.fields ≡ word.now ∷ self.new.fields }
@@ -70,7 +69,7 @@ impl<'a> Fields<'a> {
         self.rest.takes(word)
     }
 
-    /// Takes a field that must be this word. Else that is `BadLine`.
+    /// Takes this word, or fails with `BadLine`.
     #[inline(always)]
     pub fn word(&mut self, word: &[u8]) -> Result<(), Refusal>
         ensures { Does (λ k. word_at k word.now) self.old result self.new }
@@ -82,8 +81,7 @@ impl<'a> Fields<'a> {
         Err(Refusal::BadLine(self.line))
     }
 
-    /// Takes the next field, if there is one, and tells the number that it spells: decimal, without sign and without leading zeros, of any
-    /// length, and at most `CAP`.
+    /// Takes the next field. Returns its number, at most `CAP`: decimal, any length, no sign or leading zeros.
     #[inline(always)]
     pub fn value(&mut self) -> Option<u64>
         ensures value { result ≡ option_map capped (first_value self.old.fields) }
@@ -96,14 +94,14 @@ impl<'a> Fields<'a> {
         None
     }
 
-    /// Whether a number stands in front.
+    /// Whether the next field is a number.
     pub fn begins_number(&self) -> bool
         ensures { result ≡ is_some (first_value self.now.fields) }
     {
         self.rest.again().next_number().is_some()
     }
 
-    /// Takes a field that must be a number. Another field is `BadLine`, a number above the limit `TooLarge`.
+    /// Takes a number. Fails with `BadLine` for another field, and with `TooLarge` above the limit.
     #[inline(always)]
     pub fn number(&mut self, limit: u32) -> Result<u32, Refusal>
         ensures { Does (λ k. number_at k limit) self.old result self.new }
@@ -115,7 +113,7 @@ impl<'a> Fields<'a> {
         }
     }
 
-    /// Takes the numbers that stand in front.
+    /// Takes the next fields that are numbers.
     #[inline(always)]
     pub fn numbers(&mut self) -> NumberRow<'a>
         ensures numbers { result ≡ numbers_of self.old.fields }
@@ -124,7 +122,7 @@ impl<'a> Fields<'a> {
         self.rest.numbers()
     }
 
-    /// Asks that no field is left. Else that is `BadLine`.
+    /// Fails with `BadLine` if a field is left.
     #[inline(always)]
     pub fn ended(&mut self) -> Result<(), Refusal>
         ensures { Does (λ k. end_at k) self.old result self.new }
@@ -135,7 +133,7 @@ impl<'a> Fields<'a> {
         }
     }
 
-    /// The fields in front of the first that is this word, and those behind it, where there is one.
+    /// Splits the fields at the first such word, if any.
     pub fn split(self, word: &[u8]) -> (Fields<'a>, Option<Fields<'a>>)
         ensures front { result.0 ≡ record { number = self.entry.number; fields = front_of word.now self.entry.fields } }
         ensures behind { result.1 ≡ option_map (λ fs. record { number = self.entry.number; fields = fs })

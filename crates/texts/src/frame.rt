@@ -1,4 +1,4 @@
-//! The first and the last line of each section of a text.
+//! The first and last line of a text's sections.
 
 ghost use Rattle.std.specs.Prelude.{◌≡◌, IfErr, OnOk};
 ghost use Rattle.texts.specs.Left.{Answers, one_line, next_number};

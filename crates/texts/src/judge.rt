@@ -1,4 +1,4 @@
-//! Joining what was read of a line.
+//! Joins what was read of a line.
 
 ghost use Rattle.std.specs.Prelude.{◌≡◌, []};
 ghost use Rattle.texts.specs.Judging.{both_of, end_at, need_at, map_ok};
@@ -6,7 +6,7 @@ ghost use Rattle.texts.specs.Judging.{both_of, end_at, need_at, map_ok};
 use crate::fields::Fields;
 use ring_names::Refusal;
 
-/// Both values, or the refusal of the lesser number: of several faults in one line that one decides.
+/// Returns both values, or the refusal with the least number.
 #[tactic(auto, unfolding(crate::specs::Judging::both_of))]
 pub fn both<A: Drop, B: Drop>(
     first: Result<A, Refusal>,
@@ -22,7 +22,6 @@ pub fn both<A: Drop, B: Drop>(
     }
 }
 
-// Whether something was read, without what it is.
 fn outcome<A>(item: &Result<A, Refusal>) -> Result<(), Refusal>
     ensures { result ≡ map_ok (λ _. tt) item.now }
 {
@@ -32,7 +31,7 @@ fn outcome<A>(item: &Result<A, Refusal>) -> Result<(), Refusal>
     }
 }
 
-/// Room for what a line begins. Else that is `TooLarge`.
+/// Fails with `TooLarge` if there is no room.
 pub fn need(room: bool, fields: &Fields) -> Result<(), Refusal>
     ensures { result ≡ (need_at fields.now.number room []).0 }
 {
@@ -43,7 +42,7 @@ pub fn need(room: bool, fields: &Fields) -> Result<(), Refusal>
     }
 }
 
-/// What was read of a line, where no field is left behind it. Else that is `BadLine`.
+/// Returns what was read. Fails with `BadLine` if a field is left.
 pub fn finish<A: Drop>(item: Result<A, Refusal>, fields: Fields) -> Result<A, Refusal>
     ensures { result ≡ map_ok (λ x. x.0) (both_of item (end_at fields.entry.number fields.entry.fields).0) }
 {
@@ -55,7 +54,7 @@ pub fn finish<A: Drop>(item: Result<A, Refusal>, fields: Fields) -> Result<A, Re
     }
 }
 
-/// Joins the faults of three parts and of fields left over, and returns the last two values.
+/// Joins the faults of three parts and of remaining fields. Returns the last two values.
 #[tactic(auto, unfolding(crate::specs::Judging::both_of))]
 pub fn finish_both<Z: Drop, A: Drop, B: Drop>(
     before: Result<Z, Refusal>,

@@ -1,5 +1,4 @@
-//! What all texts share: lines of fields, which are words, names and numbers. Every reader reads by these
-//! functions.
+//! What all texts share: lines of fields, which are words, names and numbers. All readers use it.
 #![tactic(auto)]
 
 mod compare;

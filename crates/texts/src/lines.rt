@@ -1,4 +1,4 @@
-//! The lines of a text, one after the other.
+//! Iterates over a text's lines.
 
 ghost use Rattle.std.specs.Prelude.{◌≡◌, ◌≤◌, Ok, IfOk, IfErr, IsTrue, ◌↔◌};
 ghost use Rattle.texts.specs.Parts.{lines_of};
@@ -10,7 +10,6 @@ use crate::fields::Fields;
 use ring_names::Refusal;
 use std::marker::Model;
 
-// The number of the next line.
 #[tactic(auto, unfolding(crate::specs::Left::next_number))]
 fn behind(line: u32) -> u32
     ensures value { result ≡ next_number line }
@@ -19,7 +18,7 @@ fn behind(line: u32) -> u32
     if line < u32::MAX { line + 1 } else { line }
 }
 
-/// The lines not taken yet, and the next one's number, from 1. Lines from 2^32 - 1 on all have that number.
+/// The remaining lines, and the next one's number, from 1. Lines from 2^32 - 1 on all have that number.
 #[derive(Drop)]
 pub struct Lines<'a> {
     line: u32,
@@ -36,7 +35,7 @@ impl<'a> Model for Lines<'a> {
 }
 
 impl<'a> Lines<'a> {
-    /// All lines of a text.
+    /// Returns all lines of a text.
     pub fn of(text: &'a [u8]) -> Lines<'a>
         ensures { result ≡ record { line = 1; lines = lines_of text.now } }
     {
@@ -46,14 +45,14 @@ impl<'a> Lines<'a> {
         }
     }
 
-    /// The number of the next line.
+    /// Returns the next line's number.
     pub fn line(&self) -> u32
         ensures { result ≡ self.now.line }
     {
         self.line
     }
 
-    /// Takes a line that must come. Where there is none, or it is unfinished, that is `BadLine` at its number.
+    /// Takes a line. Fails with `BadLine` if it is missing or unfinished.
     #[inline(always)]
     pub fn next(&mut self) -> Result<Fields<'a>, Refusal>
         ensures found { IfOk result (λ x. (x.number ≡ self.old.line) × (next_line self.old ≡ Ok (x.fields, self.new))) }
@@ -73,7 +72,7 @@ impl<'a> Lines<'a> {
         }
     }
 
-    /// Whether the next line begins with the field `word`.
+    /// Whether the next line begins with this field.
     #[inline(always)]
     pub fn begins(&self, word: &[u8]) -> bool
         ensures { result ≡ begins_with word.now self.now.lines }
@@ -81,7 +80,7 @@ impl<'a> Lines<'a> {
         stands_in_front(self.rest, word, b'\n')
     }
 
-    /// The bytes that are left.
+    /// Returns the remaining bytes.
     #[inline(always)]
     pub fn bytes(&self) -> &'a [u8]
         ensures { self.now.lines ≡ lines_of result.now }
@@ -89,7 +88,7 @@ impl<'a> Lines<'a> {
         self.rest
     }
 
-    /// Goes on to the next line, whose bytes and those after it are `rest`.
+    /// Goes on to the next line: `rest` has its bytes and those after it.
     #[inline(always)]
     pub fn go_on(&mut self, rest: &'a [u8])
         ensures { self.new ≡ record { line = next_number self.old.line; lines = lines_of rest.now } }
@@ -107,7 +106,7 @@ impl<'a> Lines<'a> {
         self.rest.is_empty()
     }
 
-    /// Asks that the text is over. Else that is `BadLine` at the next line.
+    /// Fails with `BadLine` at the next line unless the text is over.
     pub fn ended(&self) -> Result<(), Refusal>
         ensures { result ≡ over_at self.now }
     {

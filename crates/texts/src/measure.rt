@@ -1,4 +1,4 @@
-//! What is kept of numbers that are taken one behind the other.
+//! Measures successive numbers.
 
 ghost use Rattle.std.specs.Prelude.{◌≡◌, ◌≤◌, ◌<◌, ◌+◌, ◌++◌, ◌∷◌, ◌&&◌, [], ℕ, List, nat_le, length, take, is_some};
 ghost use Rattle.std.specs.Prelude.{IfSome};
@@ -8,20 +8,20 @@ ghost use Rattle.texts.specs.KeptRow.{Measures};
 
 use crate::number::CAP;
 
-/// How many numbers there were, how great, whether they ascend, and the first of them.
+/// What is known of successive numbers.
 #[derive(Clone, Copy, Drop)]
 pub(crate) struct Measure {
     pub(crate) count: u64,
-    // one more than the greatest of them, those from `CAP` on taken for `CAP`; 0 where there are none
+    // One more than the greatest number, which counts as at most `CAP`; 0 without numbers.
     pub(crate) bound: u64,
-    // whether each is less than the next, told only where all are below `CAP`
+    // Known only if all are below `CAP`.
     pub(crate) ascends: bool,
-    // the first of them, those from `CAP` on not as they were
+    // Those from `CAP` on are not exact.
     pub(crate) first: [u32; 8],
 }
 
 impl Measure {
-    /// Of no numbers.
+    /// Starts without numbers.
     pub(crate) fn new() -> Measure
         ensures { Measures [] result }
     {
@@ -33,7 +33,6 @@ impl Measure {
         }
     }
 
-    // Keeps the next number, if it is one of the first.
     #[inline(always)]
     fn keep(&mut self, value: u64)
         requires { value ≤ 4294967296 }
@@ -60,7 +59,7 @@ impl Measure {
         self.bound = self.bound.max(value + 1);
     }
 
-    /// The numbers, where they are at most 8 and each is a `u32`.
+    /// Returns the numbers, if at most 8 and each is a `u32`.
     pub(crate) fn kept(&self) -> Option<&[u32]>
         ensures some { (xs : List ℕ) → Measures xs self.now → is_some result ≡ (nat_le (length xs) 8 && are_small xs) }
         ensures same { IfSome result (λ s. (xs : List ℕ) → Measures xs self.now → s.now ≡ xs) }

@@ -4,7 +4,7 @@ ghost use Rattle.std.specs.Prelude.{◌≡◌};
 ghost use Rattle.std.specs.List.{list_all};
 ghost use Rattle.texts.specs.Name.{is_name_byte, is_name as is_spelled_name};
 
-/// Whether each byte of a field is one of `a-z0-9_.:-`, those of names and of keys.
+/// Whether each byte is one of `a-z0-9_.:-`, as in names and keys.
 pub fn are_name_bytes(field: &[u8]) -> bool
     ensures { result ≡ list_all is_name_byte field.now }
 {

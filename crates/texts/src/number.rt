@@ -7,21 +7,21 @@ ghost use Rattle.texts.specs.Kept.{fields_left};
 ghost use Rattle.texts.specs.Number.{value_from, is_number, capped};
 ghost use Rattle.texts.specs.Numbers.{numbers_of};
 
-/// Above every limit of a text: greater numbers are taken for this one.
+/// Above every limit of a text. Greater numbers count as this one.
 pub const CAP: u64 = 4_294_967_296;
 
-/// A number that stands in front of some bytes.
+/// A number at the start of some bytes.
 #[derive(Drop)]
 pub(crate) struct Front<'a> {
-    /// Its digits: decimal, without sign and without leading zeros, of any length.
+    /// Decimal, of any length, without sign or leading zeros.
     pub(crate) digits: &'a [u8],
-    /// Its value, at most `CAP`.
+    /// At most `CAP`.
     pub(crate) value: u64,
-    /// What stands behind the space that ends it, if there is one.
+    /// What follows the space that ends the number, if any.
     pub(crate) rest: Option<&'a [u8]>,
 }
 
-// Whether some digits are a number: there are some, and no leading zero.
+// Whether there are digits, without a leading zero.
 #[inline(always)]
 pub(crate) fn are_number(digits: &[u8]) -> bool
     ensures { all_ascii_digits digits.now ≡ true → result ≡ is_number digits.now }
@@ -32,7 +32,6 @@ pub(crate) fn are_number(digits: &[u8]) -> bool
     }
 }
 
-// The value of digits of any number.
 #[cold]
 fn capped_value(digits: &[u8]) -> u64
     ensures { result ≡ capped (value_from 0 digits.now) }
@@ -44,7 +43,7 @@ fn capped_value(digits: &[u8]) -> u64
     value
 }
 
-// The value of some digits, at most `CAP`, given that of up to 9 of them, which is below it.
+// Returns the value, at most `CAP`, given that of up to 9 digits.
 #[inline(always)]
 fn value_of(digits: &[u8], short: u64) -> u64
     requires digits { all_ascii_digits digits.now ≡ true }
@@ -57,7 +56,7 @@ fn value_of(digits: &[u8], short: u64) -> u64
     capped_value(digits)
 }
 
-/// The number that the bytes up to the first space spell, in one walk over them.
+/// Reads a number up to the first space, in one pass.
 #[inline(always)]
 pub(crate) fn number_in_front(bytes: &[u8]) -> Option<Front<'_>>
     ensures none { MatchOption result (numbers_of (fields_of bytes.now) ≡ []) (λ _. ⊤) }
@@ -65,7 +64,7 @@ pub(crate) fn number_in_front(bytes: &[u8]) -> Option<Front<'_>>
     ensures number { IfSome result (λ n. is_number n.digits.now ≡ true) }
     ensures value { IfSome result (λ n. n.value ≡ capped (value_from 0 n.digits.now)) }
 {
-    // of more than 9 digits it means nothing
+    // Meaningless after more than 9 digits.
     let mut value = 0u64;
     for at in 0..bytes.len() {
         let byte = bytes[at];

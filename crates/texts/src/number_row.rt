@@ -1,4 +1,4 @@
-//! Numbers in a row.
+//! Successive numbers.
 
 ghost use Rattle.std.specs.Prelude.{◌≡◌, ◌∷◌, ◌≤◌, ◌==◌, ◌++◌, ◌&&◌, [], true, nat_lt, nat_le, length, ⊤, MatchOption};
 ghost use Rattle.std.specs.Prelude.{is_some, IfSome, OnOk, IfOk, IfErr};
@@ -15,7 +15,7 @@ use ring_names::Refusal;
 use std::alloc::Global;
 use std::marker::Model;
 
-/// Numbers of any length that stand in a row, still as they are spelled.
+/// Successive unparsed numbers of any length.
 #[derive(Drop)]
 pub struct NumberRow<'a> {
     rest: Cursor<'a>,
@@ -36,14 +36,14 @@ impl<'a> Model for NumberRow<'a> {
 }
 
 impl<'a> Cursor<'a> {
-    // A cursor of its own at the same place.
+    // Copies the cursor.
     pub(crate) fn again(&self) -> Cursor<'a>
         ensures { result ≡ self.now }
     {
         Cursor { rest: self.rest }
     }
 
-    // Takes the next part if it is a number, and tells its value, at most `CAP`.
+    // Takes the next part if it is a number. Returns its value, at most `CAP`.
     #[tactic(auto, using(crate::proofs::InFront::none_beyond))]
     #[inline(always)]
     pub(crate) fn next_number(&mut self) -> Option<(&'a [u8], u64)>
@@ -63,7 +63,7 @@ impl<'a> Cursor<'a> {
         }
     }
 
-    /// Takes the numbers that stand in front.
+    /// Takes the next parts that are numbers.
     #[inline(always)]
     pub fn numbers(&mut self) -> NumberRow<'a>
         ensures numbers { result ≡ numbers_of self.old }
@@ -77,7 +77,6 @@ impl<'a> Cursor<'a> {
         NumberRow { rest, measure }
     }
 
-    // Adds the numbers that stand in front.
     fn push_numbers(&mut self, out: &mut Vec<u32>) -> Result<(), Refusal>
         requires { list_all (λ x. nat_lt x 4294967296) (numbers_of self.old) ≡ true }
         ensures ok { OnOk result (out.new.items ≡ out.old.items ++ numbers_of self.old) }
@@ -91,7 +90,7 @@ impl<'a> Cursor<'a> {
 }
 
 impl<'a> NumberRow<'a> {
-    /// No numbers.
+    /// Returns an empty row.
     pub fn none() -> NumberRow<'a>
         ensures { result ≡ [] }
     {
@@ -101,7 +100,7 @@ impl<'a> NumberRow<'a> {
         }
     }
 
-    /// A row of its own of the same numbers.
+    /// Copies the row.
     pub fn again(&self) -> NumberRow<'a>
         ensures { result ≡ self.now }
     {
@@ -111,7 +110,7 @@ impl<'a> NumberRow<'a> {
         }
     }
 
-    /// Whether there are none.
+    /// Whether there are no numbers.
     pub fn is_empty(&self) -> bool
         ensures { result ≡ (length self.now == 0) }
     {
@@ -153,7 +152,7 @@ impl<'a> NumberRow<'a> {
         true
     }
 
-    /// The numbers, where they are at most 8 and each is a `u32`.
+    /// Returns the numbers, if at most 8 and each is a `u32`.
     pub fn kept(&self) -> Option<&[u32]>
         ensures some { is_some result ≡ (nat_le (length self.now) 8 && are_small self.now) }
         ensures same { IfSome result (λ kept. kept.now ≡ self.now) }
@@ -161,7 +160,7 @@ impl<'a> NumberRow<'a> {
         self.measure.kept()
     }
 
-    /// The numbers in a vector.
+    /// Returns the numbers as a vector.
     pub fn to_vec(&self, alloc: Global) -> Result<Vec<u32>, Refusal>
         requires { list_all (λ x. nat_lt x 4294967296) self.now ≡ true }
         ensures ok { IfOk result (λ out. out.items ≡ self.now) }

@@ -1,4 +1,5 @@
-//! Takes plainly spelled parts from the front of a text, without cutting it into lines and fields.
+//! Reads plainly spelled parts of a text, without cutting it into lines and fields.
+//!
 //! A reader that gets `None` reads the line by its fields, which names a fault.
 
 ghost use Rattle.std.specs.Prelude.{◌≡◌, ◌++◌, map, IfSome};
@@ -7,7 +8,7 @@ ghost use Rattle.texts.specs.Parts.{spaced};
 
 use crate::number::are_number;
 
-/// The text after this word, if it begins with the word.
+/// Returns the text after this word, if it begins so.
 #[inline(always)]
 pub fn after_word<'a>(text: &'a [u8], word: &[u8]) -> Option<&'a [u8]>
     ensures { IfSome result (λ rest. text.now ≡ word.now ++ rest.now) }
@@ -23,7 +24,7 @@ pub fn after_word<'a>(text: &'a [u8], word: &[u8]) -> Option<&'a [u8]>
     Some(&text[word.len()..])
 }
 
-/// The bytes before the first space or line end, and the text after them.
+/// Returns the bytes before the first space or line end, and the rest.
 #[inline(always)]
 pub fn plain_word(text: &[u8]) -> (&[u8], &[u8])
     ensures { text.now ≡ result.0.now ++ result.1.now }
@@ -36,12 +37,12 @@ pub fn plain_word(text: &[u8]) -> (&[u8], &[u8])
     (text, &text[text.len()..])
 }
 
-/// The number at the front of the text, and the text after it. A number of more than 9 digits is not taken.
+/// Returns the number at the start, at most 9 digits, and the rest.
 #[inline(always)]
 pub fn plain_number(text: &[u8]) -> Option<(u32, &[u8])>
     ensures { IfSome result (λ x. text.now ≡ decimal x.0 ++ x.1.now) }
 {
-    // after more than 9 digits it means nothing
+    // Meaningless after more than 9 digits.
     let mut value = 0u64;
     for at in 0..text.len() {
         let byte = text[at];
@@ -56,7 +57,7 @@ pub fn plain_number(text: &[u8]) -> Option<(u32, &[u8])>
     None
 }
 
-/// Takes numbers, each after a space, into `out`, and returns the text after them. None if there are more than `most`.
+/// Adds numbers, each after a space, and returns the text after them. None if more than `most`.
 #[inline(always)]
 pub fn plain_numbers<'a>(text: &'a [u8], most: usize, out: &mut Vec<u32>) -> Option<&'a [u8]>
     ensures { IfSome result (λ rest. text.now ≡ spaced (map decimal out.new.items) ++ rest.now) }
