@@ -1,4 +1,4 @@
-//! A ring and a plan, before and after the check.
+//! A ring and a plan, checked or refused.
 
 ghost use Rattle.std.specs.Prelude.{◌≡◌};
 
@@ -13,7 +13,7 @@ pub struct Approved {
     plan: Plan,
 }
 
-// Dropped by a call: otherwise each crate above proves the drop of its parts.
+// Dropping is a call, so crates above need not check the parts.
 impl Drop for Approved {
     fn drop(self) {
         let Approved { ring, plan } = self;
@@ -59,7 +59,7 @@ impl Approved {
     }
 }
 
-/// A ring and a plan that the checker refused, and why.
+/// A refused ring and plan, and why.
 #[derive(Drop)]
 pub struct Turned {
     pub ring: Ring,

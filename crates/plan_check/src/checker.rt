@@ -1,4 +1,4 @@
-//! The check itself.
+//! The check.
 
 ghost use Rattle.std.specs.Prelude.{◌≡◌, ◌⊎◌, None, Some, Err, IfOk, IfErr, IfNone, IfSome, OnOk, length};
 ghost use Rattle.ring_names.specs.declared.refusal.Refusal.TheVariants.{OutOfMemory, TurnsSpent};
@@ -25,17 +25,20 @@ use std::alloc::Global;
 use std::sync::Wait;
 use std::thread::Threads;
 
-/// Checks a plan by a certificate: first its facts by number, then the partitions, then the nodes.
+/// Checks a plan by a certificate.
+///
+/// Facts come first, by number, then partitions, then nodes.
 ///
 /// In every run of an accepted plan, at every moment:
-/// - For each acknowledged put, any R slots of its partition include one whose owner or hint keeper holds it or a causal successor.
+/// - For each acknowledged put, any R slots of its partition include one whose owner or hint keeper holds it or a
+/// causal successor.
 /// - No two slots of a partition share a node.
 /// - No node has more transfers open than its allowance.
 /// - Each slot's owner and mirror are members.
 /// - Gets see what was acknowledged before they started.
 ///
-/// Other plans are refused by the first clause that fails, and come back with their ring. Out of memory comes after all facts are verified.
-/// Costs about as much as reading the texts.
+/// Fails with the first clause that fails, and returns the ring and the plan. Out of memory comes after all facts are
+/// verified. Costs about as much as reading the texts.
 pub fn check(alloc: Global, ring: Ring, plan: Plan, cert: &Cert) -> Result<Approved, Turned>
     requires { Suits ring plan }
     ensures same { IfOk result (λ a. (a.ring ≡ ring) × (a.plan ≡ plan)) }
@@ -62,14 +65,18 @@ pub fn check(alloc: Global, ring: Ring, plan: Plan, cert: &Cert) -> Result<Appro
     }
 }
 
-/// Checks as `check` does, with threads: one per processor for the facts, and `workers` for shares of the partitions, but at most one per partition.
-/// Zero workers are as one.
+/// Checks as `check` does, in threads.
 ///
-/// Of Q partitions and m shares, share s begins with partition s Q / m, rounded down. Its worker passes the gate with that number as the mark, and
-/// then checks the share. If no thread can be started, the calling thread does the shares in turn.
+/// A thread per processor checks the facts, and `workers` the partitions.
 ///
-/// The answer is that of `check`, whatever the number of workers. But if the gate stops a worker, it is `TurnsSpent`, whatever else was found.
-/// If a fact is not a path, no share begins. If the gate must stop a worker, the answer may also be `OutOfMemory`.
+/// Uses at most one worker per partition; zero count as one. If no thread can be started, the calling thread does the
+/// shares in turn.
+///
+/// Of Q partitions and m shares, share s begins with partition s Q / m, rounded down. Its worker first passes the gate
+/// with that number as the mark.
+///
+/// Answers as `check`, but with `TurnsSpent` if the gate stops a worker, whatever else was found. If a fact is not a
+/// path, no share begins. If the gate must stop a worker, the answer may also be `OutOfMemory`.
 pub fn check_parallel<R: Threads + Wait + Sync, G: Gate + Sync>(
     rt: &R,
     alloc: Global,
@@ -122,7 +129,6 @@ pub fn check_parallel<R: Threads + Wait + Sync, G: Gate + Sync>(
     }
 }
 
-// Tests all clauses in their order.
 fn check_all(alloc: Global, ring: &Ring, plan: &Plan, cert: &Cert) -> Result<(), Refusal>
     requires { Suits ring.now plan.now }
     ensures first { Gives result (all_clauses ring.now plan.now cert.now) }
@@ -142,7 +148,7 @@ fn check_all(alloc: Global, ring: &Ring, plan: &Plan, cert: &Cert) -> Result<(),
     }
 }
 
-// Tests all clauses, those of the partitions by workers. None if the gate stopped one.
+// Checks the partitions by workers. None if the gate stopped one.
 fn check_all_by_workers<R: Threads + Wait + Sync, G: Gate + Sync>(
     by: &Workers<R, G>,
     ring: &Ring,
@@ -174,7 +180,7 @@ fn check_all_by_workers<R: Threads + Wait + Sync, G: Gate + Sync>(
     }
 }
 
-// Tests the clauses of the nodes, unless one of a partition failed.
+// Checks the nodes, unless a partition failed.
 fn check_rest(
     alloc: Global,
     context: &Context,

@@ -1,20 +1,20 @@
-//! Gates, which the threads of a call pass before each piece of their work.
+//! Gates, which threads pass before each piece of work.
 
 ghost use Rattle.std.specs.Prelude.{ℕ, IsTrue, IsFalse};
 
 use std::sync::Wait;
 
-/// A gate that each worker of a call passes before a piece of work. The mark says which piece.
+/// Lets workers pass before pieces of work, named by marks.
 ///
-/// A gate may hold a worker until others have come as far, up to a limit of its own. Tests show by it that threads overlap.
+/// May hold a worker until others have come as far, up to its own limit. So tests show that threads overlap.
 pub trait Gate {
     /// Whether the gate may refuse this worker at this mark.
     ghost may_refuse: { Self → ℕ → ℕ → Type 0 };
 
-    /// Whether the gate refuses this worker at this mark in any case.
+    /// Whether the gate always refuses this worker at this mark.
     ghost must_refuse: { Self → ℕ → ℕ → Type 0 };
 
-    /// Waits until the worker may pass. False if the gate's own limit is used up.
+    /// Waits until the worker may pass. False if the gate's limit is used up.
     fn pass<R: Wait>(&self, rt: &R, worker: u32, mark: u64) -> bool
         ensures refused { IsFalse result → may_refuse self.now worker mark }
         ensures passed { IsTrue result → must_refuse self.now worker mark → ⊥ };

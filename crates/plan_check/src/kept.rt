@@ -1,4 +1,4 @@
-//! Which promises a plan keeps, also if the checker refuses it.
+//! Which promises a plan keeps, even if refused.
 
 ghost use Rattle.std.specs.Prelude.{◌≡◌, ◌&&◌, not, ℕ, ◌<◌, IfOk, IfErr, None, true, false, length};
 ghost use Rattle.ring_names.specs.declared.refusal.Refusal.{Refusal as TheRefusal};
@@ -24,7 +24,7 @@ use ring_names::Refusal;
 use ring_table::Ring;
 use std::alloc::Global;
 
-/// Which promises a plan is known to keep in every run.
+/// The promises known to be kept in every run.
 #[derive(Clone, Copy, Debug)]
 pub struct Kept {
     /// Acknowledged puts are held, and gets see them.
@@ -37,7 +37,7 @@ pub struct Kept {
     pub members: bool,
 }
 
-// Notes which kinds of clauses may fail in any partition. Returns whether the steps of each slot act in order.
+// Notes which clauses may fail. Returns whether each slot's steps act in order.
 fn note_all(alloc: Global, context: &Context, missed: &mut Missed) -> Result<bool, Refusal>
     ensures holds { IfOk result (λ b. b ≡ true → (p : ℕ) → p < context.now.ring.now.q
         → HoldsBut missed.new context.now.ring.now context.now.plan.now (order context.now) p) }
@@ -65,7 +65,7 @@ fn are_both(a: bool, b: bool) -> bool
     a && b
 }
 
-// Whether a certificate's chains are in order and cover the copies of each node.
+// Whether the chains are in order and cover each node's copies.
 fn is_covered(alloc: Global, context: &Context, cert: &Cert) -> Result<bool, Refusal>
     requires { AreFactsOf context.now.plan.now context.now.facts.now }
     ensures ok { IfOk result (λ b. b ≡ true → first_failing (below (λ x. node_clauses context.now.ring.now
@@ -83,7 +83,7 @@ fn is_covered(alloc: Global, context: &Context, cert: &Cert) -> Result<bool, Ref
     }
 }
 
-// Which promises are kept, if the steps of each slot act in order.
+// Which promises are kept, if each slot's steps act in order.
 fn kept_by(context: &Context, cert: &Cert, missed: Missed, covered: bool) -> Kept
     requires holds { (p : ℕ) → p < context.now.ring.now.q
         → HoldsBut missed context.now.ring.now context.now.plan.now (order context.now) p }
@@ -106,8 +106,11 @@ fn kept_by(context: &Context, cert: &Cert, missed: Missed, covered: bool) -> Kep
     }
 }
 
-/// Says which promises a certificate shows that a plan keeps: all if `check` says yes, none if a slot's steps may act out of order.
-/// A fact that is not a path is refused as by `check`. Costs as much as a `check` that says yes.
+/// Returns the promises that a certificate shows.
+///
+/// All if `check` accepts, none if slots may act out of order.
+///
+/// Fails as `check` for a fact that is not a path. Costs as much as an accepting `check`.
 pub fn promises_kept(alloc: Global, ring: &Ring, plan: &Plan, cert: &Cert) -> Result<Kept, Refusal>
     requires { Suits ring.now plan.now }
     ensures kept { IfOk result (λ said. KeepsWhatIsSaid ring.now plan.now said) }

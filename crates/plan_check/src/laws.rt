@@ -1,4 +1,4 @@
-//! Laws about the definitions: each is the contract of a function that does nothing.
+//! Laws about the definitions. Each is the contract of an empty function.
 
 ghost use Rattle.std.specs.Prelude.{◌≡◌, ◌↔◌, ◌<◌, ◌+◌, ℕ, List, true, None, length, nat_lt};
 ghost use Rattle.std.specs.List.{list_all};
@@ -23,12 +23,12 @@ use plan_cert::Cert;
 use plan_text::Plan;
 use ring_table::Ring;
 
-/// A plan that a certificate certifies is sound.
+/// A certified plan is sound.
 pub fn certified_is_sound()
     ensures { (ring : RingValue) (plan : List Planned) (cert : TheCert) → IsCertified ring plan cert → Sound ring plan }
 {}
 
-/// No clause of the checker fails exactly if the certificate certifies the plan.
+/// No clause fails exactly if the certificate certifies the plan.
 pub fn first_is_none_where_certified(ring: &Ring, plan: &Plan, cert: &Cert)
     requires { Suits ring.now plan.now }
     ensures { (first_refusal ring.now plan.now cert.now ≡ None) ↔ IsCertified ring.now plan.now cert.now }
@@ -36,18 +36,22 @@ pub fn first_is_none_where_certified(ring: &Ring, plan: &Plan, cert: &Cert)
     let _ = (ring.n(), plan.len(), cert.facts.len());
 }
 
-/// The checker answers the same before a ring is migrated and after.
+/// The checker answers the same before and after a ring is migrated.
 pub fn migration_changes_no_refusal()
     ensures { (ring : RingValue) (plan : List Planned) (cert : TheCert)
         → first_refusal (migrated ring) plan cert ≡ first_refusal ring plan cert }
 {}
 
-/// After each of a slot's steps, its owner has nothing left to drop, and its mirror is a third node.
+/// After each step of a slot, its owner has nothing to drop.
+///
+/// Its mirror is a third node.
 pub fn stages_are_good()
     ensures { (ring : RingValue) (plan : List Planned) → Sound ring plan → AreGoodStages ring plan }
 {}
 
-/// A node owns or mirrors a slot exactly if it has begun to and has not left it since. One direction holds only if each step fits its stage.
+/// A node that owns or mirrors a slot began and has not left.
+///
+/// If each step fits its stage, such nodes also own or mirror it.
 pub fn servers_occupy(ring: &Ring, plan: &Plan)
     ensures occupy { ServersOccupy ring.now plan.now }
     ensures serve { AllStaged ring.now plan.now → OccupantsServe ring.now plan.now }
@@ -55,15 +59,19 @@ pub fn servers_occupy(ring: &Ring, plan: &Plan)
     let _ = (ring.n(), plan.len());
 }
 
-/// In every run, a slot's finished steps are its first ones, if its steps act in order.
+/// A slot's finished steps are its first ones in every run.
+///
+/// Needs steps that act in order.
 pub fn finished_steps_come_first(ring: &Ring, plan: &Plan)
     ensures { AreInTurn ring.now plan.now (Before plan.now) → Always ring.now plan.now (AreFinishedFirst plan.now) }
 {
     let _ = (ring.n(), plan.len());
 }
 
-/// Acknowledged puts are held in every run, and gets see them, if slots act in order and copies read enough. If nodes may lose their data, each must also
-/// leave a slot before it serves another of the partition.
+/// Acknowledged puts are held in every run, and gets see them.
+///
+/// Needs slots that act in order and copies that read enough. If nodes may lose data, each must leave a slot before it
+/// serves another of the partition.
 pub fn puts_stay_held(ring: &Ring, plan: &Plan)
     ensures { AreInTurn ring.now plan.now (Before plan.now) → ReadEnough ring.now plan.now
         → (0 < ring.now.loss → HaveLeft ring.now plan.now (Before plan.now)) → HoldsPuts ring.now plan.now }
@@ -71,8 +79,9 @@ pub fn puts_stay_held(ring: &Ring, plan: &Plan)
     let _ = (ring.n(), plan.len());
 }
 
-/// No two slots of a partition share a node in any run, hint keepers included, if slots act in order and each node leaves a slot before it serves
-/// another of the partition.
+/// A partition's slots never share a node, hint keepers included.
+///
+/// Needs slots that act in order, and nodes that leave a slot before they serve another of the partition.
 pub fn groups_stay_apart(ring: &Ring, plan: &Plan)
     ensures { AreInTurn ring.now plan.now (Before plan.now) → HaveLeft ring.now plan.now (Before plan.now)
         → Always ring.now plan.now (GroupsAreApart ring.now plan.now) }
@@ -80,7 +89,9 @@ pub fn groups_stay_apart(ring: &Ring, plan: &Plan)
     let _ = (ring.n(), plan.len());
 }
 
-/// No node has more transfers open than its allowance in any run, if slots act in order, no source moves while it is read, and chains cover the copies.
+/// No node has more transfers open than its allowance in any run.
+///
+/// Needs slots that act in order, sources that do not move while read, and chains that cover the copies.
 pub fn transfers_stay_few(ring: &Ring, plan: &Plan)
     ensures { AreInTurn ring.now plan.now (Before plan.now) → AreSettled plan.now (Before plan.now)
         → (chains : ℕ → Side → List (List ℕ)) → AreCovered ring.now plan.now (Before plan.now) chains
@@ -89,7 +100,9 @@ pub fn transfers_stay_few(ring: &Ring, plan: &Plan)
     let _ = (ring.n(), plan.len());
 }
 
-/// Each slot's owner and mirror are members in every run, if slots act in order and nodes serve only between joining and retiring.
+/// Each slot's owner and mirror are members in every run.
+///
+/// Needs slots that act in order, and nodes that serve only between joining and retiring.
 pub fn servers_stay_members(ring: &Ring, plan: &Plan)
     ensures { AreInTurn ring.now plan.now (Before plan.now) → ServeAsMembers ring.now plan.now (Before plan.now)
         → Always ring.now plan.now (ServersAreMembers ring.now plan.now) }
@@ -97,16 +110,17 @@ pub fn servers_stay_members(ring: &Ring, plan: &Plan)
     let _ = (ring.n(), plan.len());
 }
 
-/// The headline: a sound plan keeps its promises at every moment of every run.
+/// A sound plan always keeps its promises, in every run: the headline.
 ///
-/// A run has any puts, gets, outages, hints and handoffs, and as many nodes that lose their data as the ring allows. `check` lists the promises.
+/// A run has any puts, gets, outages, hints and handoffs, and as many nodes that lose their data as the ring allows.
+/// `check` lists the promises.
 pub fn sound_plans_keep_promises(ring: &Ring, plan: &Plan)
     ensures { Sound ring.now plan.now → KeepsPromises ring.now plan.now }
 {
     let _ = (ring.n(), plan.len());
 }
 
-/// A plan keeps its promises if the checker has no refusal.
+/// A plan keeps its promises if the checker accepts it.
 pub fn accepted_plans_keep_promises(ring: &Ring, plan: &Plan, cert: &Cert)
     requires { Suits ring.now plan.now }
     ensures { first_refusal ring.now plan.now cert.now ≡ None → KeepsPromises ring.now plan.now }
@@ -116,7 +130,9 @@ pub fn accepted_plans_keep_promises(ring: &Ring, plan: &Plan, cert: &Cert)
     sound_plans_keep_promises(ring, plan);
 }
 
-/// Every read meets every write: two lists of different numbers below n share a number if they are together longer than n.
+/// Two lists of distinct numbers below n overlap if longer than n together.
+///
+/// So every read meets every write.
 pub fn quorums_meet()
     ensures { (n : ℕ) (xs ys : List ℕ) → all_different xs ≡ true → all_different ys ≡ true
         → list_all (λ x. nat_lt x n) xs ≡ true → list_all (λ y. nat_lt y n) ys ≡ true → n < length xs + length ys

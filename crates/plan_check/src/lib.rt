@@ -1,4 +1,4 @@
-//! The checker: a plan that passes it may be run on its ring, and keeps its promises in every run.
+//! The checker: a plan that passes may be run on its ring, and keeps its promises.
 #![tactic(auto)]
 
 mod approval;

@@ -1,4 +1,4 @@
-//! Shares of the partitions, which workers check in parallel.
+//! Shares of the partitions, checked in parallel.
 
 ghost use Rattle.std.specs.Prelude.{◌≡◌, ◌^◌, ◌<◌, ◌≤◌, ℕ, Err, IfNone, IfSome, length, slice_index_or};
 ghost use Rattle.ring_names.specs.declared.refusal.Refusal.TheVariants.{OutOfMemory};
@@ -17,16 +17,15 @@ use std::sync::Wait;
 use std::thread;
 use std::thread::Threads;
 
-/// What came of a share.
+/// A share's outcome.
 #[derive(Clone, Copy, Debug)]
 pub(crate) enum ShareOutcome {
-    /// The gate did not let its worker begin.
+    /// The gate stopped its worker.
     Stopped,
-    /// What its partitions gave.
     Checked(Result<(), Refusal>),
 }
 
-/// Who checks: at most `workers` threads, each of which passes the gate before its share.
+/// At most `workers` threads. Each passes the gate before its share.
 #[derive(Drop)]
 pub(crate) struct Workers<'r, 'g, R: Wait, G: Gate> {
     pub rt: &'r R,
@@ -35,7 +34,7 @@ pub(crate) struct Workers<'r, 'g, R: Wait, G: Gate> {
     pub gate: &'g G,
 }
 
-/// Tests the clauses of partitions `from` to `to`, without `to`, and answers with the first refusal.
+/// Checks partitions from `from` up to but without `to`. Fails with the first refusal.
 pub(crate) fn check_share(
     alloc: Global,
     context: &Context,
@@ -53,7 +52,6 @@ pub(crate) fn check_share(
     Ok(())
 }
 
-// The first partition of a share.
 fn first_partition(q: u32, shares: u32, share: u32) -> u32
     requires shares { 0 < shares }
     requires share { share ≤ shares }
@@ -62,7 +60,7 @@ fn first_partition(q: u32, shares: u32, share: u32) -> u32
     (u64::from(share) * u64::from(q) / u64::from(shares)) as u32
 }
 
-// Checks a share, once the gate lets its worker pass.
+// Checks a share after its worker passed the gate.
 fn work_share<R: Wait, G: Gate>(
     by: &Workers<R, G>,
     context: &Context,
@@ -83,7 +81,7 @@ fn work_share<R: Wait, G: Gate>(
     ShareOutcome::Checked(check_share(by.alloc, context, from, to))
 }
 
-// Puts the outcomes of all shares together: none if a worker was stopped, otherwise the first refusal.
+// Returns none if a worker was stopped, otherwise the first refusal.
 fn gather<R: Wait, G: Gate>(
     by: &Workers<R, G>,
     context: &Context,
@@ -110,7 +108,7 @@ fn gather<R: Wait, G: Gate>(
     Some(first)
 }
 
-/// Tests the clauses of every partition, as `check_parallel` shares them. None if the gate stopped a worker, otherwise the first refusal.
+/// Checks every partition by shares. None if the gate stopped a worker, otherwise the first refusal.
 pub(crate) fn check_shares<R: Threads + Wait + Sync, G: Gate + Sync>(
     by: &Workers<R, G>,
     context: &Context,
