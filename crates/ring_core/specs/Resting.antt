@@ -3,10 +3,13 @@ use Rattle.std.specs.Prelude.{◌≡◌, ◌≤◌, ℕ, List, length}
 use Rattle.ring_table.specs.Value.{RingValue}
 use Rattle.plan_text.specs.declared.step.Planned.{Planned}
 use Rattle.plan_runs.specs.World.{World as TheWorld}
-use Rattle.ring_store.specs.Stores.{held_at, node_count, shared_space}
-use Rattle.ring_hints.specs.Hints.{hinted_at, partitions}
+use Rattle.ring_names.specs.declared.ids.Slot.{Slot}
+use Rattle.ring_store.specs.Stores.{held_at, shared_space}
+use Rattle.ring_hints.specs.Hints.{hinted_at}
 use Rattle.store_tables.specs.Lasts.{last_of}
 use Rattle.store_tells.specs.Kept.{Kept, Tells}
+use Rattle.store_tells.specs.Numbers.{by_keys, ArePlaced}
+use Rattle.store_tells.specs.Puts.{AreNumbered}
 use Rattle.store_tells.specs.declared.parts.Parts.{Parts}
 use Rattle.ring_core.specs.declared.resting.Rest.{Rest}
 use Rattle.ring_core.specs.declared.world.World.{World}
@@ -42,8 +45,8 @@ kept_in rest = record {
   puts = rest.puts;
   gets = rest.gets;
   losses = rest.losses;
-  stored = held_at rest.stores;
-  hinted = hinted_at rest.hints;
+  stored = by_keys rest.keys (held_at rest.stores);
+  hinted = by_keys rest.keys (hinted_at rest.hints);
 }
 
 -- how many puts and gets it has
@@ -57,9 +60,10 @@ gets_in rest = length rest.gets
 pub record IsReady (ring : RingValue) (plan : List Planned) (rest : Rest) : Type 0 where
   pub met : ∥ ((w : TheWorld) × Tells ring plan (kept_in rest) w) ∥₁
   pub space : shared_space rest.stores ≡ ring.q
-  pub nodes : node_count rest.stores ≡ length ring.nodes
-  pub hints : partitions rest.hints ≡ ring.q
   pub keys : rest.keys.q ≡ ring.q
+  pub numbered : AreNumbered rest.keys.keys
+  pub stored : (x : ℕ) (s : Slot) → ArePlaced rest.keys (held_at rest.stores x s)
+  pub hinted : (x : ℕ) (s : Slot) → ArePlaced rest.keys (hinted_at rest.hints x s)
   pub puts : puts_in rest ≤ 4294967295
   pub gets : gets_in rest ≤ 4294967295
 

@@ -3,6 +3,7 @@
 use crate::world::World;
 use ring_clock::Clock;
 use ring_names::{NodeId, Slot};
+use ring_store::SlotKey;
 
 impl<'a> World<'a> {
     ghost use Rattle.std.specs.Prelude.{◌≡◌, ◌<◌, ◌↔◌, IsTrue, Some, length, true};
@@ -11,7 +12,6 @@ impl<'a> World<'a> {
     ghost use Rattle.plan_runs.specs.World.{World as TheWorld};
     ghost use Rattle.ring_store.specs.Stores.{held_at};
     ghost use Rattle.ring_versions.specs.Versions.{Covers};
-    ghost use Rattle.store_maps.specs.Chunks.{chunk_of};
     ghost use Rattle.ring_core.specs.Mirrors.{nodes_now, is_stored};
     ghost use Rattle.ring_core.specs.World.{ring_of, plan_of, Meets};
 
@@ -27,11 +27,11 @@ impl<'a> World<'a> {
     }
 
     // Whether the versions that the node stores for the slot cover the clock.
-    fn node_covers(&self, node: NodeId, slot: Slot, chunk: u32, key: &[u8], clock: &Clock) -> bool
-        requires { chunk_of (ring_of self.now).q key.now ≡ chunk }
-        ensures { IsTrue result ↔ Covers (held_at self.now.parts.stores node.0 slot key.now) clock.now }
+    fn node_covers(&self, node: NodeId, at: &SlotKey, clock: &Clock) -> bool
+        ensures { IsTrue result
+            ↔ Covers (held_at self.now.parts.stores node.0 at.now.slot at.now.key) clock.now }
     {
-        match self.parts.stores.key_versions_in(node, slot, chunk, key) {
+        match self.parts.stores.key_versions_in(node, at) {
             Some(versions) => versions.covers(clock),
             None => false,
         }
@@ -67,11 +67,11 @@ impl<'a> World<'a> {
             unreachable!()
         };
         let place = self.parts.keys.place(now.key);
-        let key = self.parts.keys.key(now.key);
         let slot = Slot {
             partition: place.partition,
             index,
         };
-        self.node_covers(node, slot, place.chunk, key, &version.clock)
+        let key = self.parts.keys.id(now.key);
+        self.node_covers(node, &SlotKey { slot, key }, &version.clock)
     }
 }

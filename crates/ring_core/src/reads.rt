@@ -4,6 +4,7 @@ use crate::world::World;
 use ring_clock::Clock;
 use ring_hints::KeptFor;
 use ring_names::{Listed, NodeId, Refusal, Slot};
+use ring_store::SlotKey;
 use store_events::is_ready;
 
 impl<'a> World<'a> {
@@ -15,7 +16,6 @@ impl<'a> World<'a> {
     ghost use Rattle.plan_runs.specs.Versions.{put_slot, is_held};
     ghost use Rattle.plan_runs.specs.World.{World as TheWorld, is_acked, is_member_now, key_of_put, stage_now, keeps, slot_at};
     ghost use Rattle.ring_hints.specs.Hints.{hinted_at, kept_count, kept_pairs};
-    ghost use Rattle.store_maps.specs.Chunks.{chunk_of};
     ghost use Rattle.store_tells.specs.Parts.{kept_of};
     ghost use Rattle.ring_versions.specs.Versions.{Covers};
     ghost use Rattle.ring_store.specs.Stores.{held_at};
@@ -132,19 +132,19 @@ impl<'a> World<'a> {
     }
 
     // Whether the versions that some node keeps for the slot as hints cover the clock.
-    fn hints_cover(&self, slot: Slot, chunk: u32, key: &[u8], clock: &Clock) -> bool
-        requires { chunk_of (ring_of self.now).q key.now ≡ chunk }
-        ensures { IsTrue result ↔ ((x : ℕ) × Covers (hinted_at self.now.parts.hints x slot key.now) clock.now) }
+    fn hints_cover(&self, at: &SlotKey, clock: &Clock) -> bool
+        ensures { IsTrue result
+            ↔ ((x : ℕ) × Covers (hinted_at self.now.parts.hints x at.now.slot at.now.key) clock.now) }
     {
-        let Some(keepers) = self.parts.hints.key_keepers(slot, key) else {
+        let Some(keepers) = self.parts.hints.key_keepers(at.slot, at.key) else {
             return false;
         };
         'keepers: for keeper in keepers {
             let pair = KeptFor {
                 keeper: *keeper,
-                slot,
+                slot: at.slot,
             };
-            if let Some(versions) = self.parts.hints.key_versions_in(pair, chunk, key) {
+            if let Some(versions) = self.parts.hints.key_versions_in(pair, at.key) {
                 if versions.covers(clock) {
                     return true;
                 }
@@ -154,17 +154,12 @@ impl<'a> World<'a> {
     }
 
     // Whether the versions that the owner has cover the clock.
-    fn owner_covers(&self, slot: Slot, chunk: u32, key: &[u8], clock: &Clock) -> bool
-        requires ring { is_ring_slot (ring_of self.now) slot ≡ true }
-        requires chunk { chunk_of (ring_of self.now).q key.now ≡ chunk }
-        ensures { IsTrue result ↔ Covers
-            (held_at self.now.parts.stores (owner_kept (kept_of self.now.parts) slot).0 slot key.now) clock.now }
+    fn owner_covers(&self, at: &SlotKey, clock: &Clock) -> bool
+        requires { is_ring_slot (ring_of self.now) at.now.slot ≡ true }
+        ensures { IsTrue result ↔ Covers (held_at self.now.parts.stores
+            (owner_kept (kept_of self.now.parts) at.now.slot).0 at.now.slot at.now.key) clock.now }
     {
-        match self
-            .parts
-            .stores
-            .key_versions_in(self.owner(slot), slot, chunk, key)
-        {
+        match self.parts.stores.key_versions_in(self.owner(at.slot), at) {
             Some(versions) => versions.covers(clock),
             None => false,
         }
@@ -184,13 +179,14 @@ impl<'a> World<'a> {
             unreachable!()
         };
         let place = self.parts.keys.place(now.key);
-        let key = self.parts.keys.key(now.key);
         let slot = Slot {
             partition: place.partition,
             index,
         };
-        let by_owner = self.owner_covers(slot, place.chunk, key, &version.clock);
-        let by_hints = self.hints_cover(slot, place.chunk, key, &version.clock);
+        let key = self.parts.keys.id(now.key);
+        let at = SlotKey { slot, key };
+        let by_owner = self.owner_covers(&at, &version.clock);
+        let by_hints = self.hints_cover(&at, &version.clock);
         by_owner | by_hints
     }
 

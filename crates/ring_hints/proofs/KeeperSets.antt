@@ -21,7 +21,7 @@ use Rattle.ring_hints.specs.declared.kept_for.KeptFor.{KeptFor}
 use Rattle.ring_hints.specs.contracts.kept_for.KeptForPartialEq.TheImpl as pair_eq
 use Rattle.ring_hints.specs.declared.sets.Sets.{Sets}
 use Rattle.ring_hints.specs.Sets.{set_at, AddsValue, RemovesValue}
-use Rattle.ring_hints.specs.Views.{by_keeper, is_of, has_slot, has_keeper, in_order, pair_of}
+use Rattle.ring_hints.specs.Views.{by_keeper, is_of, has_slot, has_keeper, in_keepers, in_order, pair_of}
 use Rattle.store_maps.proofs.Members.{any_inserted, others_stay}
 use Rattle.store_maps.proofs.HoldersChanged.{node_tie, node_same, node_exact}
 
@@ -40,6 +40,10 @@ slot_exact : (s t : Slot) → is_at ((slot_order.ghosts).cmp s) t ≡ true → s
 slot_exact s t h =
     let p = and_parts (s.partition == t.partition) (s.index == t.index) (sym (slot_tie s t) ∙ h) in
     λ i. record { partition = equal s.partition t.partition p.0 i; index = equal s.index t.index p.1 i }
+
+-- a node that is neither the first nor among the others
+pub left_out : (x : ℕ) (y : NodeId) (rest later : List NodeId) → rest ≡ y ∷ later → (x == y.0) ≡ false → in_keepers x later ≡ false → in_keepers x rest ≡ false
+left_out x y rest later is e out = ap (in_keepers x) is ∙ ap (λ (b : Bool). b || in_keepers x later) (node_tie x y.0 ∙ e) ∙ out
 
 -- ---- a pair is put in
 
@@ -119,7 +123,7 @@ keeper_removed old new pair h x s =
 
 -- ---- a pair that was not there is put in and taken out
 
-with_without : (d b : Bool) → (d ≡ true → b ≡ false) → (not d && (d || b)) ≡ b
+pub with_without : (d b : Bool) → (d ≡ true → b ≡ false) → (not d && (d || b)) ≡ b
 with_without true b h = sym (h refl)
 with_without false b h = refl
 

@@ -1,5 +1,3 @@
-pub mod Copies
-pub mod KeepersMerged
 pub mod PairChanged
 pub mod Others
 pub mod KeeperSets

@@ -1,10 +1,11 @@
 -- The maps of what nodes keep, by keeper and slot.
-use Rattle.std.specs.Prelude.{◌≡◌, ◌≢◌, ◌<◌, ℕ, true, false, List, [], Option, Some, is_some}
+use Rattle.std.specs.Prelude.{◌≡◌, ◌≢◌, ◌<◌, ℕ, true, false, [], Option, Some, is_some}
 use Rattle.std.specs.BTreeMap.{BTreeMap, get}
 use Rattle.std.proofs.Props.{props}
 use Rattle.ring_names.specs.declared.ids.Slot.{Slot}
+use Rattle.store_maps.specs.declared.key_id.KeyId.{KeyId}
 use Rattle.store_maps.specs.declared.slot_map.SlotMap.{SlotMap}
-use Rattle.store_maps.specs.Slots.{space_of, held_for, has_place_for}
+use Rattle.store_maps.specs.Slots.{held_for, has_place_for}
 use Rattle.ring_hints.specs.declared.kept_for.KeptFor.{KeptFor}
 use Rattle.ring_hints.specs.declared.pairs.Pairs.{Pairs}
 use Rattle.ring_hints.specs.Pairs.{is_pair}
@@ -14,20 +15,18 @@ use Rattle.ring_hints.specs.Views.{by_keeper, is_of, pair_of}
 abbrev pub map_of : BTreeMap KeptFor SlotMap → KeptFor → Option SlotMap
 map_of maps pair = get by_keeper maps pair
 
--- the slot is one that a partition may have. The map is for a hash space with q partitions, has a key, and has
--- versions of each key
-pub record IsKept (q : ℕ) (pair : KeptFor) (m : SlotMap) : Type 0 where
+-- the slot is one that a partition may have. The map has a key, and has versions of each key
+pub record IsKept (pair : KeptFor) (m : SlotMap) : Type 0 where
   pub few : pair.slot.index < 7
-  pub space : space_of m ≡ q
-  pub filled : (k : List ℕ) → has_place_for m k ≡ true → held_for m k ≢ []
-  pub used : ((k : List ℕ) → has_place_for m k ≡ false) → ⊥
+  pub filled : (k : KeyId) → has_place_for m k ≡ true → held_for m k ≢ []
+  pub used : ((k : KeyId) → has_place_for m k ≡ false) → ⊥
 
 -- each pair's map is one to be kept
-abbrev pub AreKept : ℕ → BTreeMap KeptFor SlotMap → Type 0
-AreKept q maps = (pair : KeptFor) (m : SlotMap) → map_of maps pair ≡ Some m → IsKept q pair m
+abbrev pub AreKept : BTreeMap KeptFor SlotMap → Type 0
+AreKept maps = (pair : KeptFor) (m : SlotMap) → map_of maps pair ≡ Some m → IsKept pair m
 
-pub AreKept-prop : (q : ℕ) (maps : BTreeMap KeptFor SlotMap) → IsProp (AreKept q maps)
-AreKept-prop q maps = hlevel props
+pub AreKept-prop : (maps : BTreeMap KeptFor SlotMap) → IsProp (AreKept maps)
+AreKept-prop maps = hlevel props
 
 -- a pair is there exactly if its map is
 abbrev pub ArePaired : Pairs → BTreeMap KeptFor SlotMap → Type 0

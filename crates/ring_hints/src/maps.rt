@@ -1,79 +1,65 @@
 //! The maps of all keepers.
 
-ghost use Rattle.std.specs.Prelude.{◌≡◌, true};
-ghost use Rattle.ring_names.specs.Space.{is_space};
 ghost use Rattle.ring_hints.specs.Kept.{AreKept, AreKept-prop, ArePaired};
 
 use crate::kept_for::KeptFor;
 use crate::pairs::Pairs;
-use ring_names::{Listed, NodeId, Refusal, Slot};
-use ring_space::place;
-use ring_versions::{Version, Versions};
+use ring_names::{NodeId, Refusal, Slot};
+use ring_versions::Versions;
 use std::alloc::Global;
 use std::collections::{BTreeMap, BTreeSet};
-use store_maps::{KeyMap, SlotMap};
+use store_maps::{KeyId, KeyMap, SlotMap};
 
 /// What nodes keep for slots, a map for each keeper and slot. Its methods are those of `Hints`, at the same cost.
 #[derive(Drop)]
 pub(crate) struct Maps {
     alloc: Global,
-    q: u32,
     pairs: Pairs,
     maps: BTreeMap<KeptFor, SlotMap>,
-    ghost space: { is_space q ≡ true },
     ghost paired: { ArePaired pairs maps },
-    ghost kept: { AreKept q maps } by { AreKept-prop q maps },
+    ghost kept: { AreKept maps } by { AreKept-prop maps },
 }
 
 impl Maps {
-    ghost use Rattle.std.specs.Prelude.{◌≢◌, ◌↔◌, ◌≤◌, ◌<◌, ◌+◌, ℕ, false, [], ◌∷◌, List, Some, None, is_some};
+    ghost use Rattle.std.specs.Prelude.{◌≡◌, ◌≢◌, ◌↔◌, ◌≤◌, ◌<◌, ◌+◌, ℕ, true, false, [], ◌∷◌, List, Some, None, is_some};
     ghost use Rattle.std.specs.Prelude.{slice_get, option_map, if◌then◌else◌};
-    ghost use Rattle.std.specs.Prelude.{IfSome, IfNone, IfOk, IfErr, OnOk, OnErr};
+    ghost use Rattle.std.specs.Prelude.{IfSome, IfNone, IfErr, OnOk, OnErr};
     ghost use Rattle.ring_names.specs.declared.ids.Slot.{Slot};
     ghost use Rattle.ring_names.specs.declared.refusal.Refusal.TheVariants.{OutOfMemory};
-    ghost use Rattle.store_maps.specs.Chunks.{chunk_of};
+    ghost use Rattle.store_maps.specs.declared.key_id.KeyId.{KeyId};
     ghost use Rattle.store_maps.specs.Held.{held, has_place};
+    ghost use Rattle.store_maps.specs.Ids.{id};
     ghost use Rattle.store_maps.specs.Merges.{at_key};
-    ghost use Rattle.store_maps.specs.Slots.{held_for, space_of};
-    ghost use Rattle.ring_hints.specs.Maps.{partitions, hinted_at, chunk_hints, kept_count, kept_pairs};
-    ghost use Rattle.ring_hints.specs.Maps.{AddsHints, AreKeysBut, AreSameHints, IsUnhinted, Keeps, TakesHints};
+    ghost use Rattle.store_maps.specs.Slots.{held_for};
+    ghost use Rattle.ring_hints.specs.Maps.{hinted_at, kept_count, kept_pairs};
+    ghost use Rattle.ring_hints.specs.Maps.{AddsHints, AreSameHints, Keeps, TakesHints};
     ghost use Rattle.ring_hints.specs.Kept.{map_of, IsKept, PutsMap};
     ghost use Rattle.ring_hints.specs.Views.{pair_of, in_keepers};
 
-    pub(crate) fn new(alloc: Global, q: u32) -> Maps
-        requires { is_space q ≡ true }
-        ensures space { partitions result ≡ q }
-        ensures versions { (x : ℕ) (s : Slot) (k : List ℕ) → hinted_at result x s k ≡ [] }
+    pub(crate) fn new(alloc: Global) -> Maps
+        ensures { (x : ℕ) (s : Slot) (k : KeyId) → hinted_at result x s k ≡ [] }
     {
         Maps {
             alloc,
-            q,
             pairs: Pairs::new(alloc),
             maps: BTreeMap::new(alloc),
         }
     }
 
-    pub(crate) fn q(&self) -> u32
-        ensures value { result ≡ partitions self.now }
-        ensures space { is_space result ≡ true }
-    {
-        self.q
-    }
-
     pub(crate) fn keeps(&self, keeper: NodeId, slot: Slot) -> bool
-        ensures { (result ≡ false) ↔ ((k : List ℕ) → hinted_at self.now keeper.0 slot k ≡ []) }
+        ensures { (result ≡ false) ↔ ((k : KeyId) → hinted_at self.now keeper.0 slot k ≡ []) }
     {
         self.pairs.has(KeptFor { keeper, slot })
     }
 
     pub(crate) fn keeps_any(&self, keeper: NodeId) -> bool
-        ensures { (result ≡ false) ↔ ((s : Slot) (k : List ℕ) → hinted_at self.now keeper.0 s k ≡ []) }
+        ensures { (result ≡ false) ↔ ((s : Slot) (k : KeyId) → hinted_at self.now keeper.0 s k ≡ []) }
     {
         self.pairs.has_keeper(keeper)
     }
 
     pub(crate) fn keeps_other(&self, keeper: NodeId, slot: Slot) -> bool
-        ensures { (result ≡ false) ↔ ((s : Slot) → s.partition ≡ slot.partition → s.index ≢ slot.index → (k : List ℕ)
+        ensures { (result ≡ false) ↔ ((s : Slot) → s.partition ≡ slot.partition → s.index ≢ slot.index → (k : KeyId)
             → hinted_at self.now keeper.0 s k ≡ []) }
     {
         let partition = slot.partition;
@@ -85,30 +71,21 @@ impl Maps {
         false
     }
 
-    pub(crate) fn key_versions(&self, keeper: NodeId, slot: Slot, key: &[u8]) -> Option<&Versions>
-        ensures some { IfSome result (λ v. (v.now ≡ hinted_at self.now keeper.0 slot key.now) × (v.now ≢ [])) }
-        ensures none { IfNone result (hinted_at self.now keeper.0 slot key.now ≡ []) }
-    {
-        let chunk = place(self.q, key).chunk;
-        self.key_versions_in(KeptFor { keeper, slot }, chunk, key)
-    }
-
-    pub(crate) fn key_versions_in(&self, pair: KeptFor, chunk: u32, key: &[u8]) -> Option<&Versions>
-        requires { chunk_of (partitions self.now) key.now ≡ chunk }
+    pub(crate) fn key_versions_in(&self, pair: KeptFor, key: KeyId) -> Option<&Versions>
         ensures some { IfSome result
-            (λ v. (v.now ≡ hinted_at self.now pair.keeper.0 pair.slot key.now) × (v.now ≢ [])) }
-        ensures none { IfNone result (hinted_at self.now pair.keeper.0 pair.slot key.now ≡ []) }
+            (λ v. (v.now ≡ hinted_at self.now pair.keeper.0 pair.slot key) × (v.now ≢ [])) }
+        ensures none { IfNone result (hinted_at self.now pair.keeper.0 pair.slot key ≡ []) }
     {
         match self.maps.get(&pair) {
-            Some(map) => map.key_versions(chunk, key),
+            Some(map) => map.key_versions(key),
             None => None,
         }
     }
 
     pub(crate) fn keepers(&self, slot: Slot) -> Option<&BTreeSet<NodeId>>
         ensures some { IfSome result (λ nodes. (x : ℕ)
-            → (in_keepers x nodes.now.keys ≡ false) ↔ ((k : List ℕ) → hinted_at self.now x slot k ≡ [])) }
-        ensures none { IfNone result ((x : ℕ) (k : List ℕ) → hinted_at self.now x slot k ≡ []) }
+            → (in_keepers x nodes.now.keys ≡ false) ↔ ((k : KeyId) → hinted_at self.now x slot k ≡ [])) }
+        ensures none { IfNone result ((x : ℕ) (k : KeyId) → hinted_at self.now x slot k ≡ []) }
     {
         self.pairs.keepers(slot)
     }
@@ -126,20 +103,17 @@ impl Maps {
 
     pub(crate) fn map(&self, pair: KeptFor) -> Option<&SlotMap>
         ensures some { IfSome result
-            (λ m. (k : List ℕ) → held_for m.now k ≡ hinted_at self.now pair.keeper.0 pair.slot k) }
-        ensures space { IfSome result (λ m. space_of m.now ≡ partitions self.now) }
-        ensures none { IfNone result ((k : List ℕ) → hinted_at self.now pair.keeper.0 pair.slot k ≡ []) }
+            (λ m. (k : KeyId) → held_for m.now k ≡ hinted_at self.now pair.keeper.0 pair.slot k) }
+        ensures none { IfNone result ((k : KeyId) → hinted_at self.now pair.keeper.0 pair.slot k ≡ []) }
     {
         self.maps.get(&pair)
     }
 
     pub(crate) fn chunk_map(&self, pair: KeptFor, chunk: u32) -> Option<&KeyMap>
-        requires { chunk < 16 }
-        ensures some { IfSome result (λ m. (k : List ℕ) → held m.now k ≡ chunk_hints self.now pair chunk k) }
-        ensures lies { IfSome result
-            (λ m. (k : List ℕ) → has_place m.now k ≡ true → chunk_of (partitions self.now) k ≡ chunk) }
-        ensures filled { IfSome result (λ m. (k : List ℕ) → has_place m.now k ≡ true → held m.now k ≢ []) }
-        ensures none { IfNone result ((k : List ℕ) → chunk_hints self.now pair chunk k ≡ []) }
+        ensures some { IfSome result
+            (λ m. (n : ℕ) → held m.now n ≡ hinted_at self.now pair.keeper.0 pair.slot (id chunk n)) }
+        ensures filled { IfSome result (λ m. (n : ℕ) → has_place m.now n ≡ true → held m.now n ≢ []) }
+        ensures none { IfNone result ((n : ℕ) → hinted_at self.now pair.keeper.0 pair.slot (id chunk n) ≡ []) }
     {
         match self.maps.get(&pair) {
             Some(map) => Some(map.chunk(chunk)),
@@ -147,40 +121,8 @@ impl Maps {
         }
     }
 
-    fn gather(&self, keepers: &BTreeSet<NodeId>, slot: Slot, chunk: u32) -> Result<KeyMap, Refusal>
-        requires { chunk < 16 }
-        ensures each { IfOk result (λ m. (k : List ℕ) → held m k ≡ [] → (x : ℕ) → in_keepers x keepers.now.keys ≡ true
-            → chunk_hints self.now (pair_of x slot) chunk k ≡ []) }
-        ensures only { IfOk result (λ m. (k : List ℕ) → IsUnhinted self.now slot chunk k → held m k ≡ []) }
-        ensures memory { IfErr result (λ e. e ≡ OutOfMemory) }
-    {
-        let mut all = KeyMap::new(self.alloc);
-        'keepers: for keeper in keepers {
-            let pair = KeptFor {
-                keeper: *keeper,
-                slot,
-            };
-            if let Some(map) = self.chunk_map(pair, chunk) {
-                all.merge_all(map)?;
-            }
-        }
-        Ok(all)
-    }
-
-    pub(crate) fn chunk_keys(&self, slot: Slot, chunk: u32) -> Result<Vec<Listed<u8>>, Refusal>
-        requires { chunk < 16 }
-        ensures ok { IfOk result (λ keys. AreKeysBut (IsUnhinted self.now slot chunk) keys.items) }
-        ensures memory { IfErr result (λ e. e ≡ OutOfMemory) }
-    {
-        match self.keepers(slot) {
-            Some(keepers) => self.gather(keepers, slot, chunk)?.keys(),
-            None => Ok(Vec::new(self.alloc)),
-        }
-    }
-
     pub(crate) fn keeps_chunk(&self, keeper: NodeId, slot: Slot, chunk: u32) -> bool
-        requires { chunk < 16 }
-        ensures { (result ≡ false) ↔ ((k : List ℕ) → chunk_hints self.now (pair_of keeper.0 slot) chunk k ≡ []) }
+        ensures { (result ≡ false) ↔ ((n : ℕ) → hinted_at self.now keeper.0 slot (id chunk n) ≡ []) }
     {
         match self.chunk_map(KeptFor { keeper, slot }, chunk) {
             Some(map) => !map.is_empty(),
@@ -191,8 +133,7 @@ impl Maps {
     // Sets the map of a pair without one.
     fn put(&mut self, pair: KeptFor, map: SlotMap) -> Result<(), Refusal>
         requires absent { map_of self.old.maps pair ≡ None }
-        requires kept { IsKept (partitions self.old) pair map }
-        ensures space { partitions self.new ≡ partitions self.old }
+        requires kept { IsKept pair map }
         ensures ok { OnOk result (PutsMap self.old.maps self.new.maps pair (Some map)) }
         ensures err { OnErr result (AreSameHints self.old self.new) }
         ensures memory { IfErr result (λ e. e ≡ OutOfMemory) }
@@ -208,33 +149,29 @@ impl Maps {
     pub(crate) fn add_set(
         &mut self,
         pair: KeptFor,
-        chunk: u32,
-        key: &[u8],
+        key: KeyId,
         more: &Versions,
     ) -> Result<(), Refusal>
-        requires chunk { chunk_of (partitions self.old) key.now ≡ chunk }
+        requires chunk { key.chunk < 16 }
         requires some { more.now ≢ [] }
         requires few { pair.slot.index < 7 }
-        ensures ok { OnOk result (AddsHints self.old self.new pair (at_key key.now more.now)) }
+        ensures ok { OnOk result (AddsHints self.old self.new pair (at_key key more.now)) }
         ensures err { OnErr result (AreSameHints self.old self.new) }
         ensures memory { IfErr result (λ e. e ≡ OutOfMemory) }
-        ensures space { partitions self.new ≡ partitions self.old }
     {
         if let Some(map) = self.maps.get_mut(&pair) {
-            return map.merge(chunk, key, more);
+            return map.merge(key, more);
         }
-        let mut map = SlotMap::new(self.alloc, self.q)?;
-        map.merge(chunk, key, more)?;
+        let mut map = SlotMap::new(self.alloc);
+        map.merge(key, more)?;
         self.put(pair, map)
     }
 
     pub(crate) fn take(&mut self, keeper: NodeId, slot: Slot) -> Option<SlotMap>
-        ensures some { IfSome result (λ m. (k : List ℕ) → held_for m k ≡ hinted_at self.old keeper.0 slot k) }
-        ensures map_space { IfSome result (λ m. space_of m ≡ partitions self.old) }
-        ensures none { IfNone result ((k : List ℕ) → hinted_at self.old keeper.0 slot k ≡ []) }
+        ensures some { IfSome result (λ m. (k : KeyId) → held_for m k ≡ hinted_at self.old keeper.0 slot k) }
+        ensures none { IfNone result ((k : KeyId) → hinted_at self.old keeper.0 slot k ≡ []) }
         ensures after { TakesHints self.old self.new (pair_of keeper.0 slot) }
         ensures count { kept_count self.new + (if is_some result then 1 else 0) ≡ kept_count self.old }
-        ensures space { partitions self.new ≡ partitions self.old }
     {
         let pair = KeptFor { keeper, slot };
         self.pairs.remove(pair);
@@ -243,20 +180,8 @@ impl Maps {
 
     pub(crate) fn slot_of(&self, keeper: NodeId) -> Option<Slot>
         ensures some { IfSome result (λ s. Keeps self.now keeper.0 s) }
-        ensures none { IfNone result ((s : Slot) (k : List ℕ) → hinted_at self.now keeper.0 s k ≡ []) }
+        ensures none { IfNone result ((s : Slot) (k : KeyId) → hinted_at self.now keeper.0 s k ≡ []) }
     {
         self.pairs.slot_of(keeper)
-    }
-
-    pub(crate) fn try_copy(&self) -> Result<Maps, Refusal>
-        ensures space { IfOk result (λ a. partitions a ≡ partitions self.now) }
-        ensures same { IfOk result (AreSameHints self.now) }
-        ensures memory { IfErr result (λ e. e ≡ OutOfMemory) }
-    {
-        let mut copy = Maps::new(self.alloc, self.q);
-        'maps: for (pair, map) in &self.maps {
-            copy.put(*pair, map.try_copy(self.alloc)?)?;
-        }
-        Ok(copy)
     }
 }

@@ -1,5 +1,3 @@
-pub mod Copies
-pub mod Nodes
-pub mod SlotMapsChanged
-pub mod MergesAtNodes
-pub mod LentMaps
+pub mod Rows
+pub mod Changes
+pub mod Spots

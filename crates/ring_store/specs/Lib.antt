@@ -1,4 +1,4 @@
+pub mod Seats
 pub mod Slots
-pub mod Store
 pub mod Nodes
 pub mod Stores

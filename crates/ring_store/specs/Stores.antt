@@ -1,45 +1,53 @@
 -- What all nodes store.
-use Rattle.std.specs.Prelude.{◌≡◌, ℕ, Bool, true, List, [], ◌==◌, if◌then◌else◌, IfSome, length, slice_get}
+use Rattle.std.specs.Prelude.{◌≡◌, ◌+◌, ◌*◌, ℕ, nat_lt, List, [], Option, Some, None, if◌then◌else◌, slice_get}
+use Rattle.std.specs.Option.{ForSome}
 use Rattle.ring_names.specs.declared.ids.Slot.{Slot}
-use Rattle.ring_versions.specs.Fresh.{FitsIn}
 use Rattle.ring_versions.specs.declared.fresh.Fresh.{Fresh}
 use Rattle.ring_versions.specs.declared.version.Version.{Version}
-use Rattle.store_maps.specs.declared.fresh_maps.FreshMaps.{FreshMaps}
-use Rattle.store_maps.specs.Chunks.{chunk_of}
-use Rattle.store_maps.specs.Merges.{fresh_in}
-use Rattle.ring_store.specs.Nodes.{stored_in, has_place_in}
+use Rattle.store_maps.specs.Chunks.{held_of}
+use Rattle.store_maps.specs.Held.{IsReady}
+use Rattle.store_maps.specs.Merges.{AreReady}
+use Rattle.store_maps.specs.Sorted.{IsThere}
+use Rattle.store_maps.specs.declared.fresh_keys.FreshKeys.{FreshKeys}
+use Rattle.store_maps.specs.declared.key_id.KeyId.{KeyId}
+use Rattle.store_maps.specs.declared.key_map.KeyMap.{KeyMap}
+use Rattle.ring_store.specs.Seats.{seat_cmp, map_at, seat_of}
+use Rattle.ring_store.specs.declared.row.Row.{Row}
+use Rattle.ring_store.specs.declared.seat.Seat.{Seat}
 use Rattle.ring_store.specs.declared.stores.Stores.{Stores}
-
--- how many nodes there are
-abbrev pub node_count : Stores → ℕ
-node_count a = length a.list.items
 
 -- how many partitions the hash space has
 abbrev pub shared_space : Stores → ℕ
 shared_space a = a.q
 
--- the versions of the key in the slot at the node, none at a node that there is not
-abbrev pub held_at : Stores → ℕ → Slot → List ℕ → List Version
-held_at a x s k = stored_in (slice_get a.list.items x) s k
+-- the map of the seat, if there is a row, and the row has one
+abbrev pub map_of : Option Row → Seat → Option KeyMap
+map_of None t = None
+map_of (Some row) t = map_at row.maps.items t
 
--- those of the keys of a chunk
-abbrev pub chunk_held_at : Stores → ℕ → Slot → ℕ → List ℕ → List Version
-chunk_held_at a x s c k = if chunk_of a.q k == c then held_at a x s k else []
+-- the map of the seat in row i
+abbrev pub map_on : Stores → ℕ → Seat → Option KeyMap
+map_on a i t = map_of (slice_get a.rows.items i) t
 
--- whether the key has a place in the slot at the node, be it empty, in the own tree of its map
-abbrev pub has_place_on : Stores → ℕ → Slot → List ℕ → Bool
-has_place_on a x s k = has_place_in (slice_get a.list.items x) s k
+-- the versions of the key in the slot at the node
+abbrev pub held_at : Stores → ℕ → Slot → KeyId → List Version
+held_at a x s k = if nat_lt k.chunk 16 then held_of (map_on a (16 * s.partition + k.chunk) (seat_of x s)) k.number else []
 
--- the key has a place in the slot at the node, and f was made for its versions
-abbrev pub IsReadyOn : Stores → ℕ → Slot → List ℕ → Fresh → Type 0
-IsReadyOn a x s k f = (has_place_on a x s k ≡ true) × FitsIn (held_at a x s k) f
+-- the place of the seat's map in row i
+abbrev pub IsPlaceOn : Stores → ℕ → Seat → ℕ → Type 0
+IsPlaceOn a i t place = ForSome (slice_get a.rows.items i) (λ row. IsThere seat_cmp t row.maps.items place)
 
--- each key that f has in a chunk lies there and has a place in the slot at the node. What f has for the key was
--- made for its versions
-abbrev pub AllReadyOn : Stores → ℕ → Slot → FreshMaps → Type 0
-AllReadyOn a x s f = (c : ℕ) (k : List ℕ) → IfSome (fresh_in f c k) (λ y. (chunk_of a.q k ≡ c) × IsReadyOn a x s k y)
+-- no map is another but that of the seat in row i
+pub record Changes (i : ℕ) (seat : Seat) (old new : Stores) : Type 0 where
+  pub space : shared_space new ≡ shared_space old
+  pub others : (j : ℕ) (t : Seat) → (j ≡ i → t ≡ seat → ⊥) → map_on new j t ≡ map_on old j t
 
--- whatever was ready at the node, for a key or a slot, is ready still
-pub record KeepsReady (node : ℕ) (old new : Stores) : Type 0 where
-  pub key : (s : Slot) (k : List ℕ) (f : Fresh) → IsReadyOn old node s k f → IsReadyOn new node s k f
-  pub slot : (s : Slot) (f : FreshMaps) → AllReadyOn old node s f → AllReadyOn new node s f
+-- there is a map, the key has a place in its own tree, and f was made for the key's versions
+abbrev pub IsReadyIn : Option KeyMap → ℕ → Fresh → Type 0
+IsReadyIn None n f = ⊥
+IsReadyIn (Some m) n f = IsReady m n f
+
+-- there is a map, and f was made for it
+abbrev pub AreReadyIn : Option KeyMap → FreshKeys → Type 0
+AreReadyIn None f = ⊥
+AreReadyIn (Some m) f = AreReady m f

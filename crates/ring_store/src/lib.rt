@@ -1,13 +1,14 @@
-//! What the nodes store: for each of its slots, a node has the versions of every key.
+//! What the nodes store: the versions of the keys of their slots, in a map for each chunk that got something.
 //!
 //! A function without a `Result` takes no memory.
 #![tactic(auto)]
 
-mod served;
+mod given;
+mod maps;
+mod row;
+mod seat;
 mod slot_key;
-mod store;
 mod stores;
 
 pub use slot_key::SlotKey;
-pub use store::NodeStore;
 pub use stores::Stores;

@@ -1,11 +1,11 @@
-//! A key in a slot.
+//! A key of a slot.
 
 use ring_names::Slot;
+use store_maps::KeyId;
 
-/// A key in a slot, and the key's chunk of the hash space.
+/// A key of a slot.
 #[derive(Clone, Copy)]
-pub struct SlotKey<'a> {
+pub struct SlotKey {
     pub slot: Slot,
-    pub chunk: u32,
-    pub key: &'a [u8],
+    pub key: KeyId,
 }

@@ -11,7 +11,6 @@ use Rattle.ring_space.specs.declared.found.Place.{Place}
 use Rattle.ring_table.specs.Value.{RingValue}
 use Rattle.ring_versions.specs.declared.version.Version.{Version}
 use Rattle.ring_versions.specs.Versions.{IsIn, Covers, IsMerge}
-use Rattle.store_maps.specs.Chunks.{chunk_of}
 use Rattle.plan_text.specs.declared.step.Planned.{Planned}
 use Rattle.plan_text.specs.Valid.{is_ring_slot}
 use Rattle.plan_stage.specs.Clauses.{first_failing}
@@ -24,6 +23,12 @@ use Rattle.plan_runs.proofs.Passing.{some_found, some_is}
 use Rattle.store_tells.specs.Shows.{Shows, value_of}
 use Rattle.store_tells.specs.GetsFind.{can_find}
 use Rattle.store_tells.proofs.ShownSets.{with_none}
+use Rattle.store_maps.specs.Ids.{id}
+use Rattle.store_maps.specs.declared.key_id.KeyId.{KeyId}
+use Rattle.store_tables.specs.KeyTable.{KeyTable, chunk_of}
+use Rattle.store_tells.specs.Numbers.{by_bytes, by_keys}
+use Rattle.store_tells.specs.Puts.{AreNumbered}
+use Rattle.store_tells.proofs.Numbers.{held_named, others_named}
 use Rattle.store_tables.specs.declared.gets.GetNow.{GetNow}
 use Rattle.store_tables.specs.declared.slots.SlotNow.{SlotNow}
 use Rattle.store_tables.specs.Slots.{slot_now}
@@ -113,40 +118,55 @@ module _ (ring : RingValue) (plan : List Planned) (k : Kept) (w : World) (m : Te
 
 -- ---- the owner that was looked up
 
-owner_by : (o : Option SlotNow) (stored : ℕ → Slot → List ℕ → List Version) (slot : Slot) (key : List ℕ) (owner : NodeId) → Some owner ≡ option_map (λ (x : SlotNow). x.owner) o
+owner_by : {K : Type 0} (o : Option SlotNow) (stored : ℕ → Slot → K → List Version) (slot : Slot) (key : K) (owner : NodeId) → Some owner ≡ option_map (λ (x : SlotNow). x.owner) o
     → (elim o as (λ _. List Version) [ Some x ↦ stored x.owner.0 slot key | None ↦ [] ]) ≡ stored owner.0 slot key
 owner_by None stored slot key owner e = absurd cc
 owner_by (Some x) stored slot key owner e = (let f : x.owner ≡ owner = cc in ap (λ (y : NodeId). stored y.0 slot key) f)
 
-none_by : (o : Option SlotNow) (stored : ℕ → Slot → List ℕ → List Version) (slot : Slot) (key : List ℕ) → ◌≡◌ {A = Option NodeId} None (option_map (λ (x : SlotNow). x.owner) o)
+none_by : {K : Type 0} (o : Option SlotNow) (stored : ℕ → Slot → K → List Version) (slot : Slot) (key : K) → ◌≡◌ {A = Option NodeId} None (option_map (λ (x : SlotNow). x.owner) o)
     → (elim o as (λ _. List Version) [ Some x ↦ stored x.owner.0 slot key | None ↦ [] ]) ≡ []
 none_by None stored slot key e = refl
 none_by (Some x) stored slot key e = absurd cc
 
 -- no versions merged with those of the owner
-pub owner_merged : (rows : List (List SlotNow)) (stored : ℕ → Slot → List ℕ → List Version) (slot : Slot) (key : List ℕ) (owner : NodeId) (none held all : List Version) → Some owner ≡ option_map (λ (x : SlotNow). x.owner) (slot_now rows slot)
+pub owner_merged : {K : Type 0} (rows : List (List SlotNow)) (stored : ℕ → Slot → K → List Version) (slot : Slot) (key : K) (owner : NodeId) (none held all : List Version) → Some owner ≡ option_map (λ (x : SlotNow). x.owner) (slot_now rows slot)
     → none ≡ [] → held ≡ stored owner.0 slot key → IsMerge none held all → IsMerge [] (owned_at rows stored slot key) all
 owner_merged rows stored slot key owner none held all is start same merged =
     let own : owned_at rows stored slot key ≡ held = owner_by (slot_now rows slot) stored slot key owner is ∙ sym same in
     subst (λ (xs : List Version). IsMerge xs (owned_at rows stored slot key) all) start (subst (λ (xs : List Version). IsMerge none xs all) (sym own) merged)
 
 -- the owner has none
-pub owner_has_none : (rows : List (List SlotNow)) (stored : ℕ → Slot → List ℕ → List Version) (slot : Slot) (key : List ℕ) (owner : NodeId) (all : List Version) → Some owner ≡ option_map (λ (x : SlotNow). x.owner) (slot_now rows slot)
+pub owner_has_none : {K : Type 0} (rows : List (List SlotNow)) (stored : ℕ → Slot → K → List Version) (slot : Slot) (key : K) (owner : NodeId) (all : List Version) → Some owner ≡ option_map (λ (x : SlotNow). x.owner) (slot_now rows slot)
     → all ≡ [] → stored owner.0 slot key ≡ [] → IsMerge [] (owned_at rows stored slot key) all
 owner_has_none rows stored slot key owner all is start none = owner_merged rows stored slot key owner [] [] all is refl (sym none) (subst (λ (xs : List Version). IsMerge [] [] xs) (sym start) (with_none [] tt))
 
 -- there is no such slot
-pub no_owner : (rows : List (List SlotNow)) (stored : ℕ → Slot → List ℕ → List Version) (slot : Slot) (key : List ℕ) (all : List Version) → ◌≡◌ {A = Option NodeId} None (option_map (λ (x : SlotNow). x.owner) (slot_now rows slot))
+pub no_owner : {K : Type 0} (rows : List (List SlotNow)) (stored : ℕ → Slot → K → List Version) (slot : Slot) (key : K) (all : List Version) → ◌≡◌ {A = Option NodeId} None (option_map (λ (x : SlotNow). x.owner) (slot_now rows slot))
     → all ≡ [] → IsMerge [] (owned_at rows stored slot key) all
 no_owner rows stored slot key all is start =
     subst (λ (xs : List Version). IsMerge [] (owned_at rows stored slot key) xs) (sym start)
     (subst (λ (xs : List Version). IsMerge [] xs []) (sym (none_by (slot_now rows slot) stored slot key is)) (with_none [] tt))
 
--- ---- the chunk of a key
+-- ---- by number
 
--- a key lies in the chunk of its number's place
-pub chunk_is : (q p : ℕ) (keys : List (List ℕ)) (n : ℕ) (place : Place) (key : List ℕ) → q ≡ p → option_map (place_of q) (slice_get keys n) ≡ Some place → slice_get keys n ≡ Some key → chunk_of p key ≡ place.chunk
-unfolding chunk_of
-chunk_is q p keys n place key same lies at =
-    let is : place_of q key ≡ place = (let f = ap (option_map (place_of q)) at in cc) in
-    ap (λ (z : ℕ). (place_of z key).chunk) (sym same) ∙ ap (λ (z : Place). z.chunk) is
+module _ (t : KeyTable) (numbered : AreNumbered t.keys) (n : ℕ) (k : KeyId) (key : List ℕ) (at : slice_get t.keys n ≡ Some key) (is : id (chunk_of t.q key) n ≡ k) where
+  pub owned_named : (rows : List (List SlotNow)) (stored : ℕ → Slot → KeyId → List Version) (slot : Slot) → owned_at rows (by_keys t stored) slot key ≡ owned_at rows stored slot k
+  owned_named rows stored slot = by (slot_now rows slot)
+    where
+      by : (o : Option SlotNow) → (elim o as (λ _. List Version) [ Some x ↦ by_bytes t (stored x.owner.0 slot) key | None ↦ [] ]) ≡ (elim o as (λ _. List Version) [ Some x ↦ stored x.owner.0 slot k | None ↦ [] ])
+      by None = refl
+      by (Some x) = held_named t (stored x.owner.0 slot) n k key numbered at is
+
+  -- what is so of the key is so of its id
+  pub at_number : (P : List Version → (ℕ → List Version) → Type 0) (rows : List (List SlotNow)) (stored hinted : ℕ → Slot → KeyId → List Version) (slot : Slot)
+      → P (owned_at rows (by_keys t stored) slot key) (λ x. by_keys t hinted x slot key) → P (owned_at rows stored slot k) (λ x. hinted x slot k)
+  at_number P rows stored hinted slot p =
+      subst (λ (f : ℕ → List Version). P (owned_at rows stored slot k) f) (others_named t hinted slot n k key numbered at is)
+      (subst (λ (vs : List Version). P vs (λ x. by_keys t hinted x slot key)) (owned_named rows stored slot) p)
+
+  -- and the other way round
+  pub at_key : (P : List Version → (ℕ → List Version) → Type 0) (rows : List (List SlotNow)) (stored hinted : ℕ → Slot → KeyId → List Version) (slot : Slot)
+      → P (owned_at rows stored slot k) (λ x. hinted x slot k) → P (owned_at rows (by_keys t stored) slot key) (λ x. by_keys t hinted x slot key)
+  at_key P rows stored hinted slot p =
+      subst (λ (f : ℕ → List Version). P (owned_at rows (by_keys t stored) slot key) f) (sym (others_named t hinted slot n k key numbered at is))
+      (subst (λ (vs : List Version). P vs (λ x. hinted x slot k)) (sym (owned_named rows stored slot)) p)

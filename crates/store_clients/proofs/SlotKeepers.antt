@@ -14,10 +14,9 @@ use Rattle.ring_clock.specs.declared.entry.Entry.{Entry}
 use Rattle.ring_versions.specs.declared.version.Version.{Version}
 use Rattle.ring_versions.specs.Versions.{IsIn, Covers, IsApart, IsMerge}
 use Rattle.ring_hints.specs.Views.{in_keepers}
-use Rattle.ring_hints.proofs.KeeperSets.{equal}
+use Rattle.ring_hints.proofs.KeeperSets.{equal, left_out}
 use Rattle.store_maps.proofs.HoldersChanged.{node_tie}
 use Rattle.store_clients.specs.Keepers.{IsFirstDown, MergesOthers}
-use Rattle.ring_hints.proofs.KeepersMerged.{left_out}
 
 -- ---- the first that is down, among keepers in order
 

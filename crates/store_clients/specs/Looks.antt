@@ -16,7 +16,7 @@ use Rattle.store_tells.specs.Puts.{clock_at}
 use Rattle.store_tells.specs.Kept.{Kept}
 
 -- what the owner of the slot stores of the key, nothing where the ring does not have the slot
-abbrev pub owned_at : List (List SlotNow) → (ℕ → Slot → List ℕ → List Version) → Slot → List ℕ → List Version
+abbrev pub owned_at : {K : Type 0} → List (List SlotNow) → (ℕ → Slot → K → List Version) → Slot → K → List Version
 owned_at rows stored slot key = elim (slot_now rows slot) [ Some x ↦ stored x.owner.0 slot key | None ↦ [] ]
 
 -- these versions show what the slot has of the get's key, and the numbers are those of their puts. Merged with

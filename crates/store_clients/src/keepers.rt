@@ -3,25 +3,17 @@
 ghost use Rattle.std.specs.Prelude.{◌≡◌, ℕ, [], false, IsTrue, IfErr, OnOk};
 ghost use Rattle.ring_names.specs.declared.refusal.Refusal.TheVariants.{OutOfMemory};
 ghost use Rattle.ring_versions.specs.Versions.{IsApart};
-ghost use Rattle.store_maps.specs.Chunks.{chunk_of};
-ghost use Rattle.ring_hints.specs.Hints.{partitions, hinted_at};
+ghost use Rattle.ring_hints.specs.Hints.{hinted_at};
 ghost use Rattle.ring_hints.specs.Views.{in_keepers};
 ghost use Rattle.store_tables.specs.Nodes.{is_up_at};
 ghost use Rattle.store_clients.specs.Keepers.{IsFirstDown, JoinIsAtMost, JoinsTell, MergesOthers};
 
 use ring_hints::{Hints, KeptFor};
-use ring_names::{NodeId, Refusal, Slot};
+use ring_names::{NodeId, Refusal};
+use ring_store::SlotKey;
 use ring_versions::Versions;
 use std::collections::BTreeSet;
 use store_tables::Nodes;
-
-/// A key of a slot, with its chunk.
-#[derive(Clone, Copy)]
-pub struct SlotKey<'k> {
-    pub slot: Slot,
-    pub chunk: u32,
-    pub key: &'k [u8],
-}
 
 fn first_down(
     nodes: &Nodes,
@@ -29,21 +21,16 @@ fn first_down(
     keepers: &BTreeSet<NodeId>,
     place: &SlotKey,
 ) -> Option<Refusal>
-    requires chunk { chunk_of (partitions hints.now) place.now.key.now ≡ place.now.chunk }
     requires others { (x : ℕ) → in_keepers x keepers.now.keys ≡ false
-        → hinted_at hints.now x place.now.slot place.now.key.now ≡ [] }
-    ensures { IsFirstDown (is_up_at nodes.now) (λ x. hinted_at hints.now x place.now.slot place.now.key.now) result }
+        → hinted_at hints.now x place.now.slot place.now.key ≡ [] }
+    ensures { IsFirstDown (is_up_at nodes.now) (λ x. hinted_at hints.now x place.now.slot place.now.key) result }
 {
     'keepers: for keeper in keepers {
         let pair = KeptFor {
             keeper: *keeper,
             slot: place.slot,
         };
-        if hints
-            .key_versions_in(pair, place.chunk, place.key)
-            .is_some()
-            && !nodes.is_up(*keeper)
-        {
+        if hints.key_versions_in(pair, place.key).is_some() && !nodes.is_up(*keeper) {
             return Some(Refusal::NodeDown(keeper.0));
         }
     }
@@ -52,8 +39,7 @@ fn first_down(
 
 /// Returns the refusal of the first keeper of the key for the slot that is down. Walks only the key's keepers.
 pub fn keeper_refusal(nodes: &Nodes, hints: &Hints, place: &SlotKey) -> Option<Refusal>
-    requires { chunk_of (partitions hints.now) place.now.key.now ≡ place.now.chunk }
-    ensures { IsFirstDown (is_up_at nodes.now) (λ x. hinted_at hints.now x place.now.slot place.now.key.now) result }
+    ensures { IsFirstDown (is_up_at nodes.now) (λ x. hinted_at hints.now x place.now.slot place.now.key) result }
 {
     match hints.key_keepers(place.slot, place.key) {
         Some(keepers) => first_down(nodes, hints, keepers, place),
@@ -80,11 +66,10 @@ pub fn merge_hints(
     keepers: &BTreeSet<NodeId>,
     place: &SlotKey,
 ) -> Result<(), Refusal>
-    requires chunk { chunk_of (partitions hints.now) place.now.key.now ≡ place.now.chunk }
     requires apart { IsApart all.old }
-    requires told { JoinsTell all.old (λ x. hinted_at hints.now x place.now.slot place.now.key.now) }
+    requires told { JoinsTell all.old (λ x. hinted_at hints.now x place.now.slot place.now.key) }
     ensures ok { OnOk result (MergesOthers all.old (λ x. in_keepers x keepers.now.keys)
-        (λ x. hinted_at hints.now x place.now.slot place.now.key.now) all.new) }
+        (λ x. hinted_at hints.now x place.now.slot place.now.key) all.new) }
     ensures memory { IfErr result (λ e. e ≡ OutOfMemory) }
 {
     'keepers: for keeper in keepers {
@@ -92,7 +77,7 @@ pub fn merge_hints(
             keeper: *keeper,
             slot: place.slot,
         };
-        if let Some(held) = hints.key_versions_in(pair, place.chunk, place.key)
+        if let Some(held) = hints.key_versions_in(pair, place.key)
             && !is_told(all, held)
         {
             all.merge(held)?;

@@ -3,28 +3,27 @@
 ghost use Rattle.std.specs.Prelude.{◌≡◌, [], true, IfOk, IfErr};
 ghost use Rattle.ring_names.specs.declared.refusal.Refusal.TheVariants.{OutOfMemory};
 ghost use Rattle.ring_versions.specs.Versions.{IsMerge};
-ghost use Rattle.store_maps.specs.Chunks.{chunk_of};
-ghost use Rattle.ring_store.specs.Stores.{held_at, shared_space};
-ghost use Rattle.ring_hints.specs.Hints.{hinted_at, partitions};
+ghost use Rattle.ring_store.specs.Stores.{held_at};
+ghost use Rattle.ring_hints.specs.Hints.{hinted_at};
 ghost use Rattle.plan_runs.specs.World.{World};
 ghost use Rattle.plan_runs.specs.declared.event.Event.TheVariants.{Read};
 ghost use Rattle.store_tells.specs.Parts.{IsSound, Meets, Passes, kept_of, plan_of, ring_of};
 ghost use Rattle.store_clients.specs.Keepers.{JoinsTell, MergesOthers};
 ghost use Rattle.store_clients.specs.Looks.{FindsAt, owned_at};
 
-use crate::keepers::{SlotKey, merge_hints};
+use crate::keepers::merge_hints;
 use ring_names::{Listed, Refusal, Slot};
+use ring_store::SlotKey;
 use ring_versions::{Found, Versions};
 use store_tells::Parts;
 
-fn owner_versions(parts: &Parts, slot: Slot, chunk: u32, key: &[u8]) -> Result<Versions, Refusal>
-    requires { chunk_of (shared_space parts.now.stores) key.now ≡ chunk }
-    ensures ok { IfOk result (IsMerge [] (owned_at parts.now.slots (held_at parts.now.stores) slot key.now)) }
+fn owner_versions(parts: &Parts, at: &SlotKey) -> Result<Versions, Refusal>
+    ensures ok { IfOk result (IsMerge [] (owned_at parts.now.slots (held_at parts.now.stores) at.now.slot at.now.key)) }
     ensures memory { IfErr result (λ e. e ≡ OutOfMemory) }
 {
     let mut all = Versions::new(parts.alloc);
-    if let Some(owner) = parts.slots.owner(slot) {
-        if let Some(held) = parts.stores.key_versions_in(owner, slot, chunk, key) {
+    if let Some(owner) = parts.slots.owner(at.slot) {
+        if let Some(held) = parts.stores.key_versions_in(owner, at) {
             all.merge(held)?;
         }
     }
@@ -32,20 +31,17 @@ fn owner_versions(parts: &Parts, slot: Slot, chunk: u32, key: &[u8]) -> Result<V
 }
 
 // The slot's versions of the key: the owner's, and those in hints, merged aside.
-fn slot_versions(parts: &Parts, slot: Slot, chunk: u32, key: &[u8]) -> Result<Versions, Refusal>
-    requires stores { chunk_of (shared_space parts.now.stores) key.now ≡ chunk }
-    requires hints { chunk_of (partitions parts.now.hints) key.now ≡ chunk }
-    requires told { JoinsTell (owned_at parts.now.slots (held_at parts.now.stores) slot key.now)
-        (λ x. hinted_at parts.now.hints x slot key.now) }
+fn slot_versions(parts: &Parts, at: &SlotKey) -> Result<Versions, Refusal>
+    requires { JoinsTell (owned_at parts.now.slots (held_at parts.now.stores) at.now.slot at.now.key)
+        (λ x. hinted_at parts.now.hints x at.now.slot at.now.key) }
     ensures ok { IfOk result
-        (MergesOthers (owned_at parts.now.slots (held_at parts.now.stores) slot key.now) (λ x. true)
-        (λ x. hinted_at parts.now.hints x slot key.now)) }
+        (MergesOthers (owned_at parts.now.slots (held_at parts.now.stores) at.now.slot at.now.key) (λ x. true)
+        (λ x. hinted_at parts.now.hints x at.now.slot at.now.key)) }
     ensures memory { IfErr result (λ e. e ≡ OutOfMemory) }
 {
-    let mut all = owner_versions(parts, slot, chunk, key)?;
-    if let Some(keepers) = parts.hints.key_keepers(slot, key) {
-        let place = SlotKey { slot, chunk, key };
-        merge_hints(&mut all, &parts.hints, keepers, &place)?;
+    let mut all = owner_versions(parts, at)?;
+    if let Some(keepers) = parts.hints.key_keepers(at.slot, at.key) {
+        merge_hints(&mut all, &parts.hints, keepers, at)?;
     }
     Ok(all)
 }
@@ -63,8 +59,9 @@ pub fn look(parts: &Parts, get: u32, index: u32) -> Result<(Found, Listed<u32>),
     };
     let place = parts.keys.place(now.key);
     let partition = place.partition;
-    let key = parts.keys.key(now.key);
-    let at_slot = slot_versions(parts, Slot { partition, index }, place.chunk, key)?;
+    let slot = Slot { partition, index };
+    let key = parts.keys.id(now.key);
+    let at_slot = slot_versions(parts, &SlotKey { slot, key })?;
     let puts = at_slot.puts()?;
     let found = now.found.with(&at_slot)?;
     Ok((found, puts))

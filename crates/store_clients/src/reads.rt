@@ -2,31 +2,30 @@
 
 ghost use Rattle.std.specs.Prelude.{◌≡◌, IfOk, IfErr, OnErr};
 ghost use Rattle.ring_names.specs.declared.refusal.Refusal.TheVariants.{OutOfMemory};
-ghost use Rattle.store_maps.specs.Chunks.{chunk_of};
-ghost use Rattle.ring_hints.specs.Hints.{hinted_at, partitions};
+ghost use Rattle.ring_hints.specs.Hints.{hinted_at};
 ghost use Rattle.plan_runs.specs.declared.event.Event.TheVariants.{Read};
 ghost use Rattle.store_tables.specs.Nodes.{is_up_at};
 ghost use Rattle.store_tells.specs.Parts.{IsSound, Follows, Tests, Passes, Answers, Stays};
 ghost use Rattle.store_clients.specs.Reads.{StopsRead};
 
-use crate::keepers::{SlotKey, keeper_refusal};
+use crate::keepers::keeper_refusal;
 use crate::looks::look;
 use plan_runs::Reply;
 use ring_names::{Listed, Refusal, Slot};
+use ring_store::SlotKey;
 use store_tells::Parts;
 
 // The refusal if the slot's owner is down, or a keeper of the key for the slot.
-fn down_refusal(parts: &Parts, slot: Slot, chunk: u32, key: &[u8]) -> Option<Refusal>
-    requires { chunk_of (partitions parts.now.hints) key.now ≡ chunk }
+fn down_refusal(parts: &Parts, at: &SlotKey) -> Option<Refusal>
     ensures { StopsRead parts.now.slots (is_up_at parts.now.nodes)
-        (λ x. hinted_at parts.now.hints x slot key.now) slot result }
+        (λ x. hinted_at parts.now.hints x at.now.slot at.now.key) at.now.slot result }
 {
-    if let Some(owner) = parts.slots.owner(slot) {
+    if let Some(owner) = parts.slots.owner(at.slot) {
         if !parts.nodes.is_up(owner) {
             return Some(Refusal::NodeDown(owner.0));
         }
     }
-    keeper_refusal(&parts.nodes, &parts.hints, &SlotKey { slot, chunk, key })
+    keeper_refusal(&parts.nodes, &parts.hints, at)
 }
 
 /// Returns why a slot is not read for a get now. Costs a look-up for each of the slot's keepers.
@@ -51,8 +50,9 @@ pub fn read_refusal(parts: &Parts, get: u32, index: u32) -> Option<Refusal>
     }
     let place = parts.keys.place(now.key);
     let partition = place.partition;
-    let key = parts.keys.key(now.key);
-    down_refusal(parts, Slot { partition, index }, place.chunk, key)
+    let slot = Slot { partition, index };
+    let key = parts.keys.id(now.key);
+    down_refusal(parts, &SlotKey { slot, key })
 }
 
 /// Reads the slot for the get. The reply has the numbers of the puts found there.

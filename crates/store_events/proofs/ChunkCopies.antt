@@ -11,11 +11,9 @@ use Rattle.ring_space.specs.Place.{place_of}
 use Rattle.ring_table.specs.Value.{RingValue}
 use Rattle.ring_clock.specs.declared.entry.Entry.{Entry}
 use Rattle.ring_versions.specs.declared.version.Version.{Version}
-use Rattle.store_maps.specs.Chunks.{chunk_of}
-use Rattle.store_maps.specs.Held.{held, has_place}
+use Rattle.store_tables.specs.KeyTable.{chunk_of}
 use Rattle.ring_names.proofs.Logic.{bool_same}
-use Rattle.store_maps.specs.declared.key_map.KeyMap.{KeyMap}
-use Rattle.ring_store.specs.Nodes.{MergesAtAll, at_node}
+use Rattle.ring_store.specs.Nodes.{at_node}
 use Rattle.ring_store.specs.Slots.{at_slot}
 use Rattle.plan_text.specs.declared.step.Planned.{Planned}
 use Rattle.plan_text.specs.declared.step.Source.{Source}
@@ -60,15 +58,6 @@ use Rattle.store_events.specs.Sources.{ShowsChunk, are_kept, is_kept, reads_kept
 use Rattle.store_events.proofs.TellsOnVersions.{comes, lasts, goes_on}
 use Rattle.store_events.proofs.ShownBrought.{node_shows, node_come}
 use Rattle.store_events.proofs.PutAndSlot.{kept_in_ring}
-use Rattle.store_maps.proofs.Chunks.{no_place}
-
--- a map whose places lie in the chunk has nothing for other keys
-pub nothing_apart : (q c : ℕ) (m : KeyMap) → ((key : List ℕ) → has_place m key ≡ true → chunk_of q key ≡ c) → (key : List ℕ) → (chunk_of q key ≡ c → ⊥) → held m key ≡ []
-nothing_apart q c m lies key apart = by (has_place m key) refl
-  where
-    by : (b : Bool) → has_place m key ≡ b → held m key ≡ []
-    by true e = absurd (apart (lies key e))
-    by false e = no_place m key e
 
 -- one of the slots passes the test
 pub some_slot : (test : Slot → Bool) (p : ℕ) (from : List ℕ) → list_any test (map (slot_at p) from) ≡ true → (i : ℕ) × (test (slot_at p i) ≡ true)
@@ -206,7 +195,7 @@ module _ (ring : RingValue) (plan : List Planned) (k : Kept) (w : World) (m : Te
       -- if there is a mirror, it is given what was read
       copied_to : (x : NodeId) (versions : List ℕ → List Version) (new : ℕ → Slot → List ℕ → List Version) → served.mirror ≡ Some x
           → ShowsChunk ring.q w (clock_at k.puts) c versions (source_has ring plan w slot source)
-          → ((key : List ℕ) → (chunk_of ring.q key ≡ c → ⊥) → versions key ≡ []) → MergesAtAll k.stored (at_node x.0 (at_slot slot versions)) new
+          → ((key : List ℕ) → (chunk_of ring.q key ≡ c → ⊥) → versions key ≡ []) → MergeAll k.stored (at_node x.0 (at_slot slot versions)) new
           → (u : World) × (answer ring plan w (ChunkCopy n c) ≡ Ok (u, reply.Plain)) × Tells ring plan (record k { steps = steps; stored = new }) u
       copied_to x versions new mirrored shows others merges =
           chunked (at_node x.0 (at_slot slot versions)) new
@@ -224,7 +213,7 @@ module _ (ring : RingValue) (plan : List Planned) (k : Kept) (w : World) (m : Te
     -- what was read is given to the mirror, and then the chunk is marked
     pub given : (slot : Slot) (source : Source) (at : step_at plan n ≡ Some (Copy slot source)) (served : SlotNow) (kept : slot_now k.rows slot ≡ Some served) (x : NodeId) (versions : List ℕ → List Version) (mid : Kept) (steps : List StepNow)
         → served.mirror ≡ Some x → ShowsChunk ring.q w (clock_at k.puts) c versions (source_has ring plan w slot source) → ((key : List ℕ) → (chunk_of ring.q key ≡ c → ⊥) → versions key ≡ [])
-        → MergesAtAll k.stored (at_node x.0 (at_slot slot versions)) mid.stored → mid ≡ record k { stored = mid.stored } → steps ≡ changed mid.steps n (λ y. record y { marks = with_mark y.marks c })
+        → MergeAll k.stored (at_node x.0 (at_slot slot versions)) mid.stored → mid ≡ record k { stored = mid.stored } → steps ≡ changed mid.steps n (λ y. record y { marks = with_mark y.marks c })
         → (n < length mid.steps → (i d : ℕ) → is_marked_at steps i d ≡ with_chunk (is_marked_at mid.steps) n c i d)
         → (u : World) × (answer ring plan w (ChunkCopy n c) ≡ Ok (u, reply.Plain)) × Tells ring plan (record mid { steps = steps }) u
     given slot source at served kept x versions mid steps mirrored shows others merges rest =

@@ -1,6 +1,6 @@
 -- What is read of a chunk, one source after the other.
 use Rattle.std.proofs.Common.{◌≡◌, inl, inr, ◌∙◌, ℕ, Bool, true, false, cond, List, [], ◌∷◌, length, map, refl, sym, ap, subst, eq-eqb}
-use Rattle.std.specs.Prelude.{◌≢◌, ◌&&◌, ◌||◌, ◌==◌, ◌↔◌, Option, Some, None, option_map, is_some}
+use Rattle.std.specs.Prelude.{◌&&◌, ◌||◌, ◌==◌, ◌↔◌, Option, Some, None, option_map, is_some}
 use Rattle.std.specs.List.{list_any}
 use Rattle.std.proofs.Math.Bool.{or_assoc}
 use Rattle.std.proofs.lemmas.Bool.{and_parts, or_right, or_cases, or_left}
@@ -10,9 +10,12 @@ use Rattle.ring_names.proofs.Logic.{or_false, bool_same}
 use Rattle.ring_clock.specs.declared.entry.Entry.{Entry}
 use Rattle.ring_table.specs.Value.{RingValue}
 use Rattle.ring_versions.specs.declared.version.Version.{Version}
-use Rattle.store_maps.specs.Chunks.{chunk_of}
+use Rattle.store_tables.specs.KeyTable.{chunk_of}
+use Rattle.store_maps.specs.Ids.{id, of_chunk}
 use Rattle.store_maps.specs.Merges.{MergesAll}
-use Rattle.store_maps.proofs.Chunks.{chosen_other}
+use Rattle.store_maps.specs.declared.key_id.KeyId.{KeyId}
+use Rattle.store_tells.specs.Numbers.{ArePlaced, by_bytes, in_part}
+use Rattle.store_tells.proofs.Numbers.{nothing_at, nothing_of_chunk, part_at, part_merged, placed_more, placed_part}
 use Rattle.ring_hints.specs.Views.{in_keepers}
 use Rattle.ring_hints.proofs.KeeperSets.{equal}
 use Rattle.store_maps.proofs.HoldersChanged.{node_tie}
@@ -29,12 +32,12 @@ use Rattle.store_tells.proofs.ShownSets.{merge, none, with_none, other_test}
 use Rattle.store_tells.specs.Puts.{clock_at}
 use Rattle.store_tells.proofs.SlotsFit.{kept_is}
 use Rattle.store_tells.specs.Kept.{Kept, Tells}
-use Rattle.store_tells.specs.Parts.{ring_of, plan_of, Meets}
+use Rattle.store_tells.specs.Parts.{IsSized, ring_of, plan_of, Meets}
 use Rattle.store_tells.specs.declared.parts.Parts.{Parts}
 use Rattle.store_tells.proofs.KeepersDeclared.{keeper_within}
 use Rattle.store_tells.proofs.GetsChanges.{some_none}
 use Rattle.store_tells.proofs.WhoKeepsHints.{shown}
-use Rattle.store_events.specs.Sources.{ShowsChunk, Gathers, are_kept, is_kept}
+use Rattle.store_events.specs.Sources.{ShowsChunk, Gathers, Takes, are_kept, is_kept}
 
 -- ---- versions of a chunk's keys that show puts
 
@@ -75,10 +78,6 @@ module _ (q : ℕ) (w : World) (clock : ℕ → List Entry) (c : ℕ) where
   part_shown p kept held f space shows part k e =
       let here : (chunk_of p k == c) ≡ true = eq-eqb (chunk_of p k) c (ap (λ (n : ℕ). chunk_of n k) space ∙ e) in
       subst (λ (vs : List Version). Shows clock (value_of w) vs (λ v. f v && is_of_key w k v)) (sym (part k ∙ ap (λ (b : Bool). cond b (kept k) []) here)) (shows k)
-
--- the part of a chunk has nothing of other keys
-pub part_apart : (p q c : ℕ) (kept : List ℕ → List Version) → p ≡ q → (k : List ℕ) → chunk_of q k ≢ c → cond (chunk_of p k == c) (kept k) [] ≡ []
-part_apart p q c kept space k ne = chosen_other (chunk_of p k) c (kept k) (λ e. ne (sym (ap (λ (n : ℕ). chunk_of n k) space) ∙ e))
 
 -- ---- one source after the other
 
@@ -132,6 +131,46 @@ module _ (a : Parts) (c : ℕ) where
         let p = visited w m test had in
         other_puts (ring_of a).q w (clock_at a.puts) c new (λ v. test v || p.0 v) (λ v. test v || list_any (λ y. read w y v) all)
         (λ v. ap (λ (b : Bool). test v || b) (sym (or_false (p.0 v)) ∙ sym (ap (λ (ys : List A). p.0 v || list_any (λ y. read w y v) ys) is) ∙ p.2 v)) p.1
+
+-- ---- by number
+
+-- some of the sources were visited, and what was read is of keys that have numbers
+abbrev pub TakesSome : {A : Type 0} → Parts → ℕ → (World → A → ℕ → Bool) → List A → (ℕ → List Version) → (ℕ → List Version) → List A → Type 0
+TakesSome a c read all old new rest = Visits a c read all (in_part a.keys c old) (in_part a.keys c new) rest × (ArePlaced a.keys (of_chunk c old) → ArePlaced a.keys (of_chunk c new))
+
+module _ (a : Parts) (s : IsSized a) (c : ℕ) where
+  -- a map of the chunk is merged in
+  pub takes : (kept : KeyId → List Version) (old more new : ℕ → List Version) (read : World → ℕ → Bool) → ArePlaced a.keys kept
+      → ((w : World) → Meets a w → (k : List ℕ) → Shows (clock_at a.puts) (value_of w) (by_bytes a.keys kept k) (λ v. read w v && is_of_key w k v)) → ((n : ℕ) → more n ≡ kept (id c n))
+      → MergesAll old more new → Takes a c old new read
+  takes kept old more new read placed shows part merges = (
+    gathers a c a.keys.q (λ w. by_bytes a.keys kept) (in_part a.keys c old) (in_part a.keys c more) (in_part a.keys c new) read s.keys shows (λ w. part_at a.keys c more kept part) (part_merged a.keys c old more new merges),
+    placed_more a.keys c old more new (placed_part a.keys c more kept part placed) merges,
+  )
+
+  -- there is none
+  pub takes_none : (kept : KeyId → List Version) (old : ℕ → List Version) (read : World → ℕ → Bool)
+      → ((w : World) → Meets a w → (k : List ℕ) → Shows (clock_at a.puts) (value_of w) (by_bytes a.keys kept k) (λ v. read w v && is_of_key w k v)) → ((n : ℕ) → kept (id c n) ≡ [])
+      → Takes a c old old read
+  takes_none kept old read shows none_there = (
+    gathers_none a c a.keys.q (λ w. by_bytes a.keys kept) (in_part a.keys c old) read s.keys shows
+        (λ w k. sym (part_at a.keys c (λ n. []) kept (λ n. sym (none_there n)) k) ∙ nothing_at a.keys (of_chunk c (λ n. [])) (nothing_of_chunk a.keys c (λ n. []) (λ n. refl)) k),
+    λ p. p,
+  )
+
+module _ (a : Parts) (c : ℕ) where
+  pub takes_both : (old mid new : ℕ → List Version) (f g : World → ℕ → Bool) → Takes a c old mid f → Takes a c mid new g → Takes a c old new (λ w v. f w v || g w v)
+  takes_both old mid new f g h i = (gathers_both a c (in_part a.keys c old) (in_part a.keys c mid) (in_part a.keys c new) f g h.0 i.0, λ p. i.1 (h.1 p))
+
+  module _ {A : Type 0} (read : World → A → ℕ → Bool) (all : List A) (old : ℕ → List Version) where
+    pub some_first : TakesSome a c read all old old all
+    some_first = (visits_first a c read all (in_part a.keys c old), λ p. p)
+
+    pub some_more : (mid new : ℕ → List Version) (rest later : List A) (y : A) → rest ≡ y ∷ later → Takes a c mid new (λ w. read w y) → TakesSome a c read all old mid rest → TakesSome a c read all old new later
+    some_more mid new rest later y is h took = (visits_more a c read all (in_part a.keys c old) (in_part a.keys c mid) (in_part a.keys c new) rest later y is h.0 took.0, λ p. h.1 (took.1 p))
+
+    pub some_all : (new : ℕ → List Version) (rest : List A) → rest ≡ [] → TakesSome a c read all old new rest → Takes a c old new (λ w v. list_any (λ y. read w y v) all)
+    some_all new rest is took = (visits_all a c read all (in_part a.keys c old) (in_part a.keys c new) rest is took.0, took.1)
 
 -- ---- keepers
 

@@ -23,7 +23,10 @@ use Rattle.store_tells.specs.GuardsKept.{down_guards_kept, up_guards_kept, lose_
 use Rattle.store_tells.proofs.NodesNow.{nodes_meet}
 use Rattle.store_tells.proofs.StageGuards.{down_kept, up_kept, lose_kept, close_kept, abort_kept, ready_kept}
 use Rattle.store_tells.specs.declared.parts.Parts.{Parts}
-use Rattle.store_tells.specs.Parts.{Meets, Tests, ring_of, plan_of, kept_of}
+use Rattle.store_maps.specs.declared.key_id.KeyId.{KeyId}
+use Rattle.store_tells.specs.Numbers.{by_bytes}
+use Rattle.store_tells.proofs.Numbers.{none}
+use Rattle.store_tells.specs.Parts.{Meets, IsSized, Tests, ring_of, plan_of, kept_of}
 use Rattle.store_tells.proofs.WhoKeepsHints.{both_tell, other_tells, any_tells}
 
 -- ---- nodes
@@ -108,14 +111,24 @@ do_tested a n o e w m =
 -- ---- hints that must be handed off first
 
 -- whether the node keeps a hint for another slot of the partition
-pub other_kept : (a : Parts) (x : ℕ) (s : Slot) (b : Bool) → (b ≡ false) ↔ ((t : Slot) → t.partition ≡ s.partition → t.index ≢ s.index → (key : List ℕ) → hinted_at a.hints x t key ≡ [])
+pub other_kept : (a : Parts) (x : ℕ) (s : Slot) (b : Bool) → IsSized a → (b ≡ false) ↔ ((t : Slot) → t.partition ≡ s.partition → t.index ≢ s.index → (key : KeyId) → hinted_at a.hints x t key ≡ [])
     → (w : World) → Meets a w → b ≡ keeps_other (ring_of a) w x s
-other_kept a x s b tells w m = both_tell b (keeps_other (ring_of a) w x s) tells (other_tells (ring_of a) (plan_of a) (kept_of a) w m x s)
+other_kept a x s b sized tells w m = both_tell b (keeps_other (ring_of a) w x s)
+    (λ e t p i. (none_at t).0 (tells.0 e t p i), λ h. tells.1 (λ t p i. (none_at t).1 (h t p i)))
+    (other_tells (ring_of a) (plan_of a) (kept_of a) w m x s)
+  where
+    none_at : (t : Slot) → ((k : KeyId) → hinted_at a.hints x t k ≡ []) ↔ ((key : List ℕ) → by_bytes a.keys (hinted_at a.hints x t) key ≡ [])
+    none_at t = none a.keys (hinted_at a.hints x t) sized.numbered (sized.hinted x t)
 
 -- whether it keeps any
-pub any_kept : (a : Parts) (x : ℕ) (b : Bool) → (b ≡ false) ↔ ((t : Slot) (key : List ℕ) → hinted_at a.hints x t key ≡ [])
+pub any_kept : (a : Parts) (x : ℕ) (b : Bool) → IsSized a → (b ≡ false) ↔ ((t : Slot) (key : KeyId) → hinted_at a.hints x t key ≡ [])
     → (w : World) → Meets a w → b ≡ keeps_any (ring_of a) w x
-any_kept a x b tells w m = both_tell b (keeps_any (ring_of a) w x) tells (any_tells (ring_of a) (plan_of a) (kept_of a) w m x)
+any_kept a x b sized tells w m = both_tell b (keeps_any (ring_of a) w x)
+    (λ e t. (none_at t).0 (tells.0 e t), λ h. tells.1 (λ t. (none_at t).1 (h t)))
+    (any_tells (ring_of a) (plan_of a) (kept_of a) w m x)
+  where
+    none_at : (t : Slot) → ((k : KeyId) → hinted_at a.hints x t k ≡ []) ↔ ((key : List ℕ) → by_bytes a.keys (hinted_at a.hints x t) key ≡ [])
+    none_at t = none a.keys (hinted_at a.hints x t) sized.numbered (sized.hinted x t)
 
 -- ---- by kind
 
@@ -123,20 +136,20 @@ any_kept a x b tells w m = both_tell b (keeps_any (ring_of a) w x) tells (any_te
 abbrev pub needs : Bool → Bool → NodeId → Option Refusal
 needs is_up keeps x = if is_up then (if keeps then Some HintsLeft else None) else Some (NodeDown x.0)
 
-pub mirror_tested : (a : Parts) (t : Step) (s : Slot) (x : NodeId) (keeps : Bool) (o : Option Refusal) → t ≡ step.Mirror s x
-    → (keeps ≡ false) ↔ ((u : Slot) → u.partition ≡ s.partition → u.index ≢ s.index → (key : List ℕ) → hinted_at a.hints x.0 u key ≡ []) → o ≡ needs (is_up_at a.nodes x.0) keeps x
+pub mirror_tested : (a : Parts) (t : Step) (s : Slot) (x : NodeId) (keeps : Bool) (o : Option Refusal) → IsSized a → t ≡ step.Mirror s x
+    → (keeps ≡ false) ↔ ((u : Slot) → u.partition ≡ s.partition → u.index ≢ s.index → (key : KeyId) → hinted_at a.hints x.0 u key ≡ []) → o ≡ needs (is_up_at a.nodes x.0) keeps x
     → (w : World) → Meets a w → o ≡ first_failing (step_guards (ring_of a) w t)
-mirror_tested a t s x keeps o is tells e w m = e ∙ by (is_up_at a.nodes x.0) (w.up x.0) keeps (keeps_other (ring_of a) w x.0 s) (m.nodes.up x.0) (other_kept a x.0 s keeps tells w m) ∙ ap (λ (u : Step). first_failing (step_guards (ring_of a) w u)) (sym is)
+mirror_tested a t s x keeps o sized is tells e w m = e ∙ by (is_up_at a.nodes x.0) (w.up x.0) keeps (keeps_other (ring_of a) w x.0 s) (m.nodes.up x.0) (other_kept a x.0 s keeps sized tells w m) ∙ ap (λ (u : Step). first_failing (step_guards (ring_of a) w u)) (sym is)
   where
     by : (c d e f : Bool) → c ≡ d → e ≡ f → needs c e x ≡ first_failing ((d, NodeDown x.0) ∷ (not f, HintsLeft) ∷ [])
     by c true e true g h = rw (g, h) refl
     by c true e false g h = rw (g, h) refl
     by c false e f g h = rw g refl
 
-pub retire_tested : (a : Parts) (t : Step) (x : NodeId) (keeps : Bool) (o : Option Refusal) → t ≡ step.Retire x
-    → (keeps ≡ false) ↔ ((u : Slot) (key : List ℕ) → hinted_at a.hints x.0 u key ≡ []) → o ≡ needs true keeps x
+pub retire_tested : (a : Parts) (t : Step) (x : NodeId) (keeps : Bool) (o : Option Refusal) → IsSized a → t ≡ step.Retire x
+    → (keeps ≡ false) ↔ ((u : Slot) (key : KeyId) → hinted_at a.hints x.0 u key ≡ []) → o ≡ needs true keeps x
     → (w : World) → Meets a w → o ≡ first_failing (step_guards (ring_of a) w t)
-retire_tested a t x keeps o is tells e w m = e ∙ by keeps (keeps_any (ring_of a) w x.0) (any_kept a x.0 keeps tells w m) ∙ ap (λ (u : Step). first_failing (step_guards (ring_of a) w u)) (sym is)
+retire_tested a t x keeps o sized is tells e w m = e ∙ by keeps (keeps_any (ring_of a) w x.0) (any_kept a x.0 keeps sized tells w m) ∙ ap (λ (u : Step). first_failing (step_guards (ring_of a) w u)) (sym is)
   where
     by : (e f : Bool) → e ≡ f → needs true e x ≡ first_failing ((not f, HintsLeft) ∷ [])
     by e true h = rw h refl

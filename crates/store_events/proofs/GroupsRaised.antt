@@ -10,28 +10,33 @@ use Rattle.plan_stage.proofs.Truth.{slot-is, slot-same}
 use Rattle.store_tables.specs.declared.slots.SlotNow.{SlotNow}
 use Rattle.store_tables.specs.Slots.{slot_now, ChangesSlot}
 use Rattle.store_tells.specs.GuardsKept.{is_served_kept}
+use Rattle.store_maps.specs.declared.key_id.KeyId.{KeyId}
+use Rattle.store_tables.specs.KeyTable.{KeyTable}
+use Rattle.store_tells.specs.Numbers.{by_keys, ArePlaced}
+use Rattle.store_tells.specs.Puts.{AreNumbered}
+use Rattle.store_tells.proofs.Numbers.{none}
 use Rattle.store_events.specs.Groups.{raised, RaisesGroup, RaisesGroups}
 
 -- what it says of a slot, over what holds of the slot before and after
-abbrev pub RaisesNow : (ℕ → Slot → List ℕ → List Version) → ℕ → Slot → Option SlotNow → Option SlotNow → Type 0
-RaisesNow hinted x t before after = (keeps : Bool) × ((keeps ≡ false) ↔ ((key : List ℕ) → hinted x t key ≡ []))
+abbrev pub RaisesNow : {K : Type 0} → (ℕ → Slot → K → List Version) → ℕ → Slot → Option SlotNow → Option SlotNow → Type 0
+RaisesNow {K} hinted x t before after = (keeps : Bool) × ((keeps ≡ false) ↔ ((key : K) → hinted x t key ≡ []))
     × (after ≡ (if elim before [ Some a ↦ (x == a.owner.0) || elim a.mirror [ Some y ↦ x == y.0 | None ↦ false ] | None ↦ false ] || keeps then option_map raised before else before))
 
-module _ (hinted : ℕ → Slot → List ℕ → List Version) (x : ℕ) where
+module _ {K : Type 0} (hinted : ℕ → Slot → K → List Version) (x : ℕ) where
   -- ---- one slot
 
   -- a test that only the slot passes
   only : (slot : Slot) (P : Slot → Type 0) → P slot → (t : Slot) → is_slot slot t ≡ true → P t
   only slot P p t e = subst P (slot-is slot t e) p
 
-  pub group_raised : (slot : Slot) (keeps : Bool) (old new : List (List SlotNow)) → (keeps ≡ false) ↔ ((key : List ℕ) → hinted x slot key ≡ []) → (is_served_kept old slot x || keeps) ≡ true
+  pub group_raised : (slot : Slot) (keeps : Bool) (old new : List (List SlotNow)) → (keeps ≡ false) ↔ ((key : K) → hinted x slot key ≡ []) → (is_served_kept old slot x || keeps) ≡ true
       → ChangesSlot old new slot raised → RaisesGroups hinted x (λ t. is_slot slot t) old new
   group_raised slot keeps old new tells in_it changes = record {
     each = only slot (λ t. RaisesGroup hinted x t old new) (keeps, tells, (let f : is_slot slot slot ≡ true = slot-same slot in rw (in_it) (changes slot ∙ rw f refl)));
     others = λ t e. changes t ∙ rw e refl;
   }
 
-  pub group_left : (slot : Slot) (keeps : Bool) (rows : List (List SlotNow)) → (keeps ≡ false) ↔ ((key : List ℕ) → hinted x slot key ≡ []) → (is_served_kept rows slot x || keeps) ≡ false
+  pub group_left : (slot : Slot) (keeps : Bool) (rows : List (List SlotNow)) → (keeps ≡ false) ↔ ((key : K) → hinted x slot key ≡ []) → (is_served_kept rows slot x || keeps) ≡ false
       → RaisesGroups hinted x (λ t. is_slot slot t) rows rows
   group_left slot keeps rows tells out = record {
     each = only slot (λ t. RaisesGroup hinted x t rows rows) (keeps, tells, rw out refl);
@@ -152,3 +157,15 @@ rows_more p n t = bool_same (in_rows (p + 1) n t) (in_rows p n t || in_row p n t
           let s = eqb-true t.partition p b.0 in
           and_from (nat_lt t.partition (p + 1)) (nat_lt t.index n) (lt-ltb t.partition (p + 1) (omega arith)) b.1)
     ]
+
+-- ---- by number
+
+-- what is raised by the ids that are kept is raised by the keys
+pub groups_named : (t : KeyTable) (hinted : ℕ → Slot → KeyId → List Version) (x : ℕ) (test : Slot → Bool) (old new : List (List SlotNow)) → AreNumbered t.keys → ((y : ℕ) (s : Slot) → ArePlaced t (hinted y s)) → RaisesGroups hinted x test old new → RaisesGroups (by_keys t hinted) x test old new
+groups_named t hinted x test old new numbered placed raises = record {
+  each = λ s e. (
+      let r = raises.each s e in
+      let n = none t (hinted x s) numbered (placed x s) in
+      (r.0, (λ f. n.0 (r.1.0 f), λ f. r.1.1 (n.1 f)), r.2));
+  others = raises.others;
+}

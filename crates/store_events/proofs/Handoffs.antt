@@ -6,7 +6,7 @@ use Rattle.ring_names.specs.declared.ids.NodeId.{NodeId}
 use Rattle.ring_names.specs.declared.ids.Slot.{Slot}
 use Rattle.ring_table.specs.Value.{RingValue}
 use Rattle.ring_versions.specs.declared.version.Version.{Version}
-use Rattle.ring_store.specs.Nodes.{MergesAtAll, at_nodes}
+use Rattle.ring_store.specs.Nodes.{at_nodes}
 use Rattle.ring_store.specs.Slots.{at_slot}
 use Rattle.ring_hints.specs.Views.{is_of, pair_of}
 use Rattle.plan_text.specs.declared.step.Planned.{Planned}
@@ -26,7 +26,7 @@ use Rattle.plan_runs.proofs.Passed.{all_met}
 use Rattle.store_tables.specs.declared.slots.SlotNow.{SlotNow}
 use Rattle.store_tables.specs.Slots.{slot_now}
 use Rattle.store_tells.specs.Shows.{Shows, value_of}
-use Rattle.store_tells.specs.Stored.{at_mirror}
+use Rattle.store_tells.specs.Stored.{MergeAll, at_mirror}
 use Rattle.store_tells.specs.Stored as stored
 use Rattle.store_tells.proofs.StoredGrows.{served_more}
 use Rattle.store_tells.specs.Puts.{clock_at}
@@ -53,7 +53,7 @@ module _ (ring : RingValue) (plan : List Planned) (k : Kept) (w : World) (m : Te
 
   -- the slot's owner and mirror have what the node kept for the slot, and the node keeps nothing for it
   pub handed : (served : SlotNow) (versions : List ℕ → List Version) (new hints : ℕ → Slot → List ℕ → List Version) → slot_now k.rows s ≡ Some served → ((bs : List ℕ) → versions bs ≡ k.hinted x.0 s bs)
-      → MergesAtAll k.stored (at_nodes served.owner served.mirror (at_slot s versions)) new → ((y : ℕ) (t : Slot) (bs : List ℕ) → hints y t bs ≡ cond (is_of (pair_of x.0 s) y t) [] (k.hinted y t bs))
+      → MergeAll k.stored (at_nodes served.owner served.mirror (at_slot s versions)) new → ((y : ℕ) (t : Slot) (bs : List ℕ) → hints y t bs ≡ cond (is_of (pair_of x.0 s) y t) [] (k.hinted y t bs))
       → (u : World) × (answer ring plan w (Handoff x s) ≡ Ok (u, reply.Plain)) × Tells ring plan (record k { stored = new; hinted = hints }) u
   unfolding effect
   handed served versions new hints kept reads merges gone =

@@ -7,7 +7,7 @@ use Rattle.ring_names.specs.declared.ids.Slot.{Slot}
 use Rattle.ring_table.specs.Value.{RingValue}
 use Rattle.ring_versions.specs.declared.version.Version.{Version}
 use Rattle.ring_versions.specs.Versions.{IsMerge}
-use Rattle.store_maps.specs.Merges.{at_key}
+use Rattle.store_tells.specs.Numbers.{at_bytes}
 use Rattle.ring_hints.specs.Views.{is_of, pair_of}
 use Rattle.plan_text.specs.declared.step.Planned.{Planned}
 use Rattle.plan_stage.specs.Clauses.{first_failing}
@@ -43,7 +43,7 @@ module _ (ring : RingValue) (plan : List Planned) (k : Kept) (w : World) (m : Te
   hint_exists = (all_met (guards ring plan w (Hint v i x)) passes).0
 
   hinted_at : (put : PutNow) (key : List ℕ) (served : SlotNow) (new : ℕ → Slot → List ℕ → List Version) → slice_get k.puts v ≡ Some put → slice_get k.keys put.key ≡ Some key → slot_now k.rows (put_slot ring w v i) ≡ Some served
-      → ((y : ℕ) (t : Slot) (bs : List ℕ) → IsMerge (k.hinted y t bs) (cond (is_of (pair_of x.0 (put_slot ring w v i)) y t) (at_key key put.version bs) []) (new y t bs))
+      → ((y : ℕ) (t : Slot) (bs : List ℕ) → IsMerge (k.hinted y t bs) (cond (is_of (pair_of x.0 (put_slot ring w v i)) y t) (at_bytes key put.version bs) []) (new y t bs))
       → (answer ring plan w (Hint v i x) ≡ Ok (effect ring plan w (Hint v i x), reply.Ticket (put_slot ring w v i) served.generation))
       × Tells ring plan (record k { hinted = new; puts = ticketed k.puts v i served.generation }) (effect ring plan w (Hint v i x))
   unfolding effect
@@ -60,19 +60,19 @@ module _ (ring : RingValue) (plan : List Planned) (k : Kept) (w : World) (m : Te
             (ticket_clocks k.puts v i served.generation)
             (puts_hinted ring plan w (effect ring plan w e) v i x served.generation (reply_to ring plan w e) k.keys k.last k.puts reached h now.generation m.puts)
             (lasts ring plan w e passes (clock_at k.puts) k.stored w.stored (λ y t u b. (reached.stored y t u b).0) m.stored)
-            (comes ring plan w e passes (clock_at k.puts) k.hinted (λ y t bs. cond (is_of (pair_of x.0 slot) y t) (at_key key put.version bs) []) new w.hinted
+            (comes ring plan w e passes (clock_at k.puts) k.hinted (λ y t bs. cond (is_of (pair_of x.0 slot) y t) (at_bytes key put.version bs) []) new w.hinted
             (stored.at_node x slot (λ z. z == v)) (effect ring plan w e).hinted
             (λ y t u b. (reached.hinted y t u b).0)
             (λ y t u b. (let same : u ≡ v = eqb-true u v (node_come x slot (λ z. z == v) y t u b) in omega arith))
             (λ y t u. refl)
-            m.hinted (pair_shows w (clock_at k.puts) x slot (at_key key put.version) (λ z. z == v) (kept_shows ring plan k w m v put key at named)) merges),
+            m.hinted (pair_shows w (clock_at k.puts) x slot (at_bytes key put.version) (λ z. z == v) (kept_shows ring plan k w m v put key at named)) merges),
       )
 
   -- the node keeps the put, and it has a ticket
   pub hinted : (put : PutNow) (key : List ℕ) (slot : Slot) (served : SlotNow) (new : ℕ → Slot → List ℕ → List Version) → slice_get k.puts v ≡ Some put → slice_get k.keys put.key ≡ Some key → slot ≡ put_slot ring w v i
-      → slot_now k.rows slot ≡ Some served → ((y : ℕ) (t : Slot) (bs : List ℕ) → IsMerge (k.hinted y t bs) (cond (is_of (pair_of x.0 slot) y t) (at_key key put.version bs) []) (new y t bs))
+      → slot_now k.rows slot ≡ Some served → ((y : ℕ) (t : Slot) (bs : List ℕ) → IsMerge (k.hinted y t bs) (cond (is_of (pair_of x.0 slot) y t) (at_bytes key put.version bs) []) (new y t bs))
       → (u : World) × (answer ring plan w (Hint v i x) ≡ Ok (u, reply.Ticket slot served.generation)) × Tells ring plan (record k { hinted = new; puts = ticketed k.puts v i served.generation }) u
   hinted put key slot served new at named is kept merges =
       let t = hinted_at put key served new at named (ap (λ (s : Slot). slot_now k.rows s) (sym is) ∙ kept)
-      (subst (λ (s : Slot). (y : ℕ) (t : Slot) (bs : List ℕ) → IsMerge (k.hinted y t bs) (cond (is_of (pair_of x.0 s) y t) (at_key key put.version bs) []) (new y t bs)) is merges) in
+      (subst (λ (s : Slot). (y : ℕ) (t : Slot) (bs : List ℕ) → IsMerge (k.hinted y t bs) (cond (is_of (pair_of x.0 s) y t) (at_bytes key put.version bs) []) (new y t bs)) is merges) in
       (effect ring plan w (Hint v i x), t.0 ∙ ap (λ (s : Slot). Ok (effect ring plan w (Hint v i x), reply.Ticket s served.generation)) (sym is), t.1)

@@ -10,7 +10,12 @@ use Rattle.ring_names.proofs.Logic.{or_false, bool_same}
 use Rattle.ring_table.specs.Value.{RingValue}
 use Rattle.ring_hints.specs.Views.{in_keepers}
 use Rattle.ring_versions.specs.declared.version.Version.{Version}
-use Rattle.store_maps.specs.Chunks.{chunk_of}
+use Rattle.store_maps.specs.declared.key_id.KeyId.{KeyId}
+use Rattle.store_maps.specs.Ids.{id}
+use Rattle.store_tables.specs.KeyTable.{chunk_of}
+use Rattle.store_tells.specs.Numbers.{ArePlaced}
+use Rattle.store_tells.proofs.Numbers.{none, none_in_chunk}
+use Rattle.ring_hints.specs.Hints.{hinted_at}
 use Rattle.plan_text.specs.declared.step.Planned.{Planned}
 use Rattle.plan_text.specs.declared.step.Source.{Source}
 use Rattle.plan_text.specs.declared.step.Source.TheVariants.{Slots}
@@ -20,7 +25,7 @@ use Rattle.plan_runs.specs.Versions.{is_in_chunk}
 use Rattle.plan_runs.specs.World.{World, some_below, slot_at}
 use Rattle.store_tables.specs.Nodes.{is_up_at}
 use Rattle.store_tells.specs.Kept.{Kept, Tells}
-use Rattle.store_tells.specs.Parts.{ring_of, Meets}
+use Rattle.store_tells.specs.Parts.{IsSized, ring_of, plan_of, kept_of, Meets}
 use Rattle.store_tells.specs.declared.parts.Parts.{Parts}
 use Rattle.store_tells.proofs.WhoKeepsHints.{both_tell, chunk_tells}
 use Rattle.store_events.specs.ChunkKeepers.{keeps_part, Lessens}
@@ -121,20 +126,9 @@ module _ (a : Parts) where
 -- ---- what keepers keep
 
 module _ (ring : RingValue) (plan : List Planned) (k : Kept) (w : World) (m : Tells ring plan k w) (slot : Slot) (c : ℕ) where
-  -- what is said of the chunk's keys, and of no others
-  chunk_said : (q : ℕ) → q ≡ ring.q → (kept : List ℕ → List Version) → (b : Bool) → (b ≡ false) ↔ ((key : List ℕ) → cond (chunk_of q key == c) (kept key) [] ≡ []) → (b ≡ false) ↔ ((key : List ℕ) → chunk_of ring.q key ≡ c → kept key ≡ [])
-  chunk_said q space kept b h = (
-    λ e key lies. sym (ap (λ (t : Bool). cond t (kept key) []) (eq-eqb (chunk_of q key) c (ap (λ (n : ℕ). chunk_of n key) space ∙ lies))) ∙ h.0 e key,
-    λ none. h.1 (λ key. by key (chunk_of q key == c) refl none),
-  )
-    where
-      by : (key : List ℕ) (t : Bool) → (chunk_of q key == c) ≡ t → ((key : List ℕ) → chunk_of ring.q key ≡ c → kept key ≡ []) → cond t (kept key) [] ≡ []
-      by key true e none = none key (ap (λ (n : ℕ). chunk_of n key) (sym space) ∙ eqb-true (chunk_of q key) c e)
-      by key false e none = refl
-
   -- whether the node keeps something of the chunk, as it is kept
-  pub part_kept : (q : ℕ) → q ≡ ring.q → (x : ℕ) (b : Bool) → (b ≡ false) ↔ ((key : List ℕ) → cond (chunk_of q key == c) (k.hinted x slot key) [] ≡ []) → b ≡ keeps_part ring w slot c x
-  part_kept q space x b h = both_tell b (keeps_part ring w slot c x) (chunk_said q space (k.hinted x slot) b h) (chunk_tells ring plan k w m x slot c)
+  pub part_kept : (x : ℕ) (b : Bool) → (b ≡ false) ↔ ((key : List ℕ) → chunk_of ring.q key ≡ c → k.hinted x slot key ≡ []) → b ≡ keeps_part ring w slot c x
+  part_kept x b h = both_tell b (keeps_part ring w slot c x) h (chunk_tells ring plan k w m x slot c)
 
   -- a node that keeps something of it keeps something
   part_some : (x : ℕ) → keeps_part ring w slot c x ≡ true → ((key : List ℕ) → k.hinted x slot key ≡ []) → ⊥
@@ -166,3 +160,29 @@ least_in_slots a c slot read from source o is listed h w m =
     (λ x. any_map (slot_at slot.partition) (λ s. some_below (length w.puts) (λ v. is_in_chunk (ring_of a) w slot c v && w.hinted x s v)) read
     ∙ ap (λ (xs : List ℕ). list_any (λ s. some_below (length w.puts) (λ v. is_in_chunk (ring_of a) w slot c v && w.hinted x s v)) (map (slot_at slot.partition) xs)) is)
     (least_of a o (λ u x. list_any (λ i. keeps_part (ring_of a) u (slot_at slot.partition i) c x) read) h w m))
+
+-- ---- by number
+
+module _ (a : Parts) (s : IsSized a) (slot : Slot) where
+  -- what nodes keep of no id they keep of no key
+  pub none_kept : (x : ℕ) → ((k : KeyId) → hinted_at a.hints x slot k ≡ []) ↔ ((key : List ℕ) → (kept_of a).hinted x slot key ≡ [])
+  none_kept x = none a.keys (hinted_at a.hints x slot) s.numbered (s.hinted x slot)
+
+  pub keepers_named : (nodes : List NodeId) → ((x : ℕ) → (in_keepers x nodes ≡ false) ↔ ((k : KeyId) → hinted_at a.hints x slot k ≡ [])) → (x : ℕ) → (in_keepers x nodes ≡ false) ↔ ((key : List ℕ) → (kept_of a).hinted x slot key ≡ [])
+  keepers_named nodes h x = (λ e. (none_kept x).0 ((h x).0 e), λ n. (h x).1 ((none_kept x).1 n))
+
+  pub chunk_kept : (w : World) (c x : ℕ) (b : Bool) → Meets a w → (b ≡ false) ↔ ((n : ℕ) → hinted_at a.hints x slot (id c n) ≡ []) → b ≡ keeps_part (ring_of a) w slot c x
+  chunk_kept w c x b m h = part_kept (ring_of a) (plan_of a) (kept_of a) w m slot c x b (λ e key lies. (by c).0 (h.0 e) key (lies_too key lies), λ n. h.1 ((by c).1 (λ key lies. n key (lies_back key lies))))
+    where
+      by : (c : ℕ) → ((n : ℕ) → hinted_at a.hints x slot (id c n) ≡ []) ↔ ((key : List ℕ) → chunk_of a.keys.q key ≡ c → (kept_of a).hinted x slot key ≡ [])
+      by c = none_in_chunk a.keys c (hinted_at a.hints x slot) s.numbered (s.hinted x slot)
+
+      lies_too : (key : List ℕ) → chunk_of (ring_of a).q key ≡ c → chunk_of a.keys.q key ≡ c
+      lies_too key e = ap (λ (q : ℕ). chunk_of q key) s.keys ∙ e
+
+      lies_back : (key : List ℕ) → chunk_of a.keys.q key ≡ c → chunk_of (ring_of a).q key ≡ c
+      lies_back key e = ap (λ (q : ℕ). chunk_of q key) (sym s.keys) ∙ e
+
+-- whether a node keeps something, by ids and by keys
+pub keeps_named : (a : Parts) → IsSized a → (x : ℕ) (slot : Slot) (b : Bool) → (b ≡ false) ↔ ((k : KeyId) → hinted_at a.hints x slot k ≡ []) → (b ≡ false) ↔ ((key : List ℕ) → (kept_of a).hinted x slot key ≡ [])
+keeps_named a s x slot b h = (λ e. (none_kept a s slot x).0 (h.0 e), λ n. h.1 ((none_kept a s slot x).1 n))

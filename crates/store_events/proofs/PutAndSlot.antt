@@ -9,7 +9,6 @@ use Rattle.ring_names.specs.declared.ids.Slot.{Slot}
 use Rattle.ring_space.specs.Place.{place_of}
 use Rattle.ring_space.specs.declared.found.Place.{Place}
 use Rattle.ring_table.specs.Value.{RingValue}
-use Rattle.store_maps.specs.Chunks.{chunk_of}
 use Rattle.plan_text.specs.declared.step.Planned.{Planned}
 use Rattle.plan_text.specs.Valid.{is_ring_slot}
 use Rattle.plan_runs.specs.World.{PutRecord, World, key_of_put, slot_at}
@@ -20,7 +19,7 @@ use Rattle.store_tables.specs.declared.slots.SlotNow.{SlotNow}
 use Rattle.store_tables.specs.Slots.{slot_now}
 use Rattle.store_tells.proofs.PutsTests.{both_puts, same_has_put}
 use Rattle.store_tells.specs.Kept.{Kept, Tells}
-use Rattle.store_tells.proofs.StoreInWorld.{slot_there, mirror_within, mirror_apart}
+use Rattle.store_tells.proofs.StoreInWorld.{slot_there, mirror_apart}
 
 -- an item that is there is within the list
 pub within : {A : Type 0} (xs : List A) (n : ℕ) (x : A) → slice_get xs n ≡ Some x → n < length xs
@@ -30,9 +29,9 @@ within xs n x e = elim (slice_get_cases xs n).1 [
 ]
 
 -- that the mirror fits can hold in only one way
-pub mirror_prop : (o : Option NodeId) (count owner : ℕ) → IsProp (IfSome o (λ y. (y.0 < count) × (y.0 ≢ owner)))
-mirror_prop None count owner = hlevel props
-mirror_prop (Some y) count owner = hlevel props
+pub mirror_prop : (o : Option NodeId) (owner : ℕ) → IsProp (IfSome o (λ y. y.0 ≢ owner))
+mirror_prop None owner = hlevel props
+mirror_prop (Some y) owner = hlevel props
 
 -- the first of a look-up's two halves
 pub looked_up : {A B : Type 0} (f : A → B) (o : Option A) (x : A) (y : B) → o ≡ Some x → option_map f o ≡ Some y → f x ≡ y
@@ -77,10 +76,6 @@ module _ (ring : RingValue) (plan : List Planned) (k : Kept) (w : World) (m : Te
 
       pub partition_within : place.partition < ring.q
       partition_within = subst (λ (p : Place). p.partition < ring.q) place_is (m.placed put.key (key_of_put w v) key_of)
-
-      pub chunk_is : (key : List ℕ) → slice_get k.keys put.key ≡ Some key → chunk_of ring.q key ≡ place.chunk
-      unfolding chunk_of
-      chunk_is key is = (let same : key ≡ key_of_put w v = (let here = key_of in cc) in ap (λ (bs : List ℕ). (place_of ring.q bs).chunk) same ∙ ap (λ (p : Place). p.chunk) place_is)
 
     -- it exists with every slot index of the ring
     pub exists : (i : ℕ) → i < ring.n → put_exists ring w v i ≡ true
@@ -127,10 +122,10 @@ module _ (ring : RingValue) (plan : List Planned) (k : Kept) (w : World) (m : Te
       by true e = ap is_some (slot_there ring plan k w m s e).1 ∙ sym e
       by false e = ap is_some (m.slots.others s e) ∙ sym e
 
-  -- its mirror is a declared node, and another than its owner
-  pub mirror_fits : (s : Slot) (x : SlotNow) (count : ℕ) → count ≡ length ring.nodes → slot_now k.rows s ≡ Some x → IfSome x.mirror (λ y. (y.0 < count) × (y.0 ≢ x.owner.0))
-  mirror_fits s x count same at = by x.mirror refl
+  -- its mirror is another node than its owner
+  pub mirror_fits : (s : Slot) (x : SlotNow) → slot_now k.rows s ≡ Some x → IfSome x.mirror (λ y. y.0 ≢ x.owner.0)
+  mirror_fits s x at = by x.mirror refl
     where
-      by : (o : Option NodeId) → x.mirror ≡ o → IfSome o (λ y. (y.0 < count) × (y.0 ≢ x.owner.0))
+      by : (o : Option NodeId) → x.mirror ≡ o → IfSome o (λ y. y.0 ≢ x.owner.0)
       by None e = tt
-      by (Some y) e = ((let l = mirror_within ring plan k w m s x y at e in omega arith), mirror_apart ring plan k w m s x y at e)
+      by (Some y) e = mirror_apart ring plan k w m s x y at e

@@ -16,14 +16,15 @@ use Rattle.plan_runs.specs.declared.event.Event.TheVariants.{Do, Lose}
 use Rattle.plan_runs.specs.World.{World}
 use Rattle.plan_runs.specs.Guards.{has_copy, has_other, guards}
 use Rattle.plan_runs.proofs.Passed.{all_met}
-use Rattle.ring_store.specs.Stores.{node_count}
+use Rattle.ring_store.specs.Stores.{shared_space}
 use Rattle.store_tables.specs.declared.slots.SlotNow.{SlotNow}
 use Rattle.store_tables.specs.Slots.{slot_now, ChangesSlot}
-use Rattle.store_tells.proofs.SlotsFit.{may_raise, may_raise_mirrored}
+use Rattle.plan_runs.proofs.Suited.{within as within_ring}
+use Rattle.store_tells.proofs.SlotsFit.{kept_within, may_raise, may_raise_mirrored}
 use Rattle.store_tells.proofs.StepsNow.{step_within, other_within, copy_within}
 use Rattle.store_tells.specs.declared.parts.Parts.{Parts}
 use Rattle.store_tells.specs.Parts.{Meets, IsSound, Passes, ring_of, plan_of, kept_of}
-use Rattle.store_tells.proofs.StoreInWorld.{holds, reached_of, owner_within}
+use Rattle.store_tells.proofs.StoreInWorld.{holds, reached_of}
 use Rattle.store_events.specs.Parties.{mirror_kept}
 use Rattle.store_events.proofs.StepsOn.{no_copy, is_other}
 use Rattle.store_events.proofs.PutAndSlot.{mirror_prop, mirror_fits}
@@ -76,23 +77,23 @@ module _ (a : Parts) (s : IsSound a) where
   may_be_mirrored mid t y change = holds a s (less_prop (slot_now mid t))
       (λ w m. may_raise_mirrored (ring_of a) (plan_of a) a.slots mid w t y m.is_ring m.is_plan (reached_of (ring_of a) (plan_of a) (kept_of a) w m) m.lost m.slots change)
 
-  -- the owner of a slot is one of the nodes that store
-  pub owner_ready : (t : Slot) (x : SlotNow) → Some x ≡ slot_now a.slots t → x.owner.0 < node_count a.stores
-  owner_ready t x at = holds a s (hlevel props) (λ w m. subst (λ (n : ℕ). x.owner.0 < n) (sym s.sized.nodes) (owner_within (ring_of a) (plan_of a) (kept_of a) w m t x (sym at)))
+  -- a slot that is kept is one of those that are stored
+  pub slot_ready : (t : Slot) (x : SlotNow) → Some x ≡ slot_now a.slots t → t.partition < shared_space a.stores
+  slot_ready t x at = holds a s (hlevel props) (λ w m. subst (λ (q : ℕ). t.partition < q) (sym s.sized.space) (within_ring (ring_of a) t (kept_within (ring_of a) (plan_of a) a.slots w t x m.slots (sym at))).0)
 
-  -- so is its mirror, and another one
-  pub mirror_ready : (t : Slot) (x : SlotNow) → Some x ≡ slot_now a.slots t → IfSome x.mirror (λ y. (y.0 < node_count a.stores) × (y.0 ≢ x.owner.0))
-  mirror_ready t x at = holds a s (mirror_prop x.mirror (node_count a.stores) x.owner.0) (λ w m. mirror_fits (ring_of a) (plan_of a) (kept_of a) w m t x (node_count a.stores) s.sized.nodes (sym at))
+  -- its mirror is another node than its owner
+  pub mirror_ready : (t : Slot) (x : SlotNow) → Some x ≡ slot_now a.slots t → IfSome x.mirror (λ y. y.0 ≢ x.owner.0)
+  mirror_ready t x at = holds a s (mirror_prop x.mirror x.owner.0) (λ w m. mirror_fits (ring_of a) (plan_of a) (kept_of a) w m t x (sym at))
 
-  -- whatever node mirrors a slot is one of the nodes that store, and is not the slot's owner
-  pub mirror_stands : (t : Slot) (y : NodeId) → mirror_kept a.slots t ≡ Some y → (y.0 < node_count a.stores) × ((owner : NodeId) → Some owner ≡ option_map (λ x. x.owner) (slot_now a.slots t) → y.0 ≢ owner.0)
+  -- a slot with a mirror is stored, and its owner is another node
+  pub mirror_stands : (t : Slot) (y : NodeId) → mirror_kept a.slots t ≡ Some y → (t.partition < shared_space a.stores) × ((owner : NodeId) → Some owner ≡ option_map (λ x. x.owner) (slot_now a.slots t) → y.0 ≢ owner.0)
   mirror_stands t y = by (slot_now a.slots t) refl
     where
-      by : (o : Option SlotNow) → slot_now a.slots t ≡ o → option_and_then (λ x. x.mirror) o ≡ Some y → (y.0 < node_count a.stores) × ((owner : NodeId) → Some owner ≡ option_map (λ x. x.owner) o → y.0 ≢ owner.0)
+      by : (o : Option SlotNow) → slot_now a.slots t ≡ o → option_and_then (λ x. x.mirror) o ≡ Some y → (t.partition < shared_space a.stores) × ((owner : NodeId) → Some owner ≡ option_map (λ x. x.owner) o → y.0 ≢ owner.0)
       by None at e = absurd cc
       by (Some x) at e =
-          let fits : (y.0 < node_count a.stores) × (y.0 ≢ x.owner.0) = subst (λ (o : Option NodeId). IfSome o (λ z. (z.0 < node_count a.stores) × (z.0 ≢ x.owner.0))) e (mirror_ready t x (sym at)) in
-          (fits.0, λ owner is. subst (λ (z : NodeId). y.0 ≢ z.0) (let same : x.owner ≡ owner = cc in same) fits.1)
+          let apart : y.0 ≢ x.owner.0 = subst (λ (o : Option NodeId). IfSome o (λ z. z.0 ≢ x.owner.0)) e (mirror_ready t x (sym at)) in
+          (slot_ready t x (sym at), λ owner is. subst (λ (z : NodeId). y.0 ≢ z.0) (let same : x.owner ≡ owner = cc in same) apart)
 
   -- ---- losses
 

@@ -11,7 +11,7 @@ use Rattle.ring_versions.specs.declared.version.Version.{Version}
 use Rattle.plan_text.specs.Steps.{is_slot}
 use Rattle.plan_runs.specs.World.{World, is_of_key, key_of_put}
 use Rattle.plan_runs.specs.Effects.{without_puts}
-use Rattle.store_maps.specs.Merges.{at_key}
+use Rattle.store_tells.specs.Numbers.{at_bytes}
 use Rattle.ring_store.specs.Nodes.{at_nodes, at_node}
 use Rattle.ring_store.specs.Slots.{at_slot}
 use Rattle.ring_hints.specs.Views.{is_of, pair_of}
@@ -24,7 +24,7 @@ use Rattle.store_tells.proofs.ShownSets.{none, one, other_test}
 
 -- the version of the put at its key
 module _ (w : World) (clock : ℕ → List Entry) (v : ℕ) (x : Version) (key : List ℕ) (of : key_of_put w v ≡ key) (put : x.put ≡ v) (is : x.clock ≡ clock v) (worth : x.value ≡ value_of w v) where
-  pub put_shows : (k : List ℕ) → Shows clock (value_of w) (at_key key (x ∷ []) k) (λ u. (u == v) && is_of_key w k u)
+  pub put_shows : (k : List ℕ) → Shows clock (value_of w) (at_bytes key (x ∷ []) k) (λ u. (u == v) && is_of_key w k u)
   put_shows k = by (bytes_eq key k) refl
     where
       same_key : (u : ℕ) (b c : Bool) → (u == v) ≡ c → bytes_eq key k ≡ b → (c && b) ≡ (c && is_of_key w k u)

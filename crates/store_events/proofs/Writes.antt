@@ -6,8 +6,8 @@ use Rattle.ring_names.specs.declared.ids.NodeId.{NodeId}
 use Rattle.ring_names.specs.declared.ids.Slot.{Slot}
 use Rattle.ring_table.specs.Value.{RingValue}
 use Rattle.ring_versions.specs.declared.version.Version.{Version}
-use Rattle.store_maps.specs.Merges.{at_key}
-use Rattle.ring_store.specs.Nodes.{MergesAtAll, at_nodes}
+use Rattle.store_tells.specs.Numbers.{at_bytes}
+use Rattle.ring_store.specs.Nodes.{at_nodes}
 use Rattle.ring_store.specs.Slots.{at_slot}
 use Rattle.plan_text.specs.declared.step.Planned.{Planned}
 use Rattle.plan_stage.specs.Clauses.{first_failing}
@@ -28,7 +28,7 @@ use Rattle.store_tables.specs.declared.slots.SlotNow.{SlotNow}
 use Rattle.store_tables.specs.Puts.{with_ticket}
 use Rattle.store_tables.specs.Slots.{slot_now}
 use Rattle.store_tells.specs.Shows.{Shows, value_of}
-use Rattle.store_tells.specs.Stored.{at_mirror, at_served}
+use Rattle.store_tells.specs.Stored.{MergeAll, at_mirror, at_served}
 use Rattle.store_tells.specs.Stored as stored
 use Rattle.store_tells.proofs.StoredGrows.{served_more}
 use Rattle.store_tells.specs.Puts.{clock_in, clock_at, PutMeets}
@@ -60,7 +60,7 @@ served_is ring plan w slot x more y t v now =
 
 -- the version of a put that is kept shows the put
 pub kept_shows : (ring : RingValue) (plan : List Planned) (k : Kept) (w : World) (m : Tells ring plan k w) (v : ℕ) (put : PutNow) (key : List ℕ) → slice_get k.puts v ≡ Some put → slice_get k.keys put.key ≡ Some key
-    → (bs : List ℕ) → Shows (clock_at k.puts) (value_of w) (at_key key put.version bs) (λ u. (u == v) && is_of_key w bs u)
+    → (bs : List ℕ) → Shows (clock_at k.puts) (value_of w) (at_bytes key put.version bs) (λ u. (u == v) && is_of_key w bs u)
 kept_shows ring plan k w m v put key at named bs = elim (both_puts k.keys k.last k.puts w v m.puts) [
   | inl n ↦ absurd (let none = n.0 in cc)
   | inr s ↦ (
@@ -70,7 +70,7 @@ kept_shows ring plan k w m v put key at named bs = elim (both_puts k.keys k.last
       let one : Version = record { put = v; clock = clock_in put.version; value = s.1.value } in
       let clock : clock_in put.version ≡ clock_at k.puts v = ap (λ (o : Option PutNow). elim o [ Some p ↦ clock_in p.version | None ↦ [] ]) (sym at) in
       let value : s.1.value ≡ value_of w v = ap (λ (o : Option PutRecord). elim o [ Some x ↦ x.value | None ↦ [] ]) (sym s.3) in
-      subst (λ (vs : List Version). Shows (clock_at k.puts) (value_of w) (at_key key vs bs) (λ u. (u == v) && is_of_key w bs u)) (sym meets.version)
+      subst (λ (vs : List Version). Shows (clock_at k.puts) (value_of w) (at_bytes key vs bs) (λ u. (u == v) && is_of_key w bs u)) (sym meets.version)
       (put_shows w (clock_at k.puts) v one key of refl clock value bs))
 ]
 
@@ -80,7 +80,7 @@ module _ (ring : RingValue) (plan : List Planned) (k : Kept) (w : World) (m : Te
   write_exists = (all_met (guards ring plan w (Write v i)) passes).0
 
   written_at : (put : PutNow) (key : List ℕ) (served : SlotNow) (new : ℕ → Slot → List ℕ → List Version) → slice_get k.puts v ≡ Some put → slice_get k.keys put.key ≡ Some key → slot_now k.rows (put_slot ring w v i) ≡ Some served
-      → MergesAtAll k.stored (at_nodes served.owner served.mirror (at_slot (put_slot ring w v i) (at_key key put.version))) new
+      → MergeAll k.stored (at_nodes served.owner served.mirror (at_slot (put_slot ring w v i) (at_bytes key put.version))) new
       → (answer ring plan w (Write v i) ≡ Ok (effect ring plan w (Write v i), reply.Ticket (put_slot ring w v i) served.generation))
       × Tells ring plan (record k { stored = new; puts = ticketed k.puts v i served.generation }) (effect ring plan w (Write v i))
   unfolding effect
@@ -96,20 +96,20 @@ module _ (ring : RingValue) (plan : List Planned) (k : Kept) (w : World) (m : Te
             (steps_stay ring plan k.steps w e refl m.steps)
             (ticket_clocks k.puts v i served.generation)
             (puts_written ring plan w (effect ring plan w e) v i served.generation (reply_to ring plan w e) k.keys k.last k.puts reached h now.generation m.puts)
-            (comes ring plan w e passes (clock_at k.puts) k.stored (at_nodes served.owner served.mirror (at_slot slot (at_key key put.version))) new w.stored
+            (comes ring plan w e passes (clock_at k.puts) k.stored (at_nodes served.owner served.mirror (at_slot slot (at_bytes key put.version))) new w.stored
             (λ y t u. at_mirror served.mirror slot (λ z. z == v) y t u || stored.at_node served.owner slot (λ z. z == v) y t u) (effect ring plan w e).stored
             (λ y t u b. (reached.stored y t u b).0)
             (λ y t u b. (let same : u ≡ v = eqb-true u v (served_come served.owner served.mirror slot (λ z. z == v) y t u b) in omega arith))
             (λ y t u. served_more ring plan w slot (λ z. z == v) y t u ∙ ap (λ (b : Bool). b || w.stored y t u) (served_is ring plan w slot served (λ z. z == v) y t u now))
-            m.stored (served_shows w (clock_at k.puts) served.owner served.mirror slot (at_key key put.version) (λ z. z == v) (kept_shows ring plan k w m v put key at named)) merges)
+            m.stored (served_shows w (clock_at k.puts) served.owner served.mirror slot (at_bytes key put.version) (λ z. z == v) (kept_shows ring plan k w m v put key at named)) merges)
             (lasts ring plan w e passes (clock_at k.puts) k.hinted w.hinted (λ y t u b. (reached.hinted y t u b).0) m.hinted),
       )
 
   -- the slot's owner and its mirror have the put, and it has a ticket
   pub written : (put : PutNow) (key : List ℕ) (slot : Slot) (served : SlotNow) (new : ℕ → Slot → List ℕ → List Version) → slice_get k.puts v ≡ Some put → slice_get k.keys put.key ≡ Some key → slot ≡ put_slot ring w v i
-      → slot_now k.rows slot ≡ Some served → MergesAtAll k.stored (at_nodes served.owner served.mirror (at_slot slot (at_key key put.version))) new
+      → slot_now k.rows slot ≡ Some served → MergeAll k.stored (at_nodes served.owner served.mirror (at_slot slot (at_bytes key put.version))) new
       → (u : World) × (answer ring plan w (Write v i) ≡ Ok (u, reply.Ticket slot served.generation)) × Tells ring plan (record k { stored = new; puts = ticketed k.puts v i served.generation }) u
   written put key slot served new at named is kept merges =
       let t = written_at put key served new at named (ap (λ (s : Slot). slot_now k.rows s) (sym is) ∙ kept)
-      (subst (λ (s : Slot). MergesAtAll k.stored (at_nodes served.owner served.mirror (at_slot s (at_key key put.version))) new) is merges) in
+      (subst (λ (s : Slot). MergeAll k.stored (at_nodes served.owner served.mirror (at_slot s (at_bytes key put.version))) new) is merges) in
       (effect ring plan w (Write v i), t.0 ∙ ap (λ (s : Slot). Ok (effect ring plan w (Write v i), reply.Ticket s served.generation)) (sym is), t.1)

@@ -10,8 +10,8 @@ use Rattle.store_tells.specs.SlotsStepped.{StepsSlots}
 use Rattle.store_tells.specs.Kept.{Kept}
 
 -- versions by node, slot and key: those that pass the test are gone, and all others are as before
-abbrev pub Forgets : (ℕ → Slot → Bool) → (ℕ → Slot → List ℕ → List Version) → (ℕ → Slot → List ℕ → List Version) → Type 0
-Forgets gone old new = (y : ℕ) (t : Slot) (key : List ℕ) → new y t key ≡ (if gone y t then [] else old y t key)
+abbrev pub Forgets : {K : Type 0} → (ℕ → Slot → Bool) → (ℕ → Slot → K → List Version) → (ℕ → Slot → K → List Version) → Type 0
+Forgets {K} gone old new = (y : ℕ) (t : Slot) (key : K) → new y t key ≡ (if gone y t then [] else old y t key)
 
 -- a join and a retirement change the node, and a mirror and a switch the slot. A drop takes what the node
 -- stores for the slot

@@ -11,11 +11,11 @@ abbrev pub raised : SlotNow → SlotNow
 raised x = record x { generation = x.generation + 1 }
 
 -- the slot is raised if the node serves it or keeps hints for it, and is as before otherwise
-abbrev pub RaisesGroup : (ℕ → Slot → List ℕ → List Version) → ℕ → Slot → List (List SlotNow) → List (List SlotNow) → Type 0
-RaisesGroup hinted x t old new = (keeps : Bool) × ((keeps ≡ false) ↔ ((key : List ℕ) → hinted x t key ≡ []))
+abbrev pub RaisesGroup : {K : Type 0} → (ℕ → Slot → K → List Version) → ℕ → Slot → List (List SlotNow) → List (List SlotNow) → Type 0
+RaisesGroup {K} hinted x t old new = (keeps : Bool) × ((keeps ≡ false) ↔ ((key : K) → hinted x t key ≡ []))
     × (slot_now new t ≡ (if is_served_kept old t x || keeps then option_map raised (slot_now old t) else slot_now old t))
 
 -- so it is with each slot that passes the test, and all others are as before
-pub record RaisesGroups (hinted : ℕ → Slot → List ℕ → List Version) (x : ℕ) (test : Slot → Bool) (old new : List (List SlotNow)) : Type 0 where
+pub record RaisesGroups {K : Type 0} (hinted : ℕ → Slot → K → List Version) (x : ℕ) (test : Slot → Bool) (old new : List (List SlotNow)) : Type 0 where
   pub each : (t : Slot) → test t ≡ true → RaisesGroup hinted x t old new
   pub others : (t : Slot) → test t ≡ false → slot_now new t ≡ slot_now old t

@@ -3,17 +3,19 @@ use Rattle.std.specs.Prelude.{◌≡◌, ◌≢◌, ℕ, Bool, ◌&&◌, ◌||�
 use Rattle.std.specs.List.{list_all}
 use Rattle.ring_clock.specs.declared.entry.Entry.{Entry}
 use Rattle.ring_versions.specs.declared.version.Version.{Version}
-use Rattle.store_maps.specs.Chunks.{chunk_of}
-use Rattle.ring_store.specs.Nodes.{MergesAtAll, at_node}
+use Rattle.store_maps.specs.Ids.{of_chunk}
+use Rattle.store_tables.specs.KeyTable.{chunk_of}
+use Rattle.ring_store.specs.Nodes.{at_node}
 use Rattle.ring_store.specs.Slots.{at_slot}
-use Rattle.ring_store.specs.Stores.{held_at}
 use Rattle.plan_text.specs.declared.step.Source.{Source}
 use Rattle.plan_text.specs.declared.step.Source.TheVariants.{Owner, Slots}
 use Rattle.ring_names.specs.declared.ids.NodeId.{NodeId}
 use Rattle.ring_names.specs.declared.ids.Slot.{Slot}
 use Rattle.plan_runs.specs.Effects.{source_has}
 use Rattle.plan_runs.specs.World.{World, is_of_key, slot_at}
+use Rattle.store_tells.specs.Numbers.{ArePlaced, in_part}
 use Rattle.store_tells.specs.Shows.{Shows, value_of}
+use Rattle.store_tells.specs.Stored.{MergeAll}
 use Rattle.store_tells.specs.Puts.{clock_at}
 use Rattle.store_tables.specs.declared.slots.SlotNow.{SlotNow}
 use Rattle.store_tables.specs.Slots.{slot_now}
@@ -28,6 +30,10 @@ ShowsChunk q w clock c held test = (k : List ℕ) → chunk_of q k ≡ c → Sho
 abbrev pub Gathers : Parts → ℕ → (List ℕ → List Version) → (List ℕ → List Version) → (World → ℕ → Bool) → Type 0
 Gathers a c old new read = (w : World) → Meets a w → (test : ℕ → Bool)
     → ShowsChunk (ring_of a).q w (clock_at a.puts) c old test → ShowsChunk (ring_of a).q w (clock_at a.puts) c new (λ v. test v || read w v)
+
+-- what is read of the chunk, by number, is gathered so, and is of keys that have numbers
+abbrev pub Takes : Parts → ℕ → (ℕ → List Version) → (ℕ → List Version) → (World → ℕ → Bool) → Type 0
+Takes a c old new read = Gathers a c (in_part a.keys c old) (in_part a.keys c new) read × (ArePlaced a.keys (of_chunk c old) → ArePlaced a.keys (of_chunk c new))
 
 -- whether the slot is kept
 abbrev pub is_kept : List (List SlotNow) → Slot → Bool
@@ -47,5 +53,5 @@ pub record Gives (old new : Parts) (node : NodeId) (slot : Slot) (source : Sourc
   pub versions : List ℕ → List Version
   pub shows : (w : World) → Meets old w → ShowsChunk (ring_of old).q w (clock_at old.puts) c versions (source_has (ring_of old) (plan_of old) w slot source)
   pub others : (k : List ℕ) → chunk_of (ring_of old).q k ≢ c → versions k ≡ []
-  pub merged : MergesAtAll (held_at old.stores) (at_node node.0 (at_slot slot versions)) (held_at new.stores)
-  pub rest : kept_of new ≡ record (kept_of old) { stored = held_at new.stores }
+  pub merged : MergeAll (kept_of old).stored (at_node node.0 (at_slot slot versions)) (kept_of new).stored
+  pub rest : kept_of new ≡ record (kept_of old) { stored = (kept_of new).stored }

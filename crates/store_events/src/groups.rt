@@ -5,8 +5,8 @@ ghost use Rattle.ring_names.specs.declared.ids.Slot.{Slot as TheSlot};
 ghost use Rattle.plan_text.specs.Steps.{is_slot};
 ghost use Rattle.plan_text.specs.Valid.{is_ring_slot};
 ghost use Rattle.ring_hints.specs.Hints.{hinted_at};
-ghost use Rattle.store_tables.specs.Slots.{slot_now};
 ghost use Rattle.store_events.specs.Groups.{RaisesGroups};
+ghost use Rattle.store_tables.specs.Slots.{slot_now};
 
 use crate::served::is_served;
 use ring_hints::Hints;

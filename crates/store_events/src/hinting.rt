@@ -70,9 +70,9 @@ pub fn hint(parts: &mut Parts, put: u32, index: u32, node: NodeId) -> Result<Rep
     let Some(served) = parts.slots.at(slot) else {
         unreachable!()
     };
-    let key = parts.keys.key(now.key);
+    let key = parts.keys.id(now.key);
     let pair = KeptFor { keeper: node, slot };
-    parts.hints.add_set(pair, place.chunk, key, &now.version)?;
+    parts.hints.add_set(pair, key, &now.version)?;
     parts.puts.set_ticket(put, index, served.generation);
     Ok(Reply::Ticket(slot, served.generation))
 }

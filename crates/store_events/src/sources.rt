@@ -3,7 +3,9 @@
 ghost use Rattle.std.specs.Prelude.{◌≡◌, ◌<◌, true, Some, IfOk, IfErr, OnOk, OnErr};
 ghost use Rattle.std.specs.List.{list_any};
 ghost use Rattle.ring_names.specs.declared.refusal.Refusal.TheVariants.{OutOfMemory};
-ghost use Rattle.store_maps.specs.Slots.{space_of, held_for};
+ghost use Rattle.store_maps.specs.Held.{held};
+ghost use Rattle.store_maps.specs.Ids.{of_chunk};
+ghost use Rattle.store_tells.specs.Numbers.{in_part, ArePlaced};
 ghost use Rattle.store_tells.specs.Puts.{clock_at};
 ghost use Rattle.plan_text.specs.declared.step.Source.TheVariants.{Owner, Slots};
 ghost use Rattle.plan_runs.specs.Effects.{source_has};
@@ -11,22 +13,20 @@ ghost use Rattle.plan_runs.specs.Versions.{some_hinted, slot_has};
 ghost use Rattle.plan_runs.specs.World.{World, slot_at, stage_now};
 ghost use Rattle.store_tells.specs.Parts.{ring_of, plan_of, Meets, IsSound, IsSized, Follows, Stays};
 ghost use Rattle.store_events.specs.Parties.{mirror_kept};
-ghost use Rattle.store_events.specs.Sources.{ShowsChunk, Gathers, Gives, are_kept, is_kept, reads_kept};
+ghost use Rattle.store_events.specs.Sources.{ShowsChunk, Takes, Gives, are_kept, is_kept, reads_kept};
 
 use plan_text::Source;
 use ring_hints::KeptFor;
 use ring_names::{NodeId, Refusal, Slot};
 use std::collections::BTreeSet;
-use store_maps::SlotMap;
+use store_maps::KeyMap;
 use store_tells::Parts;
 
-fn add_owner(parts: &Parts, read: &mut SlotMap, slot: Slot, chunk: u32) -> Result<(), Refusal>
+fn add_owner(parts: &Parts, read: &mut KeyMap, slot: Slot, chunk: u32) -> Result<(), Refusal>
     requires chunk { chunk < 16 }
     requires sized { IsSized parts.now }
-    requires space { space_of read.old ≡ (ring_of parts.now).q }
     requires kept { is_kept parts.now.slots slot ≡ true }
-    ensures space { space_of read.new ≡ space_of read.old }
-    ensures ok { OnOk result (Gathers parts.now chunk (held_for read.old) (held_for read.new)
+    ensures ok { OnOk result (Takes parts.now chunk (held read.old) (held read.new)
         (λ w. w.stored (stage_now (ring_of parts.now) (plan_of parts.now) w slot).owner.0 slot)) }
     ensures memory { IfErr result (λ e. e ≡ OutOfMemory) }
 {
@@ -34,23 +34,21 @@ fn add_owner(parts: &Parts, read: &mut SlotMap, slot: Slot, chunk: u32) -> Resul
         unreachable!()
     };
     if let Some(map) = parts.stores.chunk_map(owner, slot, chunk) {
-        read.merge_chunk(chunk, map)?;
+        read.take_in(map)?;
     }
     Ok(())
 }
 
 fn add_keepers(
     parts: &Parts,
-    read: &mut SlotMap,
+    read: &mut KeyMap,
     keepers: &BTreeSet<NodeId>,
     slot: Slot,
     chunk: u32,
 ) -> Result<(), Refusal>
     requires chunk { chunk < 16 }
     requires sized { IsSized parts.now }
-    requires space { space_of read.old ≡ (ring_of parts.now).q }
-    ensures space { space_of read.new ≡ space_of read.old }
-    ensures ok { OnOk result (Gathers parts.now chunk (held_for read.old) (held_for read.new)
+    ensures ok { OnOk result (Takes parts.now chunk (held read.old) (held read.new)
         (λ w v. list_any (λ keeper. w.hinted keeper.0 slot v) keepers.now.keys)) }
     ensures memory { IfErr result (λ e. e ≡ OutOfMemory) }
 {
@@ -60,18 +58,16 @@ fn add_keepers(
             slot,
         };
         if let Some(map) = parts.hints.chunk_map(pair, chunk) {
-            read.merge_chunk(chunk, map)?;
+            read.take_in(map)?;
         }
     }
     Ok(())
 }
 
-fn add_hints(parts: &Parts, read: &mut SlotMap, slot: Slot, chunk: u32) -> Result<(), Refusal>
+fn add_hints(parts: &Parts, read: &mut KeyMap, slot: Slot, chunk: u32) -> Result<(), Refusal>
     requires chunk { chunk < 16 }
     requires sized { IsSized parts.now }
-    requires space { space_of read.old ≡ (ring_of parts.now).q }
-    ensures space { space_of read.new ≡ space_of read.old }
-    ensures ok { OnOk result (Gathers parts.now chunk (held_for read.old) (held_for read.new)
+    ensures ok { OnOk result (Takes parts.now chunk (held read.old) (held read.new)
         (λ w. some_hinted (ring_of parts.now) w slot)) }
     ensures memory { IfErr result (λ e. e ≡ OutOfMemory) }
 {
@@ -83,17 +79,15 @@ fn add_hints(parts: &Parts, read: &mut SlotMap, slot: Slot, chunk: u32) -> Resul
 
 fn add_slots(
     parts: &Parts,
-    read: &mut SlotMap,
+    read: &mut KeyMap,
     partition: u32,
     from: &[u8],
     chunk: u32,
 ) -> Result<(), Refusal>
     requires chunk { chunk < 16 }
     requires sized { IsSized parts.now }
-    requires space { space_of read.old ≡ (ring_of parts.now).q }
     requires kept { are_kept parts.now.slots partition from.now ≡ true }
-    ensures space { space_of read.new ≡ space_of read.old }
-    ensures ok { OnOk result (Gathers parts.now chunk (held_for read.old) (held_for read.new)
+    ensures ok { OnOk result (Takes parts.now chunk (held read.old) (held read.new)
         (λ w v. list_any (λ i. slot_has (ring_of parts.now) (plan_of parts.now) w (slot_at partition i) v) from.now)) }
     ensures memory { IfErr result (λ e. e ≡ OutOfMemory) }
 {
@@ -111,17 +105,17 @@ fn add_slots(
 }
 
 // Reads the chunk for a copy of these slots, merged aside.
-fn read_slots(parts: &Parts, slot: Slot, from: &[u8], chunk: u32) -> Result<SlotMap, Refusal>
+fn read_slots(parts: &Parts, slot: Slot, from: &[u8], chunk: u32) -> Result<KeyMap, Refusal>
     requires chunk { chunk < 16 }
     requires sized { IsSized parts.now }
     requires kept { are_kept parts.now.slots slot.partition from.now ≡ true }
-    ensures space { IfOk result (λ read. space_of read ≡ (ring_of parts.now).q) }
     ensures shows { IfOk result (λ read. (w : World) → Meets parts.now w
-        → ShowsChunk (ring_of parts.now).q w (clock_at parts.now.puts) chunk (held_for read)
+        → ShowsChunk (ring_of parts.now).q w (clock_at parts.now.puts) chunk (in_part parts.now.keys chunk (held read))
         (source_has (ring_of parts.now) (plan_of parts.now) w slot (Slots from.now))) }
+    ensures placed { IfOk result (λ read. ArePlaced parts.now.keys (of_chunk chunk (held read))) }
     ensures memory { IfErr result (λ e. e ≡ OutOfMemory) }
 {
-    let mut read = SlotMap::new(parts.alloc, parts.approved.ring().q())?;
+    let mut read = KeyMap::new(parts.alloc);
     add_slots(parts, &mut read, slot.partition, from, chunk)?;
     Ok(read)
 }
@@ -143,9 +137,7 @@ fn give_slots(
     ensures follows { Follows parts.old parts.new }
 {
     let read = read_slots(parts, slot, from, chunk)?;
-    parts
-        .stores
-        .give_chunk(mirror, slot, chunk, read.chunk(chunk))
+    parts.stores.give_chunk(mirror, slot, chunk, &read)
 }
 
 fn give_owner(parts: &mut Parts, mirror: NodeId, slot: Slot, chunk: u32) -> Result<(), Refusal>

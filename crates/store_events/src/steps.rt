@@ -6,7 +6,7 @@ ghost use Rattle.plan_stage.specs.Clauses.{first_failing};
 ghost use Rattle.plan_runs.specs.declared.event.Event.TheVariants.{Do};
 ghost use Rattle.plan_runs.specs.Guards.{step_guards};
 ghost use Rattle.plan_runs.specs.World.{World};
-ghost use Rattle.store_tells.specs.Parts.{Meets, IsSound, Tests, Passes, Answers, Follows, ring_of, kept_of};
+ghost use Rattle.store_tells.specs.Parts.{Meets, IsSized, IsSound, Tests, Passes, Answers, Follows, ring_of, kept_of};
 ghost use Rattle.store_events.specs.Acts.{Acts};
 
 use crate::kinds::{has_other, is_ready};
@@ -40,6 +40,7 @@ pub fn do_refusal(parts: &Parts, step: u32) -> Option<Refusal>
 }
 
 fn kind_refusal(parts: &Parts, step: &Step) -> Option<Refusal>
+    requires { IsSized parts.now }
     ensures { (w : World) → Meets parts.now w → result ≡ first_failing (step_guards (ring_of parts.now) w step.now) }
 {
     match step {

@@ -44,12 +44,8 @@ pub fn write(parts: &mut Parts, put: u32, index: u32) -> Result<Reply, Refusal>
     let Some(served) = parts.slots.at(slot) else {
         unreachable!()
     };
-    let key = parts.keys.key(now.key);
-    let at = SlotKey {
-        slot,
-        chunk: place.chunk,
-        key,
-    };
+    let key = parts.keys.id(now.key);
+    let at = SlotKey { slot, key };
     parts
         .stores
         .give(&at, served.owner, served.mirror, &now.version)?;

@@ -51,10 +51,6 @@ merge_again a b c d e f first second both m n = record {
   apart = n.apart;
 }
 
--- the same comes twice
-pub merge_twice : (a b c e : List Version) → IsMerge a b c → IsMerge c b e → IsMerge a b e
-merge_twice a b c e m n = merge_again a b c b e b (λ v h. h) (λ v h. h) (λ k h. inl h) m n
-
 -- then nothing comes
 pub merge_then_none : (a b c e : List Version) → IsMerge a b c → IsMerge c [] e → IsMerge a b e
 merge_then_none a b c e m n = merge_again a b c [] e b (λ v h. h) (λ v h. absurd h) (λ k h. inl h) m n

@@ -1,6 +1,6 @@
 -- Facts of one answer among several.
-use Rattle.std.proofs.Common.{◌≡◌, false, refl, sym, subst, Option, Some, None, Result, Ok, Err}
-use Rattle.std.specs.Prelude.{OnOk, OnErr, IfOk, IfSome, IfNone, MatchOption, is_some}
+use Rattle.std.proofs.Common.{◌≡◌, Bool, true, false, cond, refl, sym, subst, Option, Some, None, Result, Ok, Err}
+use Rattle.std.specs.Prelude.{OnOk, OnErr, IfSome, IfNone, MatchOption, is_some}
 
 pub on_ok : {A E : Type 0} (r : Result A E) (P Q : Type 0) → (P → Q) → OnOk r P → OnOk r Q
 on_ok (Ok a) P Q f h = f h
@@ -47,17 +47,12 @@ pub on_none : {X : Type 0} (o : Option X) (P Q : Type 0) → (P → Q) → IfNon
 on_none None P Q f h = f h
 on_none (Some x) P Q f h = tt
 
--- both facts of an `Ok`
-pub both_ok : {A E : Type 0} (r : Result A E) (P Q : A → Type 0) → IfOk r P → IfOk r Q → IfOk r (λ a. P a × Q a)
-both_ok (Ok a) P Q p q = (p, q)
-both_ok (Err e) P Q p q = tt
-
--- from what holds of either case, and what holds of a value
-pub some_of : {X : Type 0} (o : Option X) (P : Type 0) (F G H : X → Type 0) → ((x : X) → F x → G x → H x) → MatchOption o P F → IfSome o G → IfSome o H
-some_of None P F G H h f g = tt
-some_of (Some x) P F G H h f g = h x f g
-
 -- no value, where none can be
 pub none_where : {X : Type 0} (o : Option X) (F : X → Type 0) → ((x : X) → F x → ⊥) → IfSome o F → o ≡ None
 none_where None F h f = refl
 none_where (Some x) F h f = absurd (h x f)
+
+-- what holds of both, whichever it is
+pub either : {X : Type 0} (P : X → Type 0) (b : Bool) (x y : X) → P x → P y → P (cond b x y)
+either P true x y p q = p
+either P false x y p q = q

@@ -1,29 +1,27 @@
 -- What a map has for a key, by what the own tree and the shared map have for it.
-use Rattle.std.proofs.Common.{◌≡◌, ◌⊎◌, inl, inr, ◌∙◌, ℕ, true, false, cond, List, [], refl, sym, ap, subst, Option, Some, None}
+use Rattle.std.proofs.Common.{◌≡◌, ◌≢◌, ◌⊎◌, inl, inr, ◌∙◌, ℕ, true, false, cond, List, [], refl, sym, ap, subst, Option, Some, None}
 use Rattle.std.specs.Arc.{arc_value}
 use Rattle.std.specs.Option.{option_or}
 use Rattle.std.specs.Prelude.{is_some, unwrap_or, MatchOption}
 use Rattle.std.specs.declared.alloc.Global.{Global}
 use Rattle.std.specs.declared.sync.Arc.{Arc}
-use Rattle.std.specs.Str.{bytes_eq}
 use Rattle.std.proofs.lemmas.Bool.{cases_Bool, false_from_ne_true}
-use Rattle.ring_names.proofs.AtBytes.{same_bytes}
 use Rattle.ring_versions.specs.Fresh.{IsFreshFor}
 use Rattle.ring_versions.specs.Versions.{IsApart, IsMerge}
 use Rattle.ring_versions.specs.declared.version.Version.{Version}
 use Rattle.store_maps.specs.Held.{map_entry, below, held, has_place, has_room}
-use Rattle.store_maps.specs.Merges.{MergesAll, at_key, fresh_at, AreFreshFor, AreReady}
+use Rattle.store_maps.specs.Merges.{MergesAll, at_number, fresh_at, AreFreshFor, AreReady}
 use Rattle.store_maps.specs.Trees.{tree_entry, kept, has_entry}
 use Rattle.store_maps.specs.declared.fresh_keys.FreshKeys.{FreshKeys}
 use Rattle.store_maps.specs.declared.key_map.KeyMap.{KeyMap}
 use Rattle.store_maps.specs.declared.key_tree.KeyTree.{KeyTree}
-use Rattle.store_maps.proofs.AtBytes.{by_bytes}
+use Rattle.store_maps.proofs.Sorted.{number_order, by_key}
 use Rattle.store_maps.proofs.MergesInTurn.{merge_none}
 use Rattle.store_maps.proofs.OneAnswer.{at_none, none_to, none_where}
 use Rattle.store_maps.proofs.Puts.{at_other}
 
 -- what one tree or the other has is apart
-pub map_apart : (m : KeyMap) (k : List ℕ) → IsApart (held m k)
+pub map_apart : (m : KeyMap) (k : ℕ) → IsApart (held m k)
 unfolding map_entry
 map_apart m k = either (tree_entry m.own k) (below m.shared k) (m.own.apart k) (lower m.shared)
   where
@@ -74,7 +72,7 @@ module _ (p b : Option (List Version)) where
 -- ---- maps
 
 -- what a map reads that shares nothing
-pub read_alone : (o : Option (Arc KeyTree Global)) (p : Option (List Version)) (k : List ℕ) → o ≡ None → option_or p (below o k) ≡ p
+pub read_alone : (o : Option (Arc KeyTree Global)) (p : Option (List Version)) (k : ℕ) → o ≡ None → option_or p (below o k) ≡ p
 read_alone (Some shared) p k e = absurd cc
 read_alone None (Some v) k e = refl
 read_alone None None k e = refl
@@ -85,29 +83,29 @@ read_under None b e = refl
 read_under (Some v) b e = absurd cc
 
 -- a merge at one key that was brought up
-pub merged_at : (a : KeyMap) (new : KeyTree) (key : List ℕ) (more : List Version) → (has_place a key ≡ true → has_room a key ≡ true) → ((k : List ℕ) → has_room a k ≡ true → has_entry new k ≡ true)
-    → ((k : List ℕ) → has_entry new k ≡ true → (has_room a k ≡ true) ⊎ (k ≡ key)) → MergesAll (kept a.own) (at_key key more) (kept new)
-    → MergesAll (held a) (at_key key more) (λ k. unwrap_or (option_or (tree_entry new k) (below a.shared k)) [])
+pub merged_at : (a : KeyMap) (new : KeyTree) (key : ℕ) (more : List Version) → (has_place a key ≡ true → has_room a key ≡ true) → ((k : ℕ) → has_room a k ≡ true → has_entry new k ≡ true)
+    → ((k : ℕ) → has_entry new k ≡ true → (has_room a k ≡ true) ⊎ (k ≡ key)) → MergesAll (kept a.own) (at_number key more) (kept new)
+    → MergesAll (held a) (at_number key more) (λ k. unwrap_or (option_or (tree_entry new k) (below a.shared k)) [])
 unfolding map_entry
-merged_at a new key more up stays only merged = by_bytes key (λ (k : List ℕ). IsMerge (held a k) (at_key key more k) (unwrap_or (option_or (tree_entry new k) (below a.shared k)) []))
-    (written (tree_entry a.own key) (below a.shared key) (λ v w. IsMerge v (at_key key more key) w) (tree_entry new key) (stays key) up (merged key))
-    (λ k apart. by_place (tree_entry a.own k) (below a.shared k) (λ v w. IsMerge v (at_key key more k) w) (tree_entry new k) (alike k apart) (λ _. merged k)
+merged_at a new key more up stays only merged = by_key number_order key (λ (k : ℕ). IsMerge (held a k) (at_number key more k) (unwrap_or (option_or (tree_entry new k) (below a.shared k)) []))
+    (written (tree_entry a.own key) (below a.shared key) (λ v w. IsMerge v (at_number key more key) w) (tree_entry new key) (stays key) up (merged key))
+    (λ k apart. by_place (tree_entry a.own k) (below a.shared k) (λ v w. IsMerge v (at_number key more k) w) (tree_entry new k) (alike k apart) (λ _. merged k)
     (λ _. subst (λ (v : List Version). IsMerge (held a k) v (held a k)) (sym (at_other key k more apart)) (merge_none (held a k) (map_apart a k))))
   where
-    alike : (k : List ℕ) → bytes_eq key k ≡ false → has_entry new k ≡ has_room a k
+    alike : (k : ℕ) → k ≢ key → has_entry new k ≡ has_room a k
     alike k apart = elim (cases_Bool (has_room a k)) [
       | inl here ↦ stays k here ∙ sym here
-      | inr none ↦ false_from_ne_true (has_entry new k) (λ h. elim (only k h) [ inl here ↦ cc | inr is ↦ (let same = ap (bytes_eq key) is ∙ same_bytes key in cc) ]) ∙ sym none
+      | inr none ↦ false_from_ne_true (has_entry new k) (λ h. elim (only k h) [ inl here ↦ cc | inr is ↦ apart is ]) ∙ sym none
     ]
 
-module _ (a : KeyMap) (new : KeyTree) (f : FreshKeys) (ready : AreReady a f) (places : (k : List ℕ) → has_entry new k ≡ has_room a k)
-    (merged : (more : List ℕ → List Version) → AreFreshFor (kept a.own) more f → MergesAll (kept a.own) more (kept new))
-    (more : List ℕ → List Version) (fresh : AreFreshFor (held a) more f) where
+module _ (a : KeyMap) (new : KeyTree) (f : FreshKeys) (ready : AreReady a f) (places : (k : ℕ) → has_entry new k ≡ has_room a k)
+    (merged : (more : ℕ → List Version) → AreFreshFor (kept a.own) more f → MergesAll (kept a.own) more (kept new))
+    (more : ℕ → List Version) (fresh : AreFreshFor (held a) more f) where
   -- what comes to the own tree
-  abbrev comes : List ℕ → List Version
+  abbrev comes : ℕ → List Version
   comes k = cond (has_room a k) (more k) []
 
-  nothing : (k : List ℕ) → has_room a k ≡ false → fresh_at f k ≡ None
+  nothing : (k : ℕ) → has_room a k ≡ false → fresh_at f k ≡ None
   nothing k none = none_where (fresh_at f k) _ (λ x r. (let here = r.0 in cc)) (ready k)
 
   own_fresh : AreFreshFor (kept a.own) comes f
@@ -125,9 +123,11 @@ module _ (a : KeyMap) (new : KeyTree) (f : FreshKeys) (ready : AreReady a f) (pl
       (λ here. subst (λ (v : List Version). IsMerge (kept a.own k) v (kept new k)) (ap (λ b. cond b (more k) []) here) (merged comes own_fresh k))
       (λ none. at_none (fresh_at f k) _ _ (nothing k none) (fresh k))
 
--- a merge of two maps that were made one tree each
-pub merged_flat : (a b other : KeyMap) (t new : KeyTree) → b.shared ≡ None → ((k : List ℕ) → map_entry b k ≡ map_entry a k) → ((k : List ℕ) → tree_entry t k ≡ map_entry other k) → MergesAll (kept b.own) (kept t) (kept new)
-    → MergesAll (held a) (held other) (λ k. unwrap_or (option_or (tree_entry new k) (below b.shared k)) [])
+-- a key without a place has no room
+pub no_room : (m : KeyMap) (k : ℕ) → has_place m k ≡ false → has_room m k ≡ false
 unfolding map_entry
-merged_flat a b other t new alone same whole merged k =
-    rw (sym (same k), sym (whole k), read_alone b.shared (tree_entry b.own k) k alone, read_alone b.shared (tree_entry new k) k alone) (merged k)
+no_room m k h = by (tree_entry m.own k) (below m.shared k) h
+  where
+    by : (p b : Option (List Version)) → is_some (option_or p b) ≡ false → is_some p ≡ false
+    by None b e = refl
+    by (Some v) b e = e

@@ -1,11 +1,7 @@
 -- What a map from keys to versions holds: its own tree lies over what it shares.
-use Rattle.std.specs.Prelude.{◌≡◌, ◌≢◌, ℕ, Bool, true, List, [], Option, Some, None, is_some, unwrap_or}
+use Rattle.std.specs.Prelude.{◌≡◌, ℕ, Bool, true, List, [], Option, Some, None, is_some, unwrap_or}
 use Rattle.std.specs.Arc.{arc_value}
-use Rattle.std.specs.Cmp.Lexicographic.{slice_cmp}
-use Rattle.std.specs.List.{Contains}
-use Rattle.std.specs.List.Sorted.{IsStrictlySortedBy}
 use Rattle.std.specs.Option.{option_or}
-use Rattle.std.specs.Ordering.{nat_cmp}
 use Rattle.std.specs.declared.alloc.Global.{Global}
 use Rattle.std.specs.declared.sync.Arc.{Arc}
 use Rattle.ring_versions.specs.Fresh.{FitsIn}
@@ -16,33 +12,27 @@ use Rattle.store_maps.specs.declared.key_tree.KeyTree.{KeyTree}
 use Rattle.store_maps.specs.Trees.{tree_entry, has_entry}
 
 -- what is shared has for the key, if anything is shared and the key has a place there
-abbrev pub below : Option (Arc KeyTree Global) → List ℕ → Option (List Version)
+abbrev pub below : Option (Arc KeyTree Global) → ℕ → Option (List Version)
 below None k = None
 below (Some shared) k = tree_entry (arc_value shared) k
 
 -- what the map's own tree has for the key, and otherwise what is shared. Opened only by the map's own calls, so
 -- that no proof above goes through the cases
-unfoldable pub map_entry : KeyMap → List ℕ → Option (List Version)
+unfoldable pub map_entry : KeyMap → ℕ → Option (List Version)
 map_entry a k = option_or (tree_entry a.own k) (below a.shared k)
 
 -- the versions of the key, none where it has no place
-abbrev pub held : KeyMap → List ℕ → List Version
+abbrev pub held : KeyMap → ℕ → List Version
 held a k = unwrap_or (map_entry a k) []
 
 -- whether the key has a place, be it empty
-abbrev pub has_place : KeyMap → List ℕ → Bool
+abbrev pub has_place : KeyMap → ℕ → Bool
 has_place a k = is_some (map_entry a k)
 
 -- whether the key has a place in the map's own tree, so that no memory is needed to change what it has there
-abbrev pub has_room : KeyMap → List ℕ → Bool
+abbrev pub has_room : KeyMap → ℕ → Bool
 has_room a k = has_entry a.own k
 
 -- the key has a place in the map's own tree, and f was made for its versions
-abbrev pub IsReady : KeyMap → List ℕ → Fresh → Type 0
+abbrev pub IsReady : KeyMap → ℕ → Fresh → Type 0
 IsReady a k f = (has_room a k ≡ true) × FitsIn (held a k) f
-
--- the keys that have versions, in ascending byte order
-pub record AreKeys (held : List ℕ → List Version) (keys : List (List ℕ)) : Type 0 where
-  pub rises : IsStrictlySortedBy (slice_cmp nat_cmp) keys
-  pub each : (k : List ℕ) → held k ≢ [] → Contains keys k
-  pub only : (k : List ℕ) → Contains keys k → held k ≢ []

@@ -1,7 +1,9 @@
+pub mod Sorted
 pub mod Places
 pub mod Entries
 pub mod Trees
 pub mod Held
+pub mod Ids
 pub mod Merges
 pub mod Chunks
 pub mod Slots

@@ -2,19 +2,17 @@
 
 use crate::fresh_keys::FreshKeys;
 use crate::key_tree::KeyTree;
-use ring_names::{Listed, Refusal};
+use ring_names::Refusal;
 use ring_versions::{Fresh, Versions};
 use std::alloc::Global;
+use std::collections::BTreeMap;
 use std::mem;
 use std::sync::Arc;
 
-/// Versions by key, in ascending byte order. A key may have an empty place, made before a merge that must not
-/// fail; readers cannot see it.
+/// Versions by a key's number. A key may have an empty place, made before a merge that must not fail; readers
+/// cannot see it.
 ///
-/// Clients choose the keys, so these are ordered and not hashed. A look-up costs the key's length times the
-/// logarithm of the number of places.
-///
-/// Preparations, and refused calls other than `merge_all`, change no reading.
+/// A look-up costs the logarithm of the number of places. Preparations and refused calls change no reading.
 ///
 /// Maps are copy-on-write: the first change of a shared key copies that key, not its versions, into the map's
 /// own tree, an overlay.
@@ -42,14 +40,14 @@ impl KeyMap {
     ghost use Rattle.ring_names.specs.declared.refusal.Refusal.TheVariants.{OutOfMemory};
     ghost use Rattle.ring_versions.specs.Fresh.{IsFreshFor, BringsNothing};
     ghost use Rattle.ring_versions.specs.declared.version.Version.{Version};
-    ghost use Rattle.store_maps.specs.Held.{map_entry, held, has_place, has_room, IsReady, AreKeys};
-    ghost use Rattle.store_maps.specs.Merges.{MergesAll, at_key, AreFreshFor, AreReady, has_fresh};
+    ghost use Rattle.store_maps.specs.Held.{map_entry, held, has_place, has_room, IsReady};
+    ghost use Rattle.store_maps.specs.Merges.{MergesAll, at_number, AreFreshFor, AreReady, has_fresh};
     ghost use Rattle.store_maps.specs.Trees.{kept, tree_entry, has_entry};
 
     /// No versions.
     pub fn new(alloc: Global) -> KeyMap
-        ensures versions { (k : List ℕ) → held result k ≡ [] }
-        ensures places { (k : List ℕ) → has_place result k ≡ false }
+        ensures versions { (k : ℕ) → held result k ≡ [] }
+        ensures places { (k : ℕ) → has_place result k ≡ false }
     {
         KeyMap {
             own: KeyTree::new(alloc),
@@ -57,9 +55,9 @@ impl KeyMap {
         }
     }
 
-    fn entry(&self, key: &[u8]) -> Option<&Versions>
-        ensures some { IfSome result (λ v. map_entry self.now key.now ≡ Some v.now) }
-        ensures none { IfNone result (map_entry self.now key.now ≡ None) }
+    fn entry(&self, key: usize) -> Option<&Versions>
+        ensures some { IfSome result (λ v. map_entry self.now key ≡ Some v.now) }
+        ensures none { IfNone result (map_entry self.now key ≡ None) }
     {
         match (self.own.entries.get(key), &self.shared) {
             (None, Some(shared)) => shared.entries.get(key),
@@ -68,9 +66,9 @@ impl KeyMap {
     }
 
     /// Returns the key's versions, if it has any.
-    pub fn key_versions(&self, key: &[u8]) -> Option<&Versions>
-        ensures some { IfSome result (λ v. (v.now ≡ held self.now key.now) × (v.now ≢ [])) }
-        ensures none { IfNone result (held self.now key.now ≡ []) }
+    pub fn key_versions(&self, key: usize) -> Option<&Versions>
+        ensures some { IfSome result (λ v. (v.now ≡ held self.now key) × (v.now ≢ [])) }
+        ensures none { IfNone result (held self.now key ≡ []) }
     {
         match self.entry(key) {
             Some(versions) if !versions.is_empty() => Some(versions),
@@ -80,7 +78,7 @@ impl KeyMap {
 
     /// Whether no key has a place, for callers that never make empty ones.
     pub fn is_empty(&self) -> bool
-        ensures { IsTrue result ↔ ((k : List ℕ) → has_place self.now k ≡ false) }
+        ensures { IsTrue result ↔ ((k : ℕ) → has_place self.now k ≡ false) }
     {
         match &self.shared {
             Some(shared) => self.own.entries.is_empty() && shared.entries.is_empty(),
@@ -89,7 +87,7 @@ impl KeyMap {
     }
 
     fn alone(&self) -> Option<&KeyTree>
-        ensures { IfSome result (λ t. (k : List ℕ) → tree_entry t.now k ≡ map_entry self.now k) }
+        ensures { IfSome result (λ t. (k : ℕ) → tree_entry t.now k ≡ map_entry self.now k) }
     {
         match &self.shared {
             None => Some(&self.own),
@@ -100,7 +98,7 @@ impl KeyMap {
 
     // One tree with everything. Costs a copy of each key.
     fn flat(&self) -> Result<KeyTree, Refusal>
-        ensures same { IfOk result (λ t. (k : List ℕ) → tree_entry t k ≡ map_entry self.now k) }
+        ensures same { IfOk result (λ t. (k : ℕ) → tree_entry t k ≡ map_entry self.now k) }
         ensures memory { IfErr result (λ e. e ≡ OutOfMemory) }
     {
         let Some(shared) = &self.shared else {
@@ -111,21 +109,9 @@ impl KeyMap {
         Ok(flat)
     }
 
-    /// Returns the keys with versions, in ascending byte order. Costs a walk over the map, and a copy of its keys if
-    /// some changed in the overlay.
-    pub fn keys(&self) -> Result<Vec<Listed<u8>>, Refusal>
-        ensures ok { IfOk result (λ keys. AreKeys (held self.now) keys.items) }
-        ensures memory { IfErr result (λ e. e ≡ OutOfMemory) }
-    {
-        match self.alone() {
-            Some(tree) => tree.keys(),
-            None => self.flat()?.keys(),
-        }
-    }
-
     // Removes sharing. Costs a copy of each key of a map that shares.
     fn unshare(&mut self) -> Result<(), Refusal>
-        ensures same { (k : List ℕ) → map_entry self.new k ≡ map_entry self.old k }
+        ensures same { (k : ℕ) → map_entry self.new k ≡ map_entry self.old k }
         ensures ok { OnOk result (self.new.shared ≡ None) }
         ensures memory { IfErr result (λ e. e ≡ OutOfMemory) }
     {
@@ -138,7 +124,7 @@ impl KeyMap {
 
     // Moves the overlay into the shared tree if no other map has it. Returns whether it did.
     fn put_down(&mut self) -> Result<bool, Refusal>
-        ensures same { (k : List ℕ) → map_entry self.new k ≡ map_entry self.old k }
+        ensures same { (k : ℕ) → map_entry self.new k ≡ map_entry self.old k }
         ensures memory { IfErr result (λ e. e ≡ OutOfMemory) }
     {
         let Some(shared) = &mut self.shared else {
@@ -167,8 +153,8 @@ impl KeyMap {
     /// Others cost a look-up for each key of the overlay if no other map shares, and at most a copy of each
     /// key.
     pub fn share(&mut self) -> Result<(), Refusal>
-        ensures same { (k : List ℕ) → held self.new k ≡ held self.old k }
-        ensures places { (k : List ℕ) → has_place self.new k ≡ has_place self.old k }
+        ensures same { (k : ℕ) → held self.new k ≡ held self.old k }
+        ensures places { (k : ℕ) → has_place self.new k ≡ has_place self.old k }
         ensures memory { IfErr result (λ e. e ≡ OutOfMemory) }
     {
         if self.own.entries.is_empty() || self.put_down()? || self.lies_thinly() {
@@ -190,10 +176,10 @@ impl KeyMap {
     }
 
     // Copies a shared key into the overlay, so that it can change.
-    fn bring_up(&mut self, key: &[u8]) -> Result<(), Refusal>
-        ensures same { (k : List ℕ) → map_entry self.new k ≡ map_entry self.old k }
-        ensures rooms { (k : List ℕ) → has_room self.old k ≡ true → has_room self.new k ≡ true }
-        ensures up { OnOk result (has_place self.new key.now ≡ true → has_room self.new key.now ≡ true) }
+    fn bring_up(&mut self, key: usize) -> Result<(), Refusal>
+        ensures same { (k : ℕ) → map_entry self.new k ≡ map_entry self.old k }
+        ensures rooms { (k : ℕ) → has_room self.old k ≡ true → has_room self.new k ≡ true }
+        ensures up { OnOk result (has_place self.new key ≡ true → has_room self.new key ≡ true) }
         ensures memory { IfErr result (λ e. e ≡ OutOfMemory) }
     {
         let Some(shared) = &self.shared else {
@@ -213,8 +199,8 @@ impl KeyMap {
     ///
     /// Costs a copy of each key changed since the map was shared, or of each key if it never was.
     pub fn try_copy(&self) -> Result<KeyMap, Refusal>
-        ensures same { IfOk result (λ m. (k : List ℕ) → held m k ≡ held self.now k) }
-        ensures places { IfOk result (λ m. (k : List ℕ) → has_place m k ≡ has_place self.now k) }
+        ensures same { IfOk result (λ m. (k : ℕ) → held m k ≡ held self.now k) }
+        ensures places { IfOk result (λ m. (k : ℕ) → has_place m k ≡ has_place self.now k) }
         ensures memory { IfErr result (λ e. e ≡ OutOfMemory) }
     {
         let shared = match &self.shared {
@@ -229,13 +215,13 @@ impl KeyMap {
 
     /// Prepares a merge at one key: makes its place if missing, and what the other versions bring. Costs
     /// `Versions::fresh_of`, and a copy of the key if shared.
-    pub fn prepare(&mut self, key: &[u8], more: &Versions) -> Result<Fresh, Refusal>
-        ensures same { (k : List ℕ) → held self.new k ≡ held self.old k }
-        ensures stays { (k : List ℕ) → has_place self.old k ≡ true → has_place self.new k ≡ true }
-        ensures rooms { (k : List ℕ) → has_room self.old k ≡ true → has_room self.new k ≡ true }
-        ensures only { (k : List ℕ) → has_place self.new k ≡ true → (has_place self.old k ≡ true) ⊎ (k ≡ key.now) }
-        ensures ok { IfOk result (λ f. IsFreshFor (held self.old key.now) more.now f) }
-        ensures ready { IfOk result (λ f. IsReady self.new key.now f) }
+    pub fn prepare(&mut self, key: usize, more: &Versions) -> Result<Fresh, Refusal>
+        ensures same { (k : ℕ) → held self.new k ≡ held self.old k }
+        ensures stays { (k : ℕ) → has_place self.old k ≡ true → has_place self.new k ≡ true }
+        ensures rooms { (k : ℕ) → has_room self.old k ≡ true → has_room self.new k ≡ true }
+        ensures only { (k : ℕ) → has_place self.new k ≡ true → (has_place self.old k ≡ true) ⊎ (k ≡ key) }
+        ensures ok { IfOk result (λ f. IsFreshFor (held self.old key) more.now f) }
+        ensures ready { IfOk result (λ f. IsReady self.new key f) }
         ensures memory { IfErr result (λ e. e ≡ OutOfMemory) }
     {
         self.bring_up(key)?;
@@ -243,56 +229,41 @@ impl KeyMap {
     }
 
     /// Completes a merge at one key. Cannot fail.
-    pub fn settle(&mut self, key: &[u8], fresh: Fresh)
-        requires { IsReady self.old key.now fresh }
-        ensures merged { (more : List Version) → IsFreshFor (held self.old key.now) more fresh
-            → MergesAll (held self.old) (at_key key.now more) (held self.new) }
-        ensures others { (k : List ℕ) → k ≢ key.now → held self.new k ≡ held self.old k }
-        ensures places { (k : List ℕ) → has_place self.new k ≡ has_place self.old k }
-        ensures rooms { (k : List ℕ) → has_room self.new k ≡ has_room self.old k }
+    pub fn settle(&mut self, key: usize, fresh: Fresh)
+        requires { IsReady self.old key fresh }
+        ensures merged { (more : List Version) → IsFreshFor (held self.old key) more fresh
+            → MergesAll (held self.old) (at_number key more) (held self.new) }
+        ensures others { (k : ℕ) → k ≢ key → held self.new k ≡ held self.old k }
+        ensures places { (k : ℕ) → has_place self.new k ≡ has_place self.old k }
+        ensures rooms { (k : ℕ) → has_room self.new k ≡ has_room self.old k }
     {
         self.own.settle(key, fresh);
     }
 
     /// Merges at one key. If refused, nothing changes. Never makes an empty place.
-    pub fn merge(&mut self, key: &[u8], more: &Versions) -> Result<(), Refusal>
-        ensures ok { OnOk result (MergesAll (held self.old) (at_key key.now more.now) (held self.new)) }
-        ensures err { OnErr result ((k : List ℕ) → held self.new k ≡ held self.old k) }
-        ensures stays { (k : List ℕ) → has_place self.old k ≡ true → has_place self.new k ≡ true }
-        ensures only { (k : List ℕ) → has_place self.new k ≡ true → (has_place self.old k ≡ true) ⊎ (k ≡ key.now) }
-        ensures filled { (k : List ℕ) → has_place self.new k ≡ true
+    pub fn merge(&mut self, key: usize, more: &Versions) -> Result<(), Refusal>
+        ensures ok { OnOk result (MergesAll (held self.old) (at_number key more.now) (held self.new)) }
+        ensures err { OnErr result ((k : ℕ) → held self.new k ≡ held self.old k) }
+        ensures stays { (k : ℕ) → has_place self.old k ≡ true → has_place self.new k ≡ true }
+        ensures only { (k : ℕ) → has_place self.new k ≡ true → (has_place self.old k ≡ true) ⊎ (k ≡ key) }
+        ensures filled { (k : ℕ) → has_place self.new k ≡ true
             → (has_place self.old k ≡ true) ⊎ (held self.new k ≢ []) }
-        ensures places { OnErr result ((k : List ℕ) → has_place self.new k ≡ has_place self.old k) }
+        ensures places { OnErr result ((k : ℕ) → has_place self.new k ≡ has_place self.old k) }
         ensures memory { IfErr result (λ e. e ≡ OutOfMemory) }
     {
         self.bring_up(key)?;
         self.own.merge(key, more)
     }
 
-    /// Merges a whole map into one made aside. If refused, some keys may be merged already.
-    ///
-    /// Costs a look-up and a merge for each key of the other map, and a copy of each own key if this one
-    /// shares.
-    pub fn merge_all(&mut self, other: &KeyMap) -> Result<(), Refusal>
-        ensures ok { OnOk result (MergesAll (held self.old) (held other.now) (held self.new)) }
-        ensures memory { IfErr result (λ e. e ≡ OutOfMemory) }
-    {
-        self.unshare()?;
-        match other.alone() {
-            Some(tree) => self.own.merge_all(tree),
-            None => self.own.merge_all(&other.flat()?),
-        }
-    }
-
     // Prepares a merge at one key, which can be changed only if something new comes.
-    fn prepare_new(&mut self, key: &[u8], more: &Versions) -> Result<Fresh, Refusal>
-        ensures same { (k : List ℕ) → held self.new k ≡ held self.old k }
-        ensures stays { (k : List ℕ) → has_place self.old k ≡ true → has_place self.new k ≡ true }
-        ensures rooms { (k : List ℕ) → has_room self.old k ≡ true → has_room self.new k ≡ true }
-        ensures only { (k : List ℕ) → has_place self.new k ≡ true → (has_place self.old k ≡ true) ⊎ (k ≡ key.now) }
-        ensures made { OnOk result (has_place self.new key.now ≡ true) }
-        ensures ok { IfOk result (λ f. IsFreshFor (held self.old key.now) more.now f) }
-        ensures room { IfOk result (λ f. (BringsNothing f) ⊎ (has_room self.new key.now ≡ true)) }
+    fn prepare_new(&mut self, key: usize, more: &Versions) -> Result<Fresh, Refusal>
+        ensures same { (k : ℕ) → held self.new k ≡ held self.old k }
+        ensures stays { (k : ℕ) → has_place self.old k ≡ true → has_place self.new k ≡ true }
+        ensures rooms { (k : ℕ) → has_room self.old k ≡ true → has_room self.new k ≡ true }
+        ensures only { (k : ℕ) → has_place self.new k ≡ true → (has_place self.old k ≡ true) ⊎ (k ≡ key) }
+        ensures made { OnOk result (has_place self.new key ≡ true) }
+        ensures ok { IfOk result (λ f. IsFreshFor (held self.old key) more.now f) }
+        ensures room { IfOk result (λ f. (BringsNothing f) ⊎ (has_room self.new key ≡ true)) }
         ensures memory { IfErr result (λ e. e ≡ OutOfMemory) }
     {
         let Some(versions) = self.entry(key) else {
@@ -306,22 +277,24 @@ impl KeyMap {
     }
 
     fn prepare_tree(&mut self, other: &KeyTree) -> Result<FreshKeys, Refusal>
-        ensures same { (k : List ℕ) → held self.new k ≡ held self.old k }
-        ensures stays { (k : List ℕ) → has_place self.old k ≡ true → has_place self.new k ≡ true }
-        ensures rooms { (k : List ℕ) → has_room self.old k ≡ true → has_room self.new k ≡ true }
-        ensures only { (k : List ℕ) → has_place self.new k ≡ true
+        ensures same { (k : ℕ) → held self.new k ≡ held self.old k }
+        ensures stays { (k : ℕ) → has_place self.old k ≡ true → has_place self.new k ≡ true }
+        ensures rooms { (k : ℕ) → has_room self.old k ≡ true → has_room self.new k ≡ true }
+        ensures only { (k : ℕ) → has_place self.new k ≡ true
             → (has_place self.old k ≡ true) ⊎ (has_entry other.now k ≡ true) }
-        ensures made { OnOk result ((k : List ℕ) → has_entry other.now k ≡ true → has_place self.new k ≡ true) }
-        ensures keys { IfOk result (λ f. (k : List ℕ) → has_fresh f k ≡ true → has_entry other.now k ≡ true) }
+        ensures made { OnOk result ((k : ℕ) → has_entry other.now k ≡ true → has_place self.new k ≡ true) }
+        ensures keys { IfOk result (λ f. (k : ℕ) → has_fresh f k ≡ true → has_entry other.now k ≡ true) }
         ensures ok { IfOk result (λ f. AreFreshFor (held self.old) (kept other.now) f) }
         ensures ready { IfOk result (λ f. AreReady self.new f) }
         ensures memory { IfErr result (λ e. e ≡ OutOfMemory) }
     {
-        let mut keys = FreshKeys::new(self.own.alloc);
+        let mut keys = FreshKeys {
+            map: BTreeMap::new(self.own.alloc),
+        };
         'keys: for (key, versions) in other.entries.walk() {
-            let fresh = self.prepare_new(key.as_slice(), versions)?;
+            let fresh = self.prepare_new(*key, versions)?;
             if !fresh.is_empty() {
-                keys.put(key.as_slice(), fresh)?;
+                keys.put(*key, fresh)?;
             }
         }
         Ok(keys)
@@ -332,13 +305,13 @@ impl KeyMap {
     /// Costs two look-ups and a merge for each key of the other map. If some keys changed in its overlay, also
     /// costs a copy of its keys.
     pub fn prepare_all(&mut self, other: &KeyMap) -> Result<FreshKeys, Refusal>
-        ensures same { (k : List ℕ) → held self.new k ≡ held self.old k }
-        ensures stays { (k : List ℕ) → has_place self.old k ≡ true → has_place self.new k ≡ true }
-        ensures rooms { (k : List ℕ) → has_room self.old k ≡ true → has_room self.new k ≡ true }
-        ensures only { (k : List ℕ) → has_place self.new k ≡ true
+        ensures same { (k : ℕ) → held self.new k ≡ held self.old k }
+        ensures stays { (k : ℕ) → has_place self.old k ≡ true → has_place self.new k ≡ true }
+        ensures rooms { (k : ℕ) → has_room self.old k ≡ true → has_room self.new k ≡ true }
+        ensures only { (k : ℕ) → has_place self.new k ≡ true
             → (has_place self.old k ≡ true) ⊎ (has_place other.now k ≡ true) }
-        ensures made { OnOk result ((k : List ℕ) → has_place other.now k ≡ true → has_place self.new k ≡ true) }
-        ensures keys { IfOk result (λ f. (k : List ℕ) → has_fresh f k ≡ true → has_place other.now k ≡ true) }
+        ensures made { OnOk result ((k : ℕ) → has_place other.now k ≡ true → has_place self.new k ≡ true) }
+        ensures keys { IfOk result (λ f. (k : ℕ) → has_fresh f k ≡ true → has_place other.now k ≡ true) }
         ensures ok { IfOk result (λ f. AreFreshFor (held self.old) (held other.now) f) }
         ensures ready { IfOk result (λ f. AreReady self.new f) }
         ensures memory { IfErr result (λ e. e ≡ OutOfMemory) }
@@ -352,10 +325,10 @@ impl KeyMap {
     /// Completes a merge with a whole map. Cannot fail. Costs a look-up for each key that gets something.
     pub fn settle_all(&mut self, fresh: FreshKeys)
         requires { AreReady self.old fresh }
-        ensures merged { (more : List ℕ → List Version) → AreFreshFor (held self.old) more fresh
+        ensures merged { (more : ℕ → List Version) → AreFreshFor (held self.old) more fresh
             → MergesAll (held self.old) more (held self.new) }
-        ensures places { (k : List ℕ) → has_place self.new k ≡ has_place self.old k }
-        ensures rooms { (k : List ℕ) → has_room self.new k ≡ has_room self.old k }
+        ensures places { (k : ℕ) → has_place self.new k ≡ has_place self.old k }
+        ensures rooms { (k : ℕ) → has_room self.new k ≡ has_room self.old k }
     {
         self.own.settle_all(fresh);
     }
@@ -369,9 +342,9 @@ impl KeyMap {
 
     fn put_over(&mut self, other: &KeyMap) -> Result<(), Refusal>
         ensures ok { OnOk result (MergesAll (held self.old) (held other.now) (held self.new)) }
-        ensures err { OnErr result ((k : List ℕ) → held self.new k ≡ held self.old k) }
-        ensures stays { (k : List ℕ) → has_place self.old k ≡ true → has_place self.new k ≡ true }
-        ensures only { (k : List ℕ) → has_place self.new k ≡ true
+        ensures err { OnErr result ((k : ℕ) → held self.new k ≡ held self.old k) }
+        ensures stays { (k : ℕ) → has_place self.old k ≡ true → has_place self.new k ≡ true }
+        ensures only { (k : ℕ) → has_place self.new k ≡ true
             → (has_place self.old k ≡ true) ⊎ (has_place other.now k ≡ true) }
         ensures memory { IfErr result (λ e. e ≡ OutOfMemory) }
     {
@@ -389,9 +362,9 @@ impl KeyMap {
     /// two look-ups and a merge.
     pub fn take_in(&mut self, other: &KeyMap) -> Result<(), Refusal>
         ensures ok { OnOk result (MergesAll (held self.old) (held other.now) (held self.new)) }
-        ensures err { OnErr result ((k : List ℕ) → held self.new k ≡ held self.old k) }
-        ensures stays { (k : List ℕ) → has_place self.old k ≡ true → has_place self.new k ≡ true }
-        ensures only { (k : List ℕ) → has_place self.new k ≡ true
+        ensures err { OnErr result ((k : ℕ) → held self.new k ≡ held self.old k) }
+        ensures stays { (k : ℕ) → has_place self.old k ≡ true → has_place self.new k ≡ true }
+        ensures only { (k : ℕ) → has_place self.new k ≡ true
             → (has_place self.old k ≡ true) ⊎ (has_place other.now k ≡ true) }
         ensures memory { IfErr result (λ e. e ≡ OutOfMemory) }
     {

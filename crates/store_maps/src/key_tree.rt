@@ -4,11 +4,11 @@ ghost use Rattle.store_maps.specs.Entries.{entries_of, IsInOrder, IsInOrder-prop
 ghost use Rattle.store_maps.specs.Places.{AreApart, AreApart-prop};
 
 use crate::entries::Entries;
-use ring_names::{Listed, Refusal};
+use ring_names::Refusal;
 use ring_versions::Versions;
 use std::alloc::Global;
 
-/// Versions by key, in ascending byte order: a map's own part or its shared one.
+/// Versions by key, in ascending order: a map's own part or its shared one.
 #[derive(Drop)]
 pub struct KeyTree {
     pub(crate) alloc: Global,
@@ -18,18 +18,18 @@ pub struct KeyTree {
 }
 
 impl KeyTree {
-    ghost use Rattle.std.specs.Prelude.{◌≡◌, ◌⊎◌, ℕ, true, List, None, IfOk, IfErr, OnOk, OnErr};
+    ghost use Rattle.std.specs.Prelude.{◌≡◌, ◌⊎◌, ℕ, true, None, IfOk, IfErr, OnOk, OnErr};
     ghost use Rattle.std.specs.Option.{option_or};
     ghost use Rattle.ring_names.specs.declared.refusal.Refusal.TheVariants.{OutOfMemory};
     ghost use Rattle.ring_versions.specs.Versions.{IsApart};
-    ghost use Rattle.store_maps.specs.Entries.{PutsAt};
-    ghost use Rattle.store_maps.specs.Held.{AreKeys};
+    ghost use Rattle.std.specs.Ordering.{nat_cmp};
+    ghost use Rattle.store_maps.specs.Places.{value_in};
+    ghost use Rattle.store_maps.specs.Sorted.{PutsAt};
     ghost use Rattle.store_maps.specs.Trees.{tree_entry, kept, has_entry};
-    ghost use Rattle.ring_names.specs.AtBytes.{value_in};
 
     /// No versions.
     pub fn new(alloc: Global) -> KeyTree
-        ensures { (k : List ℕ) → tree_entry result k ≡ None }
+        ensures { (k : ℕ) → tree_entry result k ≡ None }
     {
         KeyTree {
             alloc,
@@ -37,24 +37,9 @@ impl KeyTree {
         }
     }
 
-    /// Returns the keys with versions, in ascending byte order.
-    pub fn keys(&self) -> Result<Vec<Listed<u8>>, Refusal>
-        ensures ok { IfOk result (λ keys. AreKeys (kept self.now) keys.items) }
-        ensures memory { IfErr result (λ e. e ≡ OutOfMemory) }
-    {
-        let mut keys = Vec::new(self.alloc);
-        'keys: for (key, versions) in self.entries.walk() {
-            if !versions.is_empty() {
-                let bytes = Vec::from_slice(self.alloc, key.as_slice())?;
-                keys.push(Listed::from_vec(bytes))?;
-            }
-        }
-        Ok(keys)
-    }
-
     /// Copies the tree.
     pub fn try_copy(&self) -> Result<KeyTree, Refusal>
-        ensures same { IfOk result (λ t. (k : List ℕ) → tree_entry t k ≡ tree_entry self.now k) }
+        ensures same { IfOk result (λ t. (k : ℕ) → tree_entry t k ≡ tree_entry self.now k) }
         ensures memory { IfErr result (λ e. e ≡ OutOfMemory) }
     {
         let mut copy = KeyTree::new(self.alloc);
@@ -64,13 +49,13 @@ impl KeyTree {
 
     /// Sets all keys of the other to its versions. If refused, some keys may be set already.
     pub fn put_all(&mut self, other: &KeyTree) -> Result<(), Refusal>
-        ensures ok { OnOk result ((k : List ℕ)
+        ensures ok { OnOk result ((k : ℕ)
             → tree_entry self.new k ≡ option_or (tree_entry other.now k) (tree_entry self.old k)) }
-        ensures others { (k : List ℕ) → tree_entry other.now k ≡ None → tree_entry self.new k ≡ tree_entry self.old k }
+        ensures others { (k : ℕ) → tree_entry other.now k ≡ None → tree_entry self.new k ≡ tree_entry self.old k }
         ensures memory { IfErr result (λ e. e ≡ OutOfMemory) }
     {
         'keys: for (key, versions) in other.entries.walk() {
-            self.put(key.as_slice(), versions.try_copy()?)?;
+            self.put(*key, versions.try_copy()?)?;
         }
         Ok(())
     }
@@ -80,12 +65,12 @@ impl KeyTree {
         self.entries.len()
     }
 
-    pub(crate) fn put(&mut self, key: &[u8], versions: Versions) -> Result<(), Refusal>
+    pub(crate) fn put(&mut self, key: usize, versions: Versions) -> Result<(), Refusal>
         requires { IsApart versions }
-        ensures ok { OnOk result (PutsAt (entries_of self.old.entries) (entries_of self.new.entries) key.now versions) }
-        ensures err { OnErr result ((k : List ℕ)
+        ensures ok { OnOk result (PutsAt nat_cmp (entries_of self.old.entries) (entries_of self.new.entries) key versions) }
+        ensures err { OnErr result ((k : ℕ)
             → value_in (entries_of self.new.entries) k ≡ value_in (entries_of self.old.entries) k) }
-        ensures only { (k : List ℕ) → has_entry self.new k ≡ true → (has_entry self.old k ≡ true) ⊎ (k ≡ key.now) }
+        ensures only { (k : ℕ) → has_entry self.new k ≡ true → (has_entry self.old k ≡ true) ⊎ (k ≡ key) }
         ensures memory { IfErr result (λ e. e ≡ OutOfMemory) }
     {
         self.entries.put(self.alloc, key, versions)

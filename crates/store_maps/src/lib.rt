@@ -3,21 +3,20 @@
 //! A function without a `Result` takes no memory.
 #![tactic(auto)]
 
-mod all_keys;
 mod entries;
 mod fresh_keys;
-mod fresh_maps;
 mod holders;
+mod key_id;
 mod key_map;
 mod key_tree;
-mod lengthen;
-mod one_key;
+mod lists;
+mod merges;
 mod slot_map;
 mod walk;
-mod whole_slot;
 
 pub use fresh_keys::FreshKeys;
-pub use fresh_maps::FreshMaps;
 pub use holders::Holders;
+pub use key_id::KeyId;
 pub use key_map::KeyMap;
+pub use lists::{lengthen, place_of};
 pub use slot_map::SlotMap;

@@ -8,18 +8,18 @@ use std::collections::btree_map;
 
 #[derive(Drop)]
 pub(crate) enum Walk<'a> {
-    Few(&'a [(Vec<u8>, Versions)]),
-    Many(btree_map::Iter<'a, Vec<u8>, Versions>),
+    Few(&'a [(usize, Versions)]),
+    Many(btree_map::Iter<'a, usize, Versions>),
 }
 
 impl<'a> Iterator for Walk<'a> {
-    type Item = (&'a Vec<u8>, &'a Versions);
+    type Item = (&'a usize, &'a Versions);
 
     ghost next_gives = { TakesNext };
 
     ghost remaining = { item_count left_of };
 
-    fn next(&mut self) -> Option<(&'a Vec<u8>, &'a Versions)> {
+    fn next(&mut self) -> Option<(&'a usize, &'a Versions)> {
         match self {
             Walk::Few(rest) => {
                 let (first, later) = rest.split_first()?;

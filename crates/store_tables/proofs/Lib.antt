@@ -4,4 +4,3 @@ pub mod Bits
 pub mod Reading
 pub mod Marked
 pub mod Ticketing
-pub mod Tied

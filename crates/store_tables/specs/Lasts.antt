@@ -1,15 +1,15 @@
 -- The last put of each writer on each key.
-use Rattle.std.specs.Prelude.{ℕ, Option}
-use Rattle.std.specs.declared.cmp.Ordering.{Ordering}
-use Rattle.std.specs.Ordering.{nat_cmp, ordering_then}
-use Rattle.std.specs.BTreeMap.{get}
-use Rattle.store_tables.specs.declared.lasts.KeyWriter.{KeyWriter}
+use Rattle.std.specs.Prelude.{ℕ, List, Option, slice_get}
+use Rattle.std.specs.Option.{option_and_then}
+use Rattle.std.specs.Ordering.{nat_cmp}
+use Rattle.store_maps.specs.Sorted.{value_by}
 use Rattle.store_tables.specs.declared.lasts.Lasts.{Lasts}
+use Rattle.store_tables.specs.declared.lasts.Row.{Row}
 
--- the order of the keys, and where they are the same that of the writers
-abbrev pub by_key : KeyWriter → KeyWriter → Ordering
-by_key x y = ordering_then (nat_cmp x.key y.key) (nat_cmp x.writer y.writer)
+-- the last put of the writer in the key's row
+abbrev pub last_in : List Row → ℕ → ℕ → Option ℕ
+last_in rows k w = option_and_then (λ row. value_by nat_cmp row.puts.items w) (slice_get rows k)
 
 -- the last put of the writer on the key, if there is one
 abbrev pub last_of : Lasts → ℕ → ℕ → Option ℕ
-last_of lasts k w = get by_key lasts.puts (record { key = k; writer = w })
+last_of lasts = last_in lasts.rows.items

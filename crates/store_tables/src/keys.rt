@@ -6,11 +6,14 @@ ghost use Rattle.ring_names.specs.declared.refusal.Refusal.TheVariants.{OutOfMem
 ghost use Rattle.ring_names.specs.Names.{place as number_in, with_name};
 ghost use Rattle.ring_names.specs.Space.{is_space};
 ghost use Rattle.ring_space.specs.Place.{place_of};
+ghost use Rattle.store_maps.specs.Ids.{id};
+ghost use Rattle.store_tables.specs.KeyTable.{chunk_of};
 
 use ring_names::{Numbered, Refusal};
 use ring_space::{Place, place};
 use std::alloc::Global;
 use std::marker::Model;
+use store_maps::KeyId;
 
 /// The keys of puts and gets, numbered by first sight from 0. A look-up costs that of `Numbered`.
 ///
@@ -77,17 +80,6 @@ impl Keys {
         Ok(number)
     }
 
-    /// Returns the key of this number.
-    pub fn key(&self, number: usize) -> &[u8]
-        requires { number < length self.now.keys }
-        ensures { slice_get self.now.keys number ≡ Some result.now }
-    {
-        match self.keys.get(number) {
-            Some(key) => key,
-            None => unreachable!(),
-        }
-    }
-
     /// Returns the place of the key.
     pub fn place(&self, number: usize) -> Place
         requires { number < length self.now.keys }
@@ -96,5 +88,16 @@ impl Keys {
         ensures chunk { result.chunk < 16 }
     {
         self.places[number]
+    }
+
+    /// Returns the id of the key of this number.
+    #[tactic(auto, unfolding(crate::specs::KeyTable::chunk_of))]
+    pub fn id(&self, number: usize) -> KeyId
+        requires { number < length self.now.keys }
+        ensures id { option_map (λ key. id (chunk_of self.now.q key) number) (slice_get self.now.keys number) ≡ Some result }
+        ensures chunk { result.chunk < 16 }
+    {
+        let chunk = self.place(number).chunk;
+        KeyId { chunk, number }
     }
 }

@@ -1,32 +1,66 @@
 //! The last put of each writer on each key.
 
-ghost use Rattle.std.specs.Prelude.{◌≡◌, ◌&&◌, ◌==◌, ℕ, Some, None, IfErr, OnOk, OnErr, if◌then◌else◌};
+ghost use Rattle.std.specs.List.Sorted.{IsStrictlySortedBy-prop};
+ghost use Rattle.std.specs.Map.{keys_of};
+ghost use Rattle.std.specs.Ordering.{nat_cmp};
+ghost use Rattle.std.specs.Prelude.{◌≡◌, ◌&&◌, ◌==◌, ℕ, Some, None, IfErr, OnOk, OnErr, is_ok, if◌then◌else◌};
 ghost use Rattle.ring_names.specs.declared.refusal.Refusal.TheVariants.{OutOfMemory};
-ghost use Rattle.store_tables.specs.Lasts.{last_of};
+ghost use Rattle.store_maps.specs.Sorted.{Ascends, value_by};
 
 use ring_names::{Refusal, WriterId};
 use std::alloc::Global;
-use std::collections::BTreeMap;
+use store_maps::{lengthen, place_of};
 
-#[derive(Clone, Copy, Debug, PartialEq, Eq, PartialOrd, Ord)]
-struct KeyWriter {
-    key: usize,
-    writer: u32,
+// The writers of one key, ascending, and their last puts.
+#[derive(Drop)]
+struct Row {
+    puts: Vec<(u32, u32)>,
+    ghost order: { Ascends nat_cmp puts.items } by { IsStrictlySortedBy-prop nat_cmp (keys_of puts.items) },
 }
 
-/// The last put of each writer on each key, by their numbers. The map is ordered, since clients choose the keys.
+impl Row {
+    fn get(&self, writer: u32) -> Option<u32>
+        ensures { result ≡ value_by nat_cmp self.now.puts.items writer }
+    {
+        match place_of(self.puts.as_slice(), &writer) {
+            Ok(place) => Some(self.puts[place].1),
+            Err(_) => None,
+        }
+    }
+
+    fn set(&mut self, writer: u32, put: u32) -> Result<(), Refusal>
+        ensures set { (w : ℕ) → value_by nat_cmp self.new.puts.items w
+            ≡ (if is_ok result && (w == writer) then Some put else value_by nat_cmp self.old.puts.items w) }
+        ensures memory { IfErr result (λ e. e ≡ OutOfMemory) }
+    {
+        match place_of(self.puts.as_slice(), &writer) {
+            Ok(place) => self.puts[place].1 = put,
+            Err(place) => {
+                lengthen(&mut self.puts)?;
+                self.puts.insert(place, (writer, put))?;
+            }
+        }
+        Ok(())
+    }
+}
+
+/// The last put of each writer on each key, by their numbers. A look-up costs the logarithm of the key's writers.
 #[derive(Drop)]
 pub struct Lasts {
-    puts: BTreeMap<KeyWriter, u32>,
+    alloc: Global,
+    rows: Vec<Row>,
 }
 
 impl Lasts {
+    ghost use Rattle.store_tables.specs.Lasts.{last_of};
+
     /// No puts.
     pub fn new(alloc: Global) -> Lasts
         ensures { (k w : ℕ) → last_of result k w ≡ None }
     {
         Lasts {
-            puts: BTreeMap::new(alloc),
+            alloc,
+            rows: Vec::new(alloc),
         }
     }
 
@@ -34,19 +68,21 @@ impl Lasts {
     pub fn get(&self, key: usize, writer: WriterId) -> Option<u32>
         ensures { result ≡ last_of self.now key writer.0 }
     {
-        let writer = writer.0;
-        self.puts.get(&KeyWriter { key, writer }).copied()
+        self.rows.get(key)?.get(writer.0)
     }
 
-    /// Sets the writer's last put on the key.
+    /// Sets the writer's last put on the key. Rows are made up to the key.
     pub fn set(&mut self, key: usize, writer: WriterId, put: u32) -> Result<(), Refusal>
         ensures ok { OnOk result ((k w : ℕ)
             → last_of self.new k w ≡ (if (k == key) && (w == writer.0) then Some put else last_of self.old k w)) }
         ensures err { OnErr result ((k w : ℕ) → last_of self.new k w ≡ last_of self.old k w) }
         ensures memory { IfErr result (λ e. e ≡ OutOfMemory) }
     {
-        let writer = writer.0;
-        self.puts.insert(KeyWriter { key, writer }, put)?;
-        Ok(())
+        'rows: while self.rows.len() <= key {
+            self.rows.push(Row {
+                puts: Vec::new(self.alloc),
+            })?;
+        }
+        self.rows[key].set(writer.0, put)
     }
 }

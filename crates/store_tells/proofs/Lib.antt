@@ -22,6 +22,7 @@ pub mod SlotsFit
 pub mod StageGuards
 pub mod SlotsGuards
 pub mod PutsLists
+pub mod Numbers
 pub mod PutsFrames
 pub mod GetsFrames
 pub mod PutsChanges

@@ -15,7 +15,7 @@ use Rattle.plan_runs.specs.Reached.{Reached}
 use Rattle.plan_runs.specs.Versions.{is_in_chunk}
 use Rattle.plan_runs.specs.World.{World, some_below, key_of_put, is_of_key, slot_at, keeps, keeps_other, keeps_any}
 use Rattle.plan_runs.proofs.Passing.{some_found, some_is}
-use Rattle.store_maps.specs.Chunks.{chunk_of}
+use Rattle.store_tables.specs.KeyTable.{chunk_of}
 use Rattle.store_tells.specs.Puts.{clock_at}
 use Rattle.store_tells.proofs.PutsFrames.{put_key}
 use Rattle.store_tells.specs.Kept.{Kept, Tells}

@@ -15,6 +15,7 @@ pub mod GuardsKept
 pub mod PutsTests
 pub mod GetsTests
 pub mod HintsFit
+pub mod Numbers
 pub mod Kept
 pub mod Parts
 pub mod LeastDown

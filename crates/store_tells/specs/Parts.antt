@@ -1,5 +1,5 @@
 -- What a running store's parts say of a world, and how events change both.
-use Rattle.std.specs.Prelude.{◌≡◌, List, length, Option, None, Ok}
+use Rattle.std.specs.Prelude.{◌≡◌, ℕ, List, Option, None, Ok}
 use Rattle.ring_names.specs.declared.refusal.Refusal.{Refusal}
 use Rattle.ring_table.specs.Value.{RingValue}
 use Rattle.plan_text.specs.declared.step.Planned.{Planned}
@@ -10,9 +10,12 @@ use Rattle.plan_runs.specs.Answers.{answer}
 use Rattle.plan_runs.specs.Guards.{guards}
 use Rattle.plan_runs.specs.World.{World}
 use Rattle.store_tables.specs.Lasts.{last_of}
-use Rattle.ring_store.specs.Stores.{held_at, node_count, shared_space}
-use Rattle.ring_hints.specs.Hints.{hinted_at, partitions}
+use Rattle.ring_names.specs.declared.ids.Slot.{Slot}
+use Rattle.ring_store.specs.Stores.{held_at, shared_space}
+use Rattle.ring_hints.specs.Hints.{hinted_at}
 use Rattle.store_tells.specs.Kept.{Kept, Tells}
+use Rattle.store_tells.specs.Numbers.{by_keys, ArePlaced}
+use Rattle.store_tells.specs.Puts.{AreNumbered}
 use Rattle.store_tells.specs.declared.parts.Parts.{Parts}
 
 -- the ring and the plan that it follows
@@ -33,20 +36,21 @@ kept_of a = record {
   puts = a.puts;
   gets = a.gets;
   losses = a.losses;
-  stored = held_at a.stores;
-  hinted = hinted_at a.hints;
+  stored = by_keys a.keys (held_at a.stores);
+  hinted = by_keys a.keys (hinted_at a.hints);
 }
 
 -- the store is in that world
 abbrev pub Meets : Parts → World → Type 0
 Meets a w = Tells (ring_of a) (plan_of a) (kept_of a) w
 
--- the parts are of the ring's size
+-- the parts are of the ring's size, and nothing is stored or kept but of keys that have numbers
 pub record IsSized (a : Parts) : Type 0 where
   pub space : shared_space a.stores ≡ (ring_of a).q
-  pub nodes : node_count a.stores ≡ length (ring_of a).nodes
-  pub hints : partitions a.hints ≡ (ring_of a).q
   pub keys : a.keys.q ≡ (ring_of a).q
+  pub numbered : AreNumbered a.keys.keys
+  pub stored : (x : ℕ) (s : Slot) → ArePlaced a.keys (held_at a.stores x s)
+  pub hinted : (x : ℕ) (s : Slot) → ArePlaced a.keys (hinted_at a.hints x s)
 
 -- and the store is in some world
 pub record IsSound (a : Parts) : Type 0 where

@@ -45,7 +45,7 @@ impl<'a> Parts<'a> {
         let nodes = Nodes::start(alloc, ring)?;
         let steps = Steps::start(alloc, approved.plan().len())?;
         let slots = Slots::start(alloc, ring)?;
-        let stores = Stores::start(alloc, q, ring.nodes().len() as u32)?;
+        let stores = Stores::start(alloc, q)?;
         Ok(Parts {
             alloc,
             approved,
@@ -57,7 +57,7 @@ impl<'a> Parts<'a> {
             puts: Puts::new(alloc),
             gets: Gets::new(alloc),
             stores,
-            hints: Hints::new(alloc, q),
+            hints: Hints::new(alloc),
             losses: 0,
         })
     }

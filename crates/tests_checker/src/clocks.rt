@@ -1,6 +1,6 @@
 //! Clocks and versions of three puts: two concurrent ones, and one of the same writers that has seen both.
 
-ghost use Rattle.std.specs.Prelude.{◌≡◌, IfOk, length};
+ghost use Rattle.std.specs.Prelude.{◌≡◌, ◌≢◌, [], IfOk, length};
 
 use crate::same::{holds, same};
 use ring_clock::{Cause, Clock, Entry, clocks};
@@ -79,7 +79,9 @@ fn version(alloc: Global, put: u32, clock: &Clock) -> Result<Version, Refusal> {
     }
 }
 
-pub fn set_of(alloc: Global, put: u32, clock: &Clock) -> Result<Versions, Refusal> {
+pub fn set_of(alloc: Global, put: u32, clock: &Clock) -> Result<Versions, Refusal>
+    ensures { IfOk result (λ set. set ≢ []) }
+{
     Versions::of(alloc, version(alloc, put, clock)?)
 }
 

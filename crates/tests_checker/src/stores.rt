@@ -1,37 +1,47 @@
 //! What nodes store and keep: calls succeed with enough memory.
 
-ghost use Rattle.std.specs.Prelude.{◌≡◌, ◌<◌};
-ghost use Rattle.store_maps.specs.Chunks.{chunk_of};
-ghost use Rattle.ring_store.specs.Stores.{node_count, shared_space};
+ghost use Rattle.std.specs.Prelude.{◌≢◌, ◌<◌, [], IfOk};
+ghost use Rattle.ring_store.specs.Stores.{shared_space};
 
 use crate::clocks::set_of;
 use crate::same::{holds, same};
 use ring_clock::Clock;
 use ring_hints::{Hints, KeptFor, Pairs, Sets};
 use ring_names::{NodeId, Refusal, Slot, WriterId};
-use ring_space::place;
-use ring_store::{NodeStore, SlotKey, Stores};
+use ring_store::{SlotKey, Stores};
 use ring_versions::Versions;
 use std::alloc::Global;
 use std::process::Abort;
 use std::test::Fail;
-use store_maps::KeyMap;
+use store_maps::{KeyId, KeyMap, SlotMap};
 
 const SLOT: Slot = Slot {
     partition: 0,
     index: 1,
 };
 
-fn a_set(alloc: Global) -> Result<Versions, Refusal> {
+const KEY: KeyId = KeyId {
+    chunk: 3,
+    number: 5,
+};
+
+const AT: SlotKey = SlotKey {
+    slot: SLOT,
+    key: KEY,
+};
+
+fn a_set(alloc: Global) -> Result<Versions, Refusal>
+    ensures { IfOk result (λ set. set ≢ []) }
+{
     let clock = Clock::new(alloc).bump(WriterId(0))?;
     set_of(alloc, 7, &clock)
 }
 
 fn merged_in_halves<RT: Abort>(rt: &RT, map: &mut KeyMap, set: &Versions) -> Result<(), Fail> {
-    let fresh = map.prepare(b"b", set)?;
-    holds!(rt; map.key_versions(b"b").is_none());
-    map.settle(b"b", fresh);
-    holds!(rt; map.key_versions(b"b").is_some());
+    let fresh = map.prepare(1, set)?;
+    holds!(rt; map.key_versions(1).is_none());
+    map.settle(1, fresh);
+    holds!(rt; map.key_versions(1).is_some());
     Ok(())
 }
 
@@ -41,15 +51,14 @@ fn maps_merged<RT: Abort>(
     map: &mut KeyMap,
     first: &mut KeyMap,
 ) -> Result<(), Fail> {
-    map.merge(b"a", set)?;
+    map.merge(0, set)?;
     merged_in_halves(rt, map, set)?;
     first.take_in(map)?;
-    first.merge_all(map)?;
     let fresh = first.prepare_all(map)?;
     first.settle_all(fresh);
     first.take_in(map)?;
-    same!(rt; first.keys()?.len(), 2);
-    same!(rt; first.try_copy()?.keys()?.len(), 2);
+    holds!(rt; first.key_versions(0).is_some());
+    holds!(rt; first.try_copy()?.key_versions(1).is_some());
     Ok(())
 }
 
@@ -151,24 +160,6 @@ fn numbers_of_pairs(rt: HostRuntime) -> Result<(), Fail> {
     Ok(())
 }
 
-#[tactic(auto, using(store_maps::proofs::KeyPlaces::chunk_at))]
-fn stored<RT: Abort>(rt: &RT, store: &mut NodeStore, set: &Versions) -> Result<(), Fail> {
-    let chunk = place(store.q(), b"a").chunk;
-    store.merge_key(SLOT, chunk, b"a", set)?;
-    holds!(rt; store.key_versions(SLOT, b"a").is_some());
-    same!(rt; store.chunk_keys(SLOT, 3)?.len(), 1);
-    holds!(rt; store.try_copy()?.key_versions(SLOT, b"a").is_some());
-    Ok(())
-}
-
-#[test]
-#[tactic(auto, unfolding(ring_names::specs::Space::is_space))]
-fn stores_of_nodes(rt: HostRuntime) -> Result<(), Fail> {
-    let stores = Stores::start(rt.alloc(), 4, 2)?;
-    holds!(rt; stores.chunk_map(NodeId(1), SLOT, 3).is_none());
-    Ok(())
-}
-
 fn count_of(set: &Versions) -> usize {
     let mut count = 0_usize;
     let mut walk = set.versions();
@@ -178,10 +169,8 @@ fn count_of(set: &Versions) -> usize {
     count
 }
 
-fn versions_of<RT: Abort>(rt: &RT, stores: &Stores, at: &SlotKey, node: NodeId, count: usize)
-    requires { chunk_of (shared_space stores.now) at.now.key.now ≡ at.now.chunk }
-{
-    let found = match stores.key_versions_in(node, at.slot, at.chunk, at.key) {
+fn versions_of<RT: Abort>(rt: &RT, stores: &Stores, node: NodeId, count: usize) {
+    let found = match stores.key_versions_in(node, &AT) {
         Some(versions) => count_of(versions),
         None => 0,
     };
@@ -192,79 +181,100 @@ fn versions_of<RT: Abort>(rt: &RT, stores: &Stores, at: &SlotKey, node: NodeId, 
 fn copied_apart<RT: Abort>(
     rt: &RT,
     stores: &mut Stores,
-    at: &SlotKey,
     set: &Versions,
     more: &Versions,
     writer: NodeId,
     reader: NodeId,
 ) -> Result<(), Fail>
-    requires chunk { chunk_of (shared_space stores.old) at.now.key.now ≡ at.now.chunk }
-    requires sixteen { at.now.chunk < 16 }
-    requires nodes { 1 < node_count stores.old }
-    requires writer { writer.0 < node_count stores.old }
+    requires { 0 < shared_space stores.old }
 {
-    stores.give(at, NodeId(0), None, set)?;
-    stores.copy_chunk(NodeId(0), NodeId(1), at.slot, at.chunk)?;
-    stores.give(at, writer, None, more)?;
-    versions_of(rt, stores, at, writer, 2);
-    versions_of(rt, stores, at, reader, 1);
+    stores.give(&AT, NodeId(0), None, set)?;
+    stores.copy_chunk(NodeId(0), NodeId(1), SLOT, KEY.chunk)?;
+    stores.give(&AT, writer, None, more)?;
+    versions_of(rt, stores, writer, 2);
+    versions_of(rt, stores, reader, 1);
     Ok(())
 }
 
 #[test]
-#[tactic(auto, unfolding(ring_names::specs::Space::is_space), using(store_maps::proofs::KeyPlaces::chunk_at))]
 fn copies_of_chunks(rt: HostRuntime) -> Result<(), Fail> {
     let set = a_set(rt.alloc())?;
     let more = set_of(rt.alloc(), 8, &Clock::new(rt.alloc()).bump(WriterId(1))?)?;
-    let mut first = Stores::start(rt.alloc(), 4, 2)?;
-    let mut second = Stores::start(rt.alloc(), 4, 2)?;
-    let at = SlotKey {
-        slot: SLOT,
-        chunk: place(4, b"a").chunk,
-        key: b"a",
-    };
-    copied_apart(&rt, &mut first, &at, &set, &more, NodeId(0), NodeId(1))?;
-    copied_apart(&rt, &mut second, &at, &set, &more, NodeId(1), NodeId(0))
+    let mut first = Stores::start(rt.alloc(), 4)?;
+    let mut second = Stores::start(rt.alloc(), 4)?;
+    copied_apart(&rt, &mut first, &set, &more, NodeId(0), NodeId(1))?;
+    copied_apart(&rt, &mut second, &set, &more, NodeId(1), NodeId(0))
+}
+
+// The second node gets the key with its slot or with its chunk, and loses it each time.
+fn given<RT: Abort>(rt: &RT, stores: &mut Stores, map: &SlotMap) -> Result<(), Fail>
+    requires { 0 < shared_space stores.old }
+{
+    stores.give_slot(SLOT, NodeId(0), Some(NodeId(1)), map)?;
+    versions_of(rt, stores, NodeId(1), 1);
+    stores.drop_slot(NodeId(1), SLOT);
+    versions_of(rt, stores, NodeId(1), 0);
+    stores.give_chunk(NodeId(1), SLOT, KEY.chunk, map.chunk(KEY.chunk))?;
+    versions_of(rt, stores, NodeId(1), 1);
+    stores.clear(NodeId(1));
+    holds!(rt; stores.chunk_map(NodeId(1), SLOT, KEY.chunk).is_none());
+    versions_of(rt, stores, NodeId(0), 1);
+    Ok(())
 }
 
 #[test]
-#[tactic(auto, unfolding(ring_names::specs::Space::is_space))]
-fn stores_of_keys(rt: HostRuntime) -> Result<(), Fail> {
+fn stores_of_nodes(rt: HostRuntime) -> Result<(), Fail> {
     let set = a_set(rt.alloc())?;
-    let mut store = NodeStore::new(rt.alloc(), 4);
-    stored(&rt, &mut store, &set)
+    let mut stores = Stores::start(rt.alloc(), 4)?;
+    let mut map = SlotMap::new(rt.alloc());
+    holds!(rt; map.is_empty());
+    map.merge(KEY, &set)?;
+    holds!(rt; map.key_versions(KEY).is_some());
+    given(&rt, &mut stores, &map)
 }
 
 fn kept_by<RT: Abort>(rt: &RT, hints: &Hints, count: usize) {
-    let found = match hints.key_keepers(SLOT, b"a") {
+    let found = match hints.key_keepers(SLOT, KEY) {
         Some(nodes) => nodes.len(),
         None => 0,
     };
     same!(rt; found, count);
 }
 
-// One node keeps the key, in a copy too, and none after it is taken.
-fn forgotten<RT: Abort>(rt: &RT, hints: &mut Hints) -> Result<(), Fail> {
+// What one node keeps reads the same on every way to it.
+fn kept_for<RT: Abort>(rt: &RT, hints: &Hints, pair: KeptFor) {
     kept_by(rt, hints, 1);
-    kept_by(rt, &hints.try_copy()?, 1);
-    hints.take(NodeId(3), SLOT);
+    holds!(rt; hints.keeps(pair.keeper, pair.slot));
+    holds!(rt; hints.keeps_any(pair.keeper));
+    holds!(rt; !hints.keeps_other(pair.keeper, pair.slot));
+    holds!(rt; hints.keeps_chunk(pair.keeper, pair.slot, KEY.chunk));
+    holds!(rt; hints.keepers(pair.slot).is_some());
+    same!(rt; hints.nth(0), Some((pair.keeper, pair.slot)));
+    holds!(rt; hints.map(pair).is_some());
+    holds!(rt; hints.chunk_map(pair, KEY.chunk).is_some());
+    holds!(rt; hints.key_versions_in(pair, KEY).is_some());
+}
+
+fn hinted<RT: Abort>(rt: &RT, hints: &mut Hints, set: &Versions) -> Result<(), Fail>
+    requires { set.now ≢ [] }
+{
+    let pair = KeptFor {
+        keeper: NodeId(3),
+        slot: SLOT,
+    };
+    hints.add_set(pair, KEY, set)?;
+    kept_for(rt, hints, pair);
+    holds!(rt; hints.take(pair.keeper, SLOT).is_some());
+    kept_by(rt, hints, 0);
+    hints.add_set(pair, KEY, set)?;
+    hints.drop_keeper(pair.keeper);
     kept_by(rt, hints, 0);
     Ok(())
 }
 
-fn hinted<RT: Abort>(rt: &RT, hints: &mut Hints, set: &Versions) -> Result<(), Fail> {
-    if let Some(version) = set.first() {
-        hints.add(NodeId(3), SLOT, b"a", version)?;
-    }
-    holds!(rt; hints.keeps(NodeId(3), SLOT));
-    same!(rt; hints.nth(0), Some((NodeId(3), SLOT)));
-    forgotten(rt, hints)
-}
-
 #[test]
-#[tactic(auto, unfolding(ring_names::specs::Space::is_space))]
 fn hints_of_keepers(rt: HostRuntime) -> Result<(), Fail> {
     let set = a_set(rt.alloc())?;
-    let mut hints = Hints::new(rt.alloc(), 4);
+    let mut hints = Hints::new(rt.alloc());
     hinted(&rt, &mut hints, &set)
 }

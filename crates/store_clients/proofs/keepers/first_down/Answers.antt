@@ -7,14 +7,14 @@ use Rattle.store_clients.proofs.keepers.first_down.Goals as goal
 
 pub returns-then-not-is_up : goal.returns-then-not-is_up
 returns-then-not-is_up c =
-    let held = λ (x : ℕ). hinted_at c.args.hints.now x c.args.place.now.slot c.args.place.now.key.now in
+    let held = λ (x : ℕ). hinted_at c.args.hints.now x c.args.place.now.slot c.args.place.now.key in
     let y = c.in-Some.keeper.now in
     passing_stops (is_up_at c.args.nodes.now) held c.args.keepers.now.keys c.keepers.keeper-iterator c.next.new.self y (c.in-Some.ensures).steps c.requires.others (sym c.is_up.ensures ∙ c.if-not-is_up.true)
     (has_some c.key_versions_in.result (λ v. v.now) (held y.0) c.key_versions_in.ensures.some (sym c.is_some.ensures ∙ c.if-is_some.true)) c.keepers.invariant
 
 pub keepers-preserved : goal.keepers-preserved
 keepers-preserved c =
-    let held = λ (x : ℕ). hinted_at c.args.hints.now x c.args.place.now.slot c.args.place.now.key.now in
+    let held = λ (x : ℕ). hinted_at c.args.hints.now x c.args.place.now.slot c.args.place.now.key in
     let y = c.in-Some.keeper.now in
     passing_more (is_up_at c.args.nodes.now) held c.args.keepers.now.keys c.keepers.keeper-iterator c.next.new.self y (c.in-Some.ensures).steps
     (elim c.else-is_some.branch [

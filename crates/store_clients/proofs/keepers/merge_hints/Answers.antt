@@ -12,13 +12,13 @@ use Rattle.store_clients.proofs.keepers.merge_hints.Goals as goal
 
 pub keepers-init : goal.keepers-init
 keepers-init c =
-    let others = λ (x : ℕ). hinted_at c.args.hints.now x c.args.place.now.slot c.args.place.now.key.now in
+    let others = λ (x : ℕ). hinted_at c.args.hints.now x c.args.place.now.slot c.args.place.now.key in
     let keys = c.args.keepers.now.keys in
     subst (λ (rest : List NodeId). Merging c.args.all.now keys rest others c.args.all.now) (sym c.into_iter-keeper-iterator.ensures.into_iter_gives.0) (merging_none c.args.all.now keys others c.requires.apart)
 
 pub keepers-preserved-in-keepers : goal.keepers-preserved-in-keepers
 keepers-preserved-in-keepers c =
-    let others = λ (x : ℕ). hinted_at c.args.hints.now x c.args.place.now.slot c.args.place.now.key.now in
+    let others = λ (x : ℕ). hinted_at c.args.hints.now x c.args.place.now.slot c.args.place.now.key in
     let more = c.merge.new.self in
     let held = (c.in-Some-key_versions_in.ensures).some.0 in
     merging_more c.args.all.now c.args.keepers.now.keys c.keepers.keeper-iterator c.next.new.self others c.keepers.all more c.in-Some.keeper.now (c.in-Some.ensures).steps
@@ -26,7 +26,7 @@ keepers-preserved-in-keepers c =
 
 pub keepers-preserved : goal.keepers-preserved
 keepers-preserved c =
-    let others = λ (x : ℕ). hinted_at c.args.hints.now x c.args.place.now.slot c.args.place.now.key.now in
+    let others = λ (x : ℕ). hinted_at c.args.hints.now x c.args.place.now.slot c.args.place.now.key in
     let all = c.keepers.all in
     let apart = c.keepers.invariant.apart in
     let y = c.in-Some.keeper.now.0 in
@@ -38,4 +38,4 @@ keepers-preserved c =
 
 pub returns-clause-ok : goal.returns-clause-ok
 returns-clause-ok c =
-    merging_all c.args.all.now c.args.keepers.now.keys c.keepers.keeper-iterator (λ (x : ℕ). hinted_at c.args.hints.now x c.args.place.now.slot c.args.place.now.key.now) c.keepers.all (c.in-None.ensures).steps.0 c.keepers.invariant
+    merging_all c.args.all.now c.args.keepers.now.keys c.keepers.keeper-iterator (λ (x : ℕ). hinted_at c.args.hints.now x c.args.place.now.slot c.args.place.now.key) c.keepers.all (c.in-None.ensures).steps.0 c.keepers.invariant

@@ -13,10 +13,10 @@ returns-clause-ok c =
     let stored = held_at a.stores in
     elim c.match-owner.branch [
       | in-Some+in-Some-key_versions_in+in_ok-merge w ↦
-          subst (λ (xs : List Version). IsMerge [] (owned_at a.slots stored c.args.slot c.args.key.now) xs) (sym w.all-is)
-          (owner_merged a.slots stored c.args.slot c.args.key.now w.in-Some.owner c.new-all.result w.in-Some-key_versions_in.held.now w.merge.new.self w.in-Some.ensures c.new-all.ensures
+          subst (λ (xs : List Version). IsMerge [] (owned_at a.slots stored c.args.at.now.slot c.args.at.now.key) xs) (sym w.all-is)
+          (owner_merged a.slots stored c.args.at.now.slot c.args.at.now.key w.in-Some.owner c.new-all.result w.in-Some-key_versions_in.held.now w.merge.new.self w.in-Some.ensures c.new-all.ensures
           (w.in-Some-key_versions_in.ensures).some.0 (w.in_ok-merge.ensures).ok)
       | in-Some+in_default-key_versions_in w ↦
-          owner_has_none a.slots stored c.args.slot c.args.key.now w.in-Some.owner c.match-owner.all w.in-Some.ensures (w.all-is ∙ c.new-all.ensures) (w.in_default-key_versions_in.ensures).none
-      | in_default w ↦ no_owner a.slots stored c.args.slot c.args.key.now c.match-owner.all w.in_default.ensures (w.all-is ∙ c.new-all.ensures)
+          owner_has_none a.slots stored c.args.at.now.slot c.args.at.now.key w.in-Some.owner c.match-owner.all w.in-Some.ensures (w.all-is ∙ c.new-all.ensures) (w.in_default-key_versions_in.ensures).none
+      | in_default w ↦ no_owner a.slots stored c.args.at.now.slot c.args.at.now.key c.match-owner.all w.in_default.ensures (w.all-is ∙ c.new-all.ensures)
     ]

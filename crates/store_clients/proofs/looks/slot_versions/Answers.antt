@@ -11,14 +11,14 @@ use Rattle.store_clients.proofs.looks.slot_versions.Goals.{in-Some+in_ok-merge_h
 use Rattle.store_clients.proofs.looks.slot_versions.Goals as goal
 
 pub merge_hints-requires-clause-told : goal.merge_hints-requires-clause-told
-merge_hints-requires-clause-told c = tells_copy _ c.in_ok-all.all _ (c.in_ok-all.ensures).ok c.requires.told
+merge_hints-requires-clause-told c = tells_copy _ c.in_ok-all.all _ (c.in_ok-all.ensures).ok c.requires
 
 pub returns-clause-ok : goal.returns-clause-ok
 returns-clause-ok c =
     let a = c.args.parts.now in
-    let key = c.args.key.now in
-    let owned = owned_at a.slots (held_at a.stores) c.args.slot key in
-    let others = λ (x : ℕ). hinted_at a.hints x c.args.slot key in
+    let at = c.args.at.now in
+    let owned = owned_at a.slots (held_at a.stores) at.slot at.key in
+    let others = λ (x : ℕ). hinted_at a.hints x at.slot at.key in
     let mid = c.in_ok-all.all in
     let copied = (c.in_ok-all.ensures).ok in
     elim c.match-key_keepers.branch [

@@ -1,11 +1,17 @@
-use Rattle.std.proofs.Common.{◌≡◌, ◌∙◌, ℕ, ◌<◌, length, sym, ap, subst, arith}
+use Rattle.std.proofs.Common.{◌≡◌, ◌∙◌, ℕ, ◌<◌, List, length, sym, ap, subst, arith}
 use Rattle.std.specs.Prelude.{Some, slice_get, option_map}
 use Rattle.std.proofs.Props.{props}
 use Rattle.ring_space.specs.Place.{place_of}
 use Rattle.ring_table.specs.Value.{RingValue}
+use Rattle.ring_hints.specs.Hints.{hinted_at}
+use Rattle.ring_versions.specs.declared.version.Version.{Version}
+use Rattle.plan_runs.specs.World.{slot_at}
+use Rattle.store_tables.specs.Nodes.{is_up_at}
+use Rattle.store_clients.specs.Reads.{StopsRead}
+use Rattle.store_tells.proofs.Numbers.{id_named, others_named}
 use Rattle.store_tells.specs.Parts.{ring_of, plan_of, kept_of}
 use Rattle.store_tells.proofs.StoreInWorld.{holds}
-use Rattle.store_clients.proofs.SlotHasOfKey.{get_key_there, chunk_is}
+use Rattle.store_clients.proofs.SlotHasOfKey.{get_key_there}
 use Rattle.store_clients.proofs.SlotReads.{no_get, no_slot, get_ended, slot_read, nodes_stop}
 use Rattle.store_clients.proofs.reads.read_refusal.Goals.{In-Some, After-n}
 use Rattle.store_clients.proofs.reads.read_refusal.Goals as goal
@@ -44,13 +50,8 @@ returns-then-has c w m =
 pub place-place-requires : goal.place-place-requires
 place-place-requires c = key_there (goal.at.place-place-requires c).In-Some
 
-pub key-key-requires : goal.key-key-requires
-key-key-requires c = key_there (goal.at.key-key-requires c).In-Some
-
-pub down_refusal-requires : goal.down_refusal-requires
-down_refusal-requires c =
-    let s = c.requires.sized in
-    chunk_is _ _ c.args.parts.now.keys.keys c.in-Some.now.now.key c.place-place.result c.key-key.result.now (s.keys ∙ sym s.hints) c.place-place.ensures.place c.key-key.ensures
+pub id-key-requires : goal.id-key-requires
+id-key-requires c = key_there (goal.at.id-key-requires c).In-Some
 
 pub returns : goal.returns
 returns c w m =
@@ -59,5 +60,8 @@ returns c w m =
     let place = c.place-place.result in
     let n = n_is (goal.at.returns c).After-n in
     let lies = subst (λ (q : ℕ). option_map (place_of q) (slice_get a.keys.keys get.key) ≡ Some place) c.requires.sized.keys c.place-place.ensures.place in
-    nodes_stop (ring_of a) (plan_of a) (kept_of a) w m c.args.get c.args.index get (sym c.in-Some.ensures) (omega arith) place c.key-key.result.now c.down_refusal.result
-    (sym c.is_some.ensures ∙ c.if-is_some.false) (sym c.has.ensures ∙ c.if-has.false) lies c.key-key.ensures c.down_refusal.ensures
+    let key = id_named a.keys get.key c.id-key.result c.id-key.ensures.id in
+    let slot = slot_at place.partition c.args.index in
+    let stops = subst (λ (f : ℕ → List Version). StopsRead a.slots (is_up_at a.nodes) f slot c.down_refusal.result) (sym (others_named a.keys (hinted_at a.hints) slot get.key c.id-key.result key.0 c.requires.sized.numbered key.1 key.2)) c.down_refusal.ensures in
+    nodes_stop (ring_of a) (plan_of a) (kept_of a) w m c.args.get c.args.index get (sym c.in-Some.ensures) (omega arith) place key.0 c.down_refusal.result
+    (sym c.is_some.ensures ∙ c.if-is_some.false) (sym c.has.ensures ∙ c.if-has.false) lies key.1 stops

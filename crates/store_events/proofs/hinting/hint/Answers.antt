@@ -1,17 +1,22 @@
-use Rattle.std.proofs.Common.{◌≡◌, ◌∙◌, List, sym, ap, subst}
+use Rattle.std.proofs.Common.{◌≡◌, ℕ, List, refl, sym, subst}
+use Rattle.ring_names.specs.declared.ids.Slot.{Slot}
+use Rattle.ring_versions.specs.declared.version.Version.{Version}
+use Rattle.store_maps.proofs.OneAnswer.{always_err}
 use Rattle.std.specs.Prelude.{Ok}
 use Rattle.std.proofs.Props.{props}
 use Rattle.plan_runs.specs.declared.event.Event.TheVariants.{Hint}
 use Rattle.plan_runs.specs.declared.event.Reply.TheVariants as reply
 use Rattle.plan_runs.specs.Answers.{answer}
 use Rattle.plan_runs.specs.World.{World, slot_at}
-use Rattle.store_maps.specs.Chunks.{chunk_of}
+use Rattle.ring_hints.specs.Views.{is_of, pair_of}
 use Rattle.ring_hints.specs.Hints.{hinted_at}
 use Rattle.store_tables.specs.declared.puts.PutNow.{PutNow}
 use Rattle.store_tells.specs.Kept.{Tells}
+use Rattle.store_tells.specs.Numbers.{by_keys}
+use Rattle.store_tells.proofs.Numbers.{id_named, kept_as, kept_at, placed_as, placed_kept}
 use Rattle.store_tells.specs.Parts.{ring_of, plan_of, kept_of}
 use Rattle.store_tells.proofs.StoreInWorld.{holds}
-use Rattle.store_events.proofs.PutAndSlot.{key_within, version_some, put_kept, put_slot_in_ring, partition_within, chunk_is, slot_is, slot_kept, index_few}
+use Rattle.store_events.proofs.PutAndSlot.{key_within, version_some, put_kept, put_slot_in_ring, partition_within, slot_is, slot_kept, index_few}
 use Rattle.store_events.proofs.Hints.{hint_exists, hinted}
 use Rattle.store_events.proofs.hinting.hint.Goals as goal
 
@@ -36,16 +41,10 @@ unreachable-requires-in_default-at c =
     place.partition (partition_within (ring_of a) (plan_of a) (kept_of a) w m c.args.put c.in-Some.now.now (sym c.in-Some.ensures) a.keys.q c.requires.sound.sized.keys place c.place-place.ensures.place))
     (sym c.in_default-at.ensures))
 
-pub key-key-requires : goal.key-key-requires
-key-key-requires c =
+pub id-key-requires : goal.id-key-requires
+id-key-requires c =
     let a = c.args.parts.now in
     holds a c.requires.sound (hlevel props) (λ w m. key_within (ring_of a) (plan_of a) (kept_of a) w m c.args.put c.in-Some.now.now (sym c.in-Some.ensures))
-
-pub add_set-requires-clause-chunk : goal.add_set-requires-clause-chunk
-add_set-requires-clause-chunk c =
-    let a = c.args.parts.now in
-    holds a c.requires.sound (hlevel props) (λ w m. ap (λ q. chunk_of q c.key-key.result.now) c.requires.sound.sized.hints
-    ∙ chunk_is (ring_of a) (plan_of a) (kept_of a) w m c.args.put c.in-Some.now.now (sym c.in-Some.ensures) a.keys.q c.requires.sound.sized.keys c.place-place.result c.place-place.ensures.place c.key-key.result.now c.key-key.ensures)
 
 pub add_set-requires-clause-some : goal.add_set-requires-clause-some
 add_set-requires-clause-some c =
@@ -72,8 +71,45 @@ returns-clause-ok c w m =
     let place = c.place-place.result in
     let served = c.in-Some-at.served in
     let slot = slot_at place.partition c.args.index in
+    let key = id_named a.keys put.key c.id-key.result c.id-key.ensures.id in
+    let kept = by_keys a.keys (hinted_at c.add_set.new.self) in
+    let merged = kept_at a.keys c.requires.sound.sized.numbered put.key c.id-key.result key.0 key.1 key.2 put.version (is_of (pair_of c.args.node.0 slot)) (hinted_at a.hints) (hinted_at c.add_set.new.self) (c.in_ok-add_set.ensures).ok in
     subst (λ (puts : List PutNow). (u : World) × (answer (ring_of a) (plan_of a) w (Hint c.args.put c.args.index c.args.node) ≡ Ok (u, reply.Ticket slot served.generation))
-    × Tells (ring_of a) (plan_of a) (record (kept_of a) { hinted = hinted_at c.add_set.new.self; puts = puts }) u) (sym c.set_ticket.ensures.put)
-    (hinted (ring_of a) (plan_of a) (kept_of a) w m c.args.put c.args.index c.args.node (sym (c.requires.passes w m)) put c.key-key.result.now slot served (hinted_at c.add_set.new.self) at c.key-key.ensures
+    × Tells (ring_of a) (plan_of a) (record (kept_of a) { hinted = kept; puts = puts }) u) (sym c.set_ticket.ensures.put)
+    (hinted (ring_of a) (plan_of a) (kept_of a) w m c.args.put c.args.index c.args.node (sym (c.requires.passes w m)) put key.0 slot served kept at key.1
     (slot_is (ring_of a) (plan_of a) (kept_of a) w m c.args.put put at a.keys.q c.requires.sound.sized.keys place c.place-place.ensures.place c.args.index)
-    (sym c.in-Some-at.ensures) (c.in_ok-add_set.ensures).ok)
+    (sym c.in-Some-at.ensures) merged)
+
+pub returns-clause-follows : goal.returns-clause-follows
+returns-clause-follows c =
+    let a = c.args.parts.now in
+    let s = c.requires.sound.sized in
+    let put = c.in-Some.now.now in
+    let slot = slot_at c.place-place.result.partition c.args.index in
+    let key = id_named a.keys put.key c.id-key.result c.id-key.ensures.id in
+    record {
+      approved = refl;
+      sized = record {
+        space = s.space;
+        keys = s.keys;
+        numbered = s.numbered;
+        stored = s.stored;
+        hinted = placed_kept a.keys s.numbered put.key c.id-key.result key.0 key.1 key.2 put.version (is_of (pair_of c.args.node.0 slot)) (hinted_at a.hints) (hinted_at c.add_set.new.self) s.hinted
+            (c.in_ok-add_set.ensures).ok;
+      };
+    }
+
+pub returns-in_err-add_set-clause-same : goal.returns-in_err-add_set-clause-same
+returns-in_err-add_set-clause-same c =
+    let a = c.args.parts.now in
+    always_err c.from_residual.result _ (λ w m.
+    subst (λ (held : ℕ → Slot → List ℕ → List Version). Tells (ring_of a) (plan_of a) (record (kept_of a) { hinted = held }) w) (kept_as a.keys (hinted_at a.hints) (hinted_at c.add_set.new.self) (c.in_err-add_set.ensures).err) m)
+
+pub returns-in_err-add_set-clause-follows : goal.returns-in_err-add_set-clause-follows
+returns-in_err-add_set-clause-follows c =
+    let a = c.args.parts.now in
+    let s = c.requires.sound.sized in
+    record {
+      approved = refl;
+      sized = record { space = s.space; keys = s.keys; numbered = s.numbered; stored = s.stored; hinted = placed_as a.keys (hinted_at a.hints) (hinted_at c.add_set.new.self) s.hinted (c.in_err-add_set.ensures).err };
+    }

@@ -1,31 +1,53 @@
-use Rattle.std.proofs.Common.{◌∙◌, refl, sym, ap}
-use Rattle.plan_text.specs.declared.step.Source.TheVariants.{Slots}
-use Rattle.store_maps.specs.Chunks.{chunk_of}
+use Rattle.std.proofs.Common.{◌∙◌, ℕ, List, refl, sym, ap, subst}
+use Rattle.ring_names.specs.declared.ids.Slot.{Slot}
+use Rattle.ring_versions.specs.declared.version.Version.{Version}
+use Rattle.store_tells.specs.Kept.{Tells}
+use Rattle.store_tells.specs.Parts.{ring_of, plan_of, kept_of}
+use Rattle.std.specs.Prelude.{None}
 use Rattle.store_maps.specs.Held.{held}
-use Rattle.store_maps.specs.Slots.{held_for}
-use Rattle.store_maps.proofs.OneAnswer.{on_ok}
-use Rattle.plan_runs.specs.Effects.{source_has}
-use Rattle.store_tells.specs.Puts.{clock_at}
-use Rattle.store_tells.specs.Parts.{ring_of, plan_of}
-use Rattle.store_events.proofs.ChunkSources.{read_as}
-use Rattle.store_events.proofs.ChunkCopies.{nothing_apart}
+use Rattle.store_maps.specs.Ids.{of_chunk}
+use Rattle.store_maps.proofs.OneAnswer.{on_ok, on_err, on_either}
+use Rattle.ring_store.specs.Stores.{held_at}
+use Rattle.store_tables.specs.KeyTable.{chunk_of}
+use Rattle.store_tells.specs.Numbers.{in_part}
+use Rattle.store_tells.proofs.Numbers.{given, kept_as, part_apart, placed_as, placed_given}
 use Rattle.store_events.proofs.RequiresMet.{mirror_stands}
 use Rattle.store_events.proofs.sources.give_slots.Goals as goal
 
-pub give_chunk-requires-clause-node : goal.give_chunk-requires-clause-node
-give_chunk-requires-clause-node c = (mirror_stands c.args.parts.now c.requires.sound c.args.slot c.args.mirror c.requires.mirror).0
+pub give_chunk-requires-clause-partition : goal.give_chunk-requires-clause-partition
+give_chunk-requires-clause-partition c = (mirror_stands c.args.parts.now c.requires.sound c.args.slot c.args.mirror c.requires.mirror).0
 
 pub returns-clause-ok : goal.returns-clause-ok
 returns-clause-ok c =
     let a = c.args.parts.now in
-    let q = (ring_of a).q in
-    let map = c.chunk.result.now in
-    let space = (c.in_ok-read.ensures).space in
+    let s = c.requires.sound.sized in
+    let read = held c.in_ok-read.read in
     on_ok c.give_chunk.result _ _ (λ merged. record {
-      versions = held map;
-      shows = λ w m. read_as q w (clock_at a.puts) c.args.chunk (held_for c.in_ok-read.read) (held map) (source_has (ring_of a) (plan_of a) w c.args.slot (Slots c.args.from.now))
-          (λ k e. c.chunk.ensures.same k (ap (λ n. chunk_of n k) space ∙ e)) ((c.in_ok-read.ensures).shows w m);
-      others = nothing_apart q c.args.chunk map (λ k h. ap (λ n. chunk_of n k) (sym space) ∙ c.chunk.ensures.lies k h);
-      merged = merged;
+      versions = in_part a.keys c.args.chunk read;
+      shows = (c.in_ok-read.ensures).shows;
+      others = λ k ne. part_apart a.keys c.args.chunk read k (λ e. ne (ap (λ z. chunk_of z k) (sym s.keys) ∙ e));
+      merged = given a.keys c.args.mirror None c.args.slot (of_chunk c.args.chunk read) (held_at a.stores) (held_at c.give_chunk.new.self) merged;
       rest = refl;
     }) c.give_chunk.ensures.ok
+
+pub returns-clause-err : goal.returns-clause-err
+returns-clause-err c =
+    let a = c.args.parts.now in
+    on_err c.give_chunk.result _ _ (λ h w m. subst (λ (held : ℕ → Slot → List ℕ → List Version). Tells (ring_of a) (plan_of a) (record (kept_of a) { stored = held }) w) (kept_as a.keys (held_at a.stores) (held_at c.give_chunk.new.self) h) m) c.give_chunk.ensures.err
+
+pub returns-clause-follows : goal.returns-clause-follows
+returns-clause-follows c =
+    let a = c.args.parts.now in
+    let s = c.requires.sound.sized in
+    record {
+      approved = refl;
+      sized = record {
+        space = c.give_chunk.ensures.space ∙ s.space;
+        keys = s.keys;
+        numbered = s.numbered;
+        stored = on_either c.give_chunk.result _ _ _ c.give_chunk.ensures.ok c.give_chunk.ensures.err
+            (placed_given a.keys c.args.mirror None c.args.slot (of_chunk c.args.chunk (held c.in_ok-read.read)) (held_at a.stores) (held_at c.give_chunk.new.self) s.stored (c.in_ok-read.ensures).placed)
+            (placed_as a.keys (held_at a.stores) (held_at c.give_chunk.new.self) s.stored);
+        hinted = s.hinted;
+      };
+    }

@@ -1,7 +1,13 @@
-use Rattle.std.proofs.Common.{ℕ, ◌<◌, sym, ap, subst}
+use Rattle.std.proofs.Common.{ℕ, ◌<◌, List, sym, subst}
+use Rattle.std.specs.Prelude.{◌↔◌, IsTrue}
 use Rattle.std.proofs.Props.{props}
-use Rattle.ring_space.specs.declared.found.Place.{Place}
-use Rattle.store_maps.specs.Chunks.{chunk_of}
+use Rattle.ring_hints.specs.Hints.{hinted_at}
+use Rattle.ring_store.specs.Stores.{held_at}
+use Rattle.ring_versions.specs.Versions.{Covers}
+use Rattle.ring_versions.specs.declared.version.Version.{Version}
+use Rattle.plan_runs.specs.World.{slot_at}
+use Rattle.store_tells.proofs.Numbers.{id_named, held_named, others_named}
+use Rattle.ring_core.specs.Tables.{owner_kept}
 use Rattle.store_tells.specs.Parts.{ring_of, plan_of, kept_of}
 use Rattle.store_tells.proofs.StoreInWorld.{holds}
 use Rattle.ring_core.proofs.SlotHoldsPut.{lies_there, one_of, none_of_one, put_key_within, one_version, held_kept}
@@ -22,30 +28,28 @@ place-place-requires c =
     let a = c.args.self.now.parts in
     holds a c.args.self.now.sound (hlevel props) (λ w m. put_key_within (ring_of a) (plan_of a) (kept_of a) w m c.args.put c.in-Some.now.now (sym c.in-Some.ensures))
 
--- src/reads.rt:145:13
-pub key-key-requires : goal.key-key-requires
-key-key-requires c =
+pub id-key-requires : goal.id-key-requires
+id-key-requires c =
     let a = c.args.self.now.parts in
     holds a c.args.self.now.sound (hlevel props) (λ w m. put_key_within (ring_of a) (plan_of a) (kept_of a) w m c.args.put c.in-Some.now.now (sym c.in-Some.ensures))
 
--- src/reads.rt:150:13
-pub owner_covers-by_owner-requires-clause-chunk : goal.owner_covers-by_owner-requires-clause-chunk
-unfolding chunk_of
-owner_covers-by_owner-requires-clause-chunk c = ap (λ (z : Place). z.chunk) (sym (lies_there (ring_of c.args.self.now.parts) c.args.self.now.parts.keys c.in-Some.now.now.key c.key-key.result.now c.place-place.result c.args.self.now.sound.sized.keys c.place-place.ensures.place c.key-key.ensures))
-
--- src/reads.rt:151:13
-pub hints_cover-by_hints-requires : goal.hints_cover-by_hints-requires
-unfolding chunk_of
-hints_cover-by_hints-requires c = ap (λ (z : Place). z.chunk) (sym (lies_there (ring_of c.args.self.now.parts) c.args.self.now.parts.keys c.in-Some.now.now.key c.key-key.result.now c.place-place.result c.args.self.now.sound.sized.keys c.place-place.ensures.place c.key-key.ensures))
-
--- src/reads.rt:133:5
 pub returns : goal.returns
 returns c w m =
     let a = c.args.self.now.parts in
-    held_kept (ring_of a) (plan_of a) (kept_of a) w m c.args.put c.args.index c.in-Some.now.now c.in-Some-first.version.now c.key-key.result.now c.place-place.result c.owner_covers-by_owner.result c.hints_cover-by_hints.result
+    let s = c.args.self.now.sound.sized in
+    let put = c.in-Some.now.now in
+    let clock = c.in-Some-first.version.now.clock in
+    let place = c.place-place.result in
+    let slot = slot_at place.partition c.args.index in
+    let key = id_named a.keys put.key c.id-key.result c.id-key.ensures.id in
+    let by_owner = c.owner_covers-by_owner.result in
+    let by_hints = c.hints_cover-by_hints.result in
+    let owner = (owner_kept (kept_of a) slot).0 in
+    held_kept (ring_of a) (plan_of a) (kept_of a) w m c.args.put c.args.index put c.in-Some-first.version.now key.0 place by_owner by_hints
     c.requires.index (sym c.in-Some.ensures)
-    (one_of c.in-Some.now.now.version c.in-Some-first.version.now
-    (one_version (ring_of a) (plan_of a) (kept_of a) w m c.args.put c.in-Some.now.now (sym c.in-Some.ensures))
+    (one_of put.version c.in-Some-first.version.now
+    (one_version (ring_of a) (plan_of a) (kept_of a) w m c.args.put put (sym c.in-Some.ensures))
     (sym (c.in-Some-first.ensures).value))
-    c.key-key.ensures (lies_there (ring_of c.args.self.now.parts) c.args.self.now.parts.keys c.in-Some.now.now.key c.key-key.result.now c.place-place.result c.args.self.now.sound.sized.keys c.place-place.ensures.place c.key-key.ensures) (subst (λ (q : ℕ). c.place-place.result.partition < q) c.args.self.now.sound.sized.keys c.place-place.ensures.partition)
-    c.owner_covers-by_owner.ensures c.hints_cover-by_hints.ensures
+    key.1 (lies_there (ring_of a) a.keys put.key key.0 place s.keys c.place-place.ensures.place key.1) (subst (λ (q : ℕ). place.partition < q) s.keys c.place-place.ensures.partition)
+    (subst (λ (held : List Version). IsTrue by_owner ↔ Covers held clock) (sym (held_named a.keys (held_at a.stores owner slot) put.key c.id-key.result key.0 s.numbered key.1 key.2)) c.owner_covers-by_owner.ensures)
+    (subst (λ (held : ℕ → List Version). IsTrue by_hints ↔ ((x : ℕ) × Covers (held x) clock)) (sym (others_named a.keys (hinted_at a.hints) slot put.key c.id-key.result key.0 s.numbered key.1 key.2)) c.hints_cover-by_hints.ensures)

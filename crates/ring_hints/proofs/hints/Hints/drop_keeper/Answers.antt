@@ -5,10 +5,8 @@ use Rattle.ring_hints.proofs.PairChanged.{others_stay, fewer, was_some}
 use Rattle.ring_hints.proofs.hints.Hints.drop_keeper.Goals as goal
 
 pub slots-preserved : goal.slots-preserved
-slots-preserved c = (
-  c.take.ensures.space ∙ c.slots.invariant.0,
-  λ x s k ne. others_stay (pair_of c.args.keeper.0 c.in-Some.slot) x s (hinted_at c.slots.self x s k) (hinted_at c.take.new.self x s k) ne (c.take.ensures.after x s k) ∙ c.slots.invariant.1 x s k ne,
-)
+slots-preserved c x s k ne =
+    others_stay (pair_of c.args.keeper.0 c.in-Some.slot) x s (hinted_at c.slots.self x s k) (hinted_at c.take.new.self x s k) ne (c.take.ensures.after x s k) ∙ c.slots.invariant x s k ne
 
 pub slots-smaller : goal.slots-smaller
 slots-smaller c =
@@ -17,10 +15,8 @@ slots-smaller c =
     c.take.ensures.count
 
 pub slots-preserved-in-Some : goal.slots-preserved-in-Some
-slots-preserved-in-Some c = (
-  c.take.ensures.space ∙ c.slots.invariant.0,
-  λ x s k ne. others_stay (pair_of c.args.keeper.0 c.in-Some.slot) x s (hinted_at c.slots.self x s k) (hinted_at c.take.new.self x s k) ne (c.take.ensures.after x s k) ∙ c.slots.invariant.1 x s k ne,
-)
+slots-preserved-in-Some c x s k ne =
+    others_stay (pair_of c.args.keeper.0 c.in-Some.slot) x s (hinted_at c.slots.self x s k) (hinted_at c.take.new.self x s k) ne (c.take.ensures.after x s k) ∙ c.slots.invariant x s k ne
 
 pub slots-smaller-in-Some : goal.slots-smaller-in-Some
 slots-smaller-in-Some c =
@@ -30,6 +26,3 @@ slots-smaller-in-Some c =
 
 pub returns-clause-gone : goal.returns-clause-gone
 returns-clause-gone c = (c.in_default.ensures).none
-
-pub returns-clause-others : goal.returns-clause-others
-returns-clause-others c = c.slots.invariant.1

@@ -10,7 +10,7 @@ returns-clause-some c =
     let a = c.args.self.now in
     on_some c.keepers.result _ _
     (λ nodes e x.
-    let is = keeps_is a.q a.pairs a.maps a.paired a.kept x c.args.slot in
+    let is = keeps_is a x c.args.slot in
     let same : in_keepers x nodes.now.keys ≡ is_pair a.pairs x c.args.slot = ap (in_keepers x) e ∙ (a.pairs.viewed x c.args.slot).1 in
     (λ h. is.0 (sym same ∙ h), λ none. same ∙ is.1 none))
     c.keepers.ensures.some
@@ -18,4 +18,4 @@ returns-clause-some c =
 pub returns-clause-none : goal.returns-clause-none
 returns-clause-none c =
     let a = c.args.self.now in
-    on_none c.keepers.result _ _ (λ e x. (keeps_is a.q a.pairs a.maps a.paired a.kept x c.args.slot).0 (sym (a.pairs.viewed x c.args.slot).1 ∙ ap (in_keepers x) e)) c.keepers.ensures.none
+    on_none c.keepers.result _ _ (λ e x. (keeps_is a x c.args.slot).0 (sym (a.pairs.viewed x c.args.slot).1 ∙ ap (in_keepers x) e)) c.keepers.ensures.none

@@ -5,5 +5,5 @@ use Rattle.ring_hints.proofs.maps.Maps.keeps.Goals as goal
 pub returns : goal.returns
 returns c =
     let a = c.args.self.now in
-    let is = keeps_is a.q a.pairs a.maps a.paired a.kept c.args.keeper.0 c.args.slot in
+    let is = keeps_is a c.args.keeper.0 c.args.slot in
     (λ h. is.0 (sym c.has.ensures ∙ h), λ none. c.has.ensures ∙ is.1 none)

@@ -1,4 +1,4 @@
-use Rattle.std.proofs.Common.{refl, ap, Some, None}
+use Rattle.std.proofs.Common.{ap, Some, None}
 use Rattle.store_maps.specs.Slots.{held_by}
 use Rattle.ring_hints.specs.Pairs.{is_pair}
 use Rattle.ring_hints.specs.Views.{is_of, pair_of}
@@ -12,11 +12,7 @@ invariant_of-self-in-Err c =
     let mid = c.insert.new.self in
     let new = c.remove.new.self in
     let same = put_back a.maps mid new pair (Some c.args.map) c.requires.absent (puts_map a.maps mid pair (Some c.args.map) (c.in_ok-insert.ensures).updates) (puts_map mid new pair None c.remove.ensures.updates) in
-    record {
-      space = a.space;
-      paired = paired_same a.pairs c.add.new.self a.maps new (c.in-Err.ensures).err same a.paired;
-      kept = kept_same a.q a.maps new same a.kept;
-    }
+    record { paired = paired_same a.pairs c.add.new.self a.maps new (c.in-Err.ensures).err same a.paired; kept = kept_same a.maps new same a.kept }
 
 pub invariant_of-self-in_default : goal.invariant_of-self-in_default
 invariant_of-self-in_default c =
@@ -25,9 +21,8 @@ invariant_of-self-in_default c =
     let new = c.insert.new.self in
     let put = puts_map a.maps new pair (Some c.args.map) (c.in_ok-insert.ensures).updates in
     record {
-      space = a.space;
       paired = paired_by a.maps new pair (Some c.args.map) put a.pairs c.add.new.self (λ x s. with_pair (is_of pair x s) (is_pair a.pairs x s) (is_pair c.add.new.self x s) ((c.in_default.ensures).ok x s)) a.paired;
-      kept = kept_by a.maps new pair (Some c.args.map) put a.q (kept_at a.q pair c.args.map (Some c.args.map) refl c.requires.kept) a.kept;
+      kept = kept_by a.maps new pair (Some c.args.map) put (kept_at pair c.args.map c.requires.kept) a.kept;
     }
 
 pub returns-in-Err-clause-err : goal.returns-in-Err-clause-err

@@ -12,9 +12,8 @@ invariant_of-self c =
     let new = c.remove-2.new.self in
     let out = puts_map a.maps new pair None c.remove-2.ensures.updates in
     record {
-      space = a.space;
       paired = paired_by a.maps new pair None out a.pairs c.remove.new.self (λ x s. without_pair (is_of pair x s) (is_pair a.pairs x s) (is_pair c.remove.new.self x s) (c.remove.ensures.pairs x s)) a.paired;
-      kept = kept_by a.maps new pair None out a.q (λ m e. absurd cc) a.kept;
+      kept = kept_by a.maps new pair None out (λ m e. absurd cc) a.kept;
     }
 
 pub returns-clause-after : goal.returns-clause-after

@@ -1,20 +1,18 @@
 use Rattle.std.proofs.Common.{◌∙◌, refl, ap, subst}
 use Rattle.std.specs.Prelude.{IsSome, ◌&&◌, ◌||◌, ◌==◌}
 use Rattle.std.specs.HashMap as map
-use Rattle.std.specs.Str.{bytes_eq}
 use Rattle.ring_names.specs.contracts.ids.SlotPartialEq.TheImpl as slot_eq
+use Rattle.store_maps.specs.Ids.{same_key}
 use Rattle.store_maps.proofs.OneAnswer.{on_ok}
 use Rattle.ring_hints.specs.SlotHolders.{has_key}
-use Rattle.ring_hints.proofs.SlotHoldersChanged.{slot_added}
+use Rattle.ring_hints.proofs.SlotHoldersChanged.{slot_changed}
 use Rattle.ring_hints.proofs.slot_holders.SlotHolders.add.Goals as goal
 
 pub returns-in-Some-clause-ok : goal.returns-in-Some-clause-ok
 returns-in-Some-clause-ok c =
     let at = map.get ((slot_eq.ghosts).eq) in
-    let m = c.args.self.now.slots in
     let w = c.add.new.self in
     let value = (c.in-Some.ensures).value in
-    let n = c.get_mut.follows.lender w in
     let all = ((c.get_mut.follows.holds w).3 (subst IsSome value refl)).0 in
-    on_ok c.add.result _ _ (λ h. slot_added c.args.pair (at m) (at n) c.args.key.now w all
-    (λ k x. h k x ∙ ap (λ o. (bytes_eq c.args.key.now k && (c.args.pair.keeper.0 == x)) || has_key o k x) value)) c.add.ensures.ok
+    on_ok c.add.result _ _ (λ h. slot_changed c.args.pair (at c.args.self.now.slots) (at (c.get_mut.follows.lender w)) w c.args.key (λ b d. b || d) (λ b. refl) all
+    (λ k x. h k x ∙ ap (λ o. (same_key c.args.key k && (c.args.pair.keeper.0 == x)) || has_key o k x) value)) c.add.ensures.ok

@@ -1,25 +1,24 @@
-use Rattle.std.proofs.Common.{◌≡◌, refl}
-use Rattle.std.specs.Prelude.{IfOk}
+use Rattle.std.proofs.Common.{IfOk, ◌≡◌, ℕ, refl}
 use Rattle.ring_versions.specs.Fresh.{IsFreshFor}
-use Rattle.store_maps.specs.Chunks.{chunk_of}
-use Rattle.ring_store.specs.Nodes.{stored_in}
-use Rattle.ring_store.proofs.Nodes.{IsReadyIn, at_old, of_old, at_new, spaces_set, same_set, keeps_set}
+use Rattle.store_maps.specs.Chunks.{held_of}
+use Rattle.ring_store.specs.Stores.{IsReadyIn}
+use Rattle.ring_store.proofs.Rows.{within_row}
+use Rattle.ring_store.proofs.Changes.{then_changes, there_open, lent_open, old_open, both_open, only, order_changed}
 use Rattle.ring_store.proofs.stores.Stores.prepare.Goals as goal
 
-pub prepare-requires : goal.prepare-requires
-prepare-requires c = of_old c.args.self.now c.index_mut-store.result.now c.requires.node c.index_mut-store.ensures.value (λ q o. chunk_of q c.args.at.now.key.now ≡ c.args.at.now.chunk) c.requires.chunk
+pub index_mut-requires : goal.index_mut-requires
+index_mut-requires c = within_row c.index_mut-maps.result.now c.args.seat c.in_ok-place.place (there_open c.args.self.now c.open.new.self c.requires (c.in_ok-place.ensures).only (c.in_ok-place.ensures).at c.index_mut-maps.ensures.value)
 
-pub invariant_of-self : goal.invariant_of-self
-invariant_of-self c = record { space = c.args.self.now.space; spaces = spaces_set c.args.self.now c.prepare.new.self c.requires.node c.index_mut-store.ensures.value c.prepare.ensures.space }
+pub invariant_of-maps : goal.invariant_of-maps
+invariant_of-maps c = record { order = order_changed (lent_open c.args.self.now c.open.new.self c.requires (c.in_ok-place.ensures).only (c.in_ok-place.ensures).at c.index_mut-maps.ensures.value c.index_mut.ensures.value) c.prepare.new.self }
 
-pub returns-clause-same : goal.returns-clause-same
-returns-clause-same c = same_set c.args.self.now c.prepare.new.self c.requires.node c.index_mut-store.ensures.value c.prepare.ensures.same
-
-pub returns-clause-keeps : goal.returns-clause-keeps
-returns-clause-keeps c = keeps_set c.args.self.now c.prepare.new.self c.requires.node c.index_mut-store.ensures.value refl refl c.prepare.ensures.same c.prepare.ensures.stays
-
-pub returns-clause-ok : goal.returns-clause-ok
-returns-clause-ok c = at_old c.args.self.now c.index_mut-store.result.now c.requires.node c.index_mut-store.ensures.value (λ q o. IfOk c.prepare.result (λ f. IsFreshFor (stored_in o c.args.at.now.slot c.args.at.now.key.now) c.args.more.now f)) c.prepare.ensures.ok
-
-pub returns-clause-ready : goal.returns-clause-ready
-returns-clause-ready c = at_new c.args.self.now c.prepare.new.self c.requires.node c.index_mut-store.ensures.value (λ q o. IfOk c.prepare.result (λ f. IsReadyIn o c.args.at.now.slot c.args.at.now.key.now f)) c.prepare.ensures.space c.prepare.ensures.ready
+pub returns : goal.returns
+returns c =
+    let it = lent_open c.args.self.now c.open.new.self c.requires (c.in_ok-place.ensures).only (c.in_ok-place.ensures).at c.index_mut-maps.ensures.value c.index_mut.ensures.value in
+    record {
+      only = then_changes c.args.self.now c.open.new.self _ (c.in_ok-place.ensures).only (only it _ c.prepare.new.self refl _ refl refl);
+      same = both_open c.args.self.now c.open.new.self it (c.in_ok-place.ensures).same _ c.prepare.new.self refl (λ old new. (n : ℕ) → held_of new n ≡ old n) c.prepare.ensures.same;
+      ok = old_open c.args.self.now c.open.new.self it (c.in_ok-place.ensures).same (λ old. IfOk c.prepare.result (λ f. IsFreshFor (old c.args.number) c.args.more.now f)) c.prepare.ensures.ok;
+      ready = both_open c.args.self.now c.open.new.self it (c.in_ok-place.ensures).same _ c.prepare.new.self refl (λ old new. IfOk c.prepare.result (IsReadyIn new c.args.number)) c.prepare.ensures.ready;
+      memory = c.prepare.ensures.memory;
+    }

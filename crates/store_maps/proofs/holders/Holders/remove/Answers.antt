@@ -1,12 +1,12 @@
-use Rattle.std.proofs.Common.{◌∙◌, refl, sym, ap, subst, None}
+use Rattle.std.proofs.Common.{◌∙◌, refl, sym, ap, subst}
 use Rattle.std.specs.Prelude.{IsSome}
 use Rattle.std.specs.BTreeMap.{is_at}
 use Rattle.std.specs.Set.{remove_key}
 use Rattle.std.proofs.lemmas.List.{nil_from_length}
 use Rattle.ring_names.specs.contracts.ids.NodeIdOrd.TheImpl as node_order
-use Rattle.ring_names.proofs.AtBytes.{puts}
 use Rattle.store_maps.specs.Holders.{is_among, nodes_in}
-use Rattle.store_maps.proofs.HoldersChanged.{here, elsewhere, node_removed}
+use Rattle.store_maps.proofs.HoldersChanged.{id_order, node_removed}
+use Rattle.store_maps.proofs.Sorted.{apart, puts_at}
 use Rattle.store_maps.proofs.holders.Holders.remove.Goals as goal
 
 pub returns-then-is_empty : goal.returns-then-is_empty
@@ -15,14 +15,14 @@ returns-then-is_empty c =
     let w = c.remove.new.self in
     let less = c.get_mut.follows.lender w in
     let n = c.remove-then-is_empty.new.self in
-    let key = c.args.key.now in
+    let key = c.args.key in
     let value = (c.in-Some.ensures).value in
-    let p = puts key m less w ((c.get_mut.follows.holds w).3 (subst IsSome value refl)) in
-    let gone = here key less n None c.remove-then-is_empty.ensures.updates in
+    let p = puts_at id_order key m less w ((c.get_mut.follows.holds w).3 (subst IsSome value refl)) in
+    let gone = c.remove-then-is_empty.ensures.updates in
     let empty = nil_from_length w.keys (c.is_empty.ensures.0 c.if-is_empty.true) in
-    node_removed m n key (λ k e. elsewhere key less n None c.remove-then-is_empty.ensures.updates k e ∙ p.others k e) c.args.node
-    (ap nodes_in gone ∙ sym empty ∙ c.remove.ensures.keys ∙ ap (λ nodes. remove_key (is_at ((node_order.ghosts).cmp c.args.node)) nodes) (ap nodes_in value))
-    (ap (λ o. is_among c.args.node.0 (nodes_in o)) gone)
+    node_removed m.entries n.entries key (λ k ne. gone.2 k (apart id_order key k (λ e. ne (sym e))) ∙ p.others k ne) c.args.node
+    (ap nodes_in gone.1 ∙ sym empty ∙ c.remove.ensures.keys ∙ ap (λ nodes. remove_key (is_at ((node_order.ghosts).cmp c.args.node)) nodes) (ap nodes_in value))
+    (ap (λ o. is_among c.args.node.0 (nodes_in o)) gone.1)
 
 pub returns-else-is_empty : goal.returns-else-is_empty
 returns-else-is_empty c =
@@ -30,7 +30,7 @@ returns-else-is_empty c =
     let w = c.remove.new.self in
     let n = c.get_mut.follows.lender w in
     let value = (c.in-Some.ensures).value in
-    let p = puts c.args.key.now m n w ((c.get_mut.follows.holds w).3 (subst IsSome value refl)) in
-    node_removed m n c.args.key.now p.others c.args.node
+    let p = puts_at id_order c.args.key m n w ((c.get_mut.follows.holds w).3 (subst IsSome value refl)) in
+    node_removed m.entries n.entries c.args.key p.others c.args.node
     (ap nodes_in p.here ∙ c.remove.ensures.keys ∙ ap (λ nodes. remove_key (is_at ((node_order.ghosts).cmp c.args.node)) nodes) (ap nodes_in value))
     (ap (λ o. is_among c.args.node.0 (nodes_in o)) p.here ∙ (c.remove.ensures.updates).1)

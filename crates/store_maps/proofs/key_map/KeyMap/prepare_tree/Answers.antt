@@ -1,38 +1,32 @@
-use Rattle.std.proofs.Common.{ap, ◌∙◌, ◌≡◌, ◌⊎◌, inl, inr, true, ℕ, List, sym, subst}
-use Rattle.ring_versions.specs.Fresh.{IsFreshFor}
-use Rattle.store_maps.specs.Held.{held, has_place, has_room}
-use Rattle.ring_names.specs.AtBytes.{Puts, value_in}
+use Rattle.std.proofs.Common.{ap, ◌≡◌, ◌∙◌, inl, inr, true, sym, subst}
+use Rattle.store_maps.specs.Held.{has_room}
+use Rattle.store_maps.specs.Places.{value_in}
 use Rattle.store_maps.specs.Entries.{entries_of, left_of}
 use Rattle.store_maps.proofs.EntriesLeft.{found}
 use Rattle.store_maps.proofs.WholeMaps.{Preparing, preparing_none, preparing_same, preparing_more, more_places, prepared_fresh, prepared_ready}
 use Rattle.store_maps.proofs.key_map.KeyMap.prepare_tree.Goals as goal
 
 pub keys-init : goal.keys-init
-keys-init c = subst (Preparing c.args.self.now c.args.self.now c.args.other.now c.new-keys.result) (sym (ap left_of c.into_iter-key-iterator.ensures.into_iter_gives ∙ c.walk-key-items.ensures)) (preparing_none c.args.self.now c.args.other.now c.new-keys.result c.new-keys.ensures)
+keys-init c =
+    subst (Preparing c.args.self.now c.args.self.now c.args.other.now (record { map = c.new.result })) (sym (ap left_of c.into_iter-key-iterator.ensures.into_iter_gives ∙ c.walk-key-items.ensures))
+    (preparing_none c.args.self.now c.args.other.now (record { map = c.new.result }) (λ k. ap (λ es. value_in es k) c.new.ensures.empty))
 
 pub keys-preserved-in-Continue-branch-2 : goal.keys-preserved-in-Continue-branch-2
 keys-preserved-in-Continue-branch-2 c =
     let start = ap left_of c.into_iter-key-iterator.ensures.into_iter_gives ∙ c.walk-key-items.ensures in
     let at = found (entries_of c.args.other.now.entries) c.keys.yielded c.into_iter-key-iterator.result c.keys.key-iterator c.next.new.self c.next.result (c.in-Some.key, c.in-Some.versions) c.keys.yielded_by c.in-Some.is c.next.ensures.steps start c.args.other.now.order in
     let x = c.in_ok-fresh.fresh in
-    let bytes = c.as_slice.ensures.value in
-    let fresh = subst (λ (bs : List ℕ). IsFreshFor (held c.keys.self bs) c.in-Some.versions.now x) bytes (c.in_ok-fresh.ensures).ok in
-    let only = subst (λ (bs : List ℕ). (k : List ℕ) → has_place c.prepare_new.new.self k ≡ true → (has_place c.keys.self k ≡ true) ⊎ (k ≡ bs)) bytes (c.in_ok-fresh.ensures).only in
-    let there = subst (λ (bs : List ℕ). has_place c.prepare_new.new.self bs ≡ true) bytes (c.in_ok-fresh.ensures).made in
-    let room = subst (λ (bs : List ℕ). has_room c.prepare_new.new.self bs ≡ true) bytes (elim (c.in_ok-fresh.ensures).room [ inl none ↦ absurd (let empty = c.is_empty.ensures.1 none in cc) | inr room ↦ room ]) in
-    let put = subst (λ (bs : List ℕ). Puts c.keys.keys.map c.put.new.self.map bs x) c.as_slice-then-not-is_empty.ensures.value (c.in_ok-put.ensures).ok in
-    preparing_more c.args.self.now c.keys.self c.prepare_new.new.self c.args.other.now c.keys.keys (left_of c.keys.key-iterator) (left_of c.next.new.self) c.in-Some.key.now c.in-Some.versions.now x (c.in-Some.ensures).steps at (c.in_ok-fresh.ensures).same (c.in_ok-fresh.ensures).stays (c.in_ok-fresh.ensures).rooms only fresh there c.keys.invariant c.put.new.self room put
+    let p = c.in_ok-fresh.ensures in
+    let room : has_room c.prepare_new.new.self c.in-Some.key.now ≡ true = elim p.room [ inl none ↦ absurd (let empty = c.is_empty.ensures.1 none in cc) | inr room ↦ room ] in
+    preparing_more c.args.self.now c.keys.self c.prepare_new.new.self c.args.other.now c.keys.keys (left_of c.keys.key-iterator) (left_of c.next.new.self) c.in-Some.key.now c.in-Some.versions.now x (c.in-Some.ensures).steps at p.same p.stays p.rooms p.only p.ok p.made c.keys.invariant c.put.new.self room (c.in_ok-put.ensures).ok
 
 pub keys-preserved : goal.keys-preserved
 keys-preserved c =
     let start = ap left_of c.into_iter-key-iterator.ensures.into_iter_gives ∙ c.walk-key-items.ensures in
     let at = found (entries_of c.args.other.now.entries) c.keys.yielded c.into_iter-key-iterator.result c.keys.key-iterator c.next.new.self c.next.result (c.in-Some.key, c.in-Some.versions) c.keys.yielded_by c.in-Some.is c.next.ensures.steps start c.args.other.now.order in
     let x = c.in_ok-fresh.fresh in
-    let bytes = c.as_slice.ensures.value in
-    let fresh = subst (λ (bs : List ℕ). IsFreshFor (held c.keys.self bs) c.in-Some.versions.now x) bytes (c.in_ok-fresh.ensures).ok in
-    let only = subst (λ (bs : List ℕ). (k : List ℕ) → has_place c.prepare_new.new.self k ≡ true → (has_place c.keys.self k ≡ true) ⊎ (k ≡ bs)) bytes (c.in_ok-fresh.ensures).only in
-    let there = subst (λ (bs : List ℕ). has_place c.prepare_new.new.self bs ≡ true) bytes (c.in_ok-fresh.ensures).made in
-    preparing_same c.args.self.now c.keys.self c.prepare_new.new.self c.args.other.now c.keys.keys (left_of c.keys.key-iterator) (left_of c.next.new.self) c.in-Some.key.now c.in-Some.versions.now x (c.in-Some.ensures).steps at (c.in_ok-fresh.ensures).same (c.in_ok-fresh.ensures).stays (c.in_ok-fresh.ensures).rooms only fresh there c.keys.invariant (c.is_empty.ensures.0 c.if-not-is_empty.false)
+    let p = c.in_ok-fresh.ensures in
+    preparing_same c.args.self.now c.keys.self c.prepare_new.new.self c.args.other.now c.keys.keys (left_of c.keys.key-iterator) (left_of c.next.new.self) c.in-Some.key.now c.in-Some.versions.now x (c.in-Some.ensures).steps at p.same p.stays p.rooms p.only p.ok p.made c.keys.invariant (c.is_empty.ensures.0 c.if-not-is_empty.false)
 
 pub returns-clause-ok : goal.returns-clause-ok
 returns-clause-ok c = prepared_fresh c.args.self.now c.keys.self c.args.other.now c.keys.keys (left_of c.keys.key-iterator) (c.in-None.ensures).steps.0 c.keys.invariant
@@ -47,10 +41,10 @@ pub returns-in_err-fresh-clause-only : goal.returns-in_err-fresh-clause-only
 returns-in_err-fresh-clause-only c =
     let start = ap left_of c.into_iter-key-iterator.ensures.into_iter_gives ∙ c.walk-key-items.ensures in
     let at = found (entries_of c.args.other.now.entries) c.keys.yielded c.into_iter-key-iterator.result c.keys.key-iterator c.next.new.self c.next.result (c.in-Some.key, c.in-Some.versions) c.keys.yielded_by c.in-Some.is c.next.ensures.steps start c.args.other.now.order in
-    more_places c.args.self.now c.keys.self c.prepare_new.new.self c.args.other.now c.in-Some.key.now.items c.as_slice.result.now c.in-Some.versions.now c.as_slice.ensures.value at c.prepare_new.ensures.only c.keys.invariant.only
+    more_places c.args.self.now c.keys.self c.prepare_new.new.self c.args.other.now c.in-Some.key.now c.in-Some.versions.now at c.prepare_new.ensures.only c.keys.invariant.only
 
 pub returns-in_err-put-clause-only : goal.returns-in_err-put-clause-only
 returns-in_err-put-clause-only c =
     let start = ap left_of c.into_iter-key-iterator.ensures.into_iter_gives ∙ c.walk-key-items.ensures in
     let at = found (entries_of c.args.other.now.entries) c.keys.yielded c.into_iter-key-iterator.result c.keys.key-iterator c.next.new.self c.next.result (c.in-Some.key, c.in-Some.versions) c.keys.yielded_by c.in-Some.is c.next.ensures.steps start c.args.other.now.order in
-    more_places c.args.self.now c.keys.self c.prepare_new.new.self c.args.other.now c.in-Some.key.now.items c.as_slice.result.now c.in-Some.versions.now c.as_slice.ensures.value at c.prepare_new.ensures.only c.keys.invariant.only
+    more_places c.args.self.now c.keys.self c.prepare_new.new.self c.args.other.now c.in-Some.key.now c.in-Some.versions.now at c.prepare_new.ensures.only c.keys.invariant.only

@@ -11,6 +11,6 @@ pub returns-clause-ok : goal.returns-clause-ok
 returns-clause-ok c k =
     let mine = held c.args.self.now in
     let same : held c.prepare_all.new.self ≡ held c.in_ok-made.made = fun_ext c.prepare_all.ensures.same in
-    let merged = c.settle_all.ensures.merged mine (subst (λ (was : List ℕ → List Version). AreFreshFor was mine c.in_ok-fresh.fresh) (sym same) (c.in_ok-fresh.ensures).ok) in
+    let merged = c.settle_all.ensures.merged mine (subst (λ (was : ℕ → List Version). AreFreshFor was mine c.in_ok-fresh.fresh) (sym same) (c.in_ok-fresh.ensures).ok) in
     merge_turned (held c.args.other.now k) (mine k) (held c.settle_all.new.self k)
     (subst (λ (was : List Version). IsMerge was (mine k) (held c.settle_all.new.self k)) (c.prepare_all.ensures.same k ∙ (c.in_ok-made.ensures).same k) (merged k))

@@ -9,5 +9,5 @@ pub returns-clause-ok : goal.returns-clause-ok
 returns-clause-ok c =
     let more = held c.args.other.now in
     let same : held c.prepare_all.new.self ≡ held c.args.self.now = fun_ext c.prepare_all.ensures.same in
-    subst (λ (was : List ℕ → List Version). MergesAll was more (held c.settle_all.new.self)) same
-    (c.settle_all.ensures.merged more (subst (λ (was : List ℕ → List Version). AreFreshFor was more c.in_ok-fresh.fresh) (sym same) (c.in_ok-fresh.ensures).ok))
+    subst (λ (was : ℕ → List Version). MergesAll was more (held c.settle_all.new.self)) same
+    (c.settle_all.ensures.merged more (subst (λ (was : ℕ → List Version). AreFreshFor was more c.in_ok-fresh.fresh) (sym same) (c.in_ok-fresh.ensures).ok))

@@ -15,5 +15,5 @@ returns-in-Some-clause-ready c =
 pub returns-clause-ready : goal.returns-clause-ready
 returns-clause-ready c =
     let put = (c.in_ok-put.ensures).ok in
-    let was : kept c.put.new.self c.args.key.now ≡ c.new-2.result = ap (λ (o : Option (List Version)). unwrap_or o []) put.here ∙ c.new.ensures ∙ sym c.new-2.ensures in
+    let was : kept c.put.new.self c.args.key ≡ c.new-2.result = ap (λ (o : Option (List Version)). unwrap_or o []) put.here ∙ c.new.ensures ∙ sym c.new-2.ensures in
     IfOk-weaker c.fresh_of-2.result _ _ (λ f h. (ap is_some put.here, (c.args.more.now, subst (λ (kept : List Version). IsFreshFor kept c.args.more.now f) (sym was) h))) c.fresh_of-2.ensures.ok

@@ -11,6 +11,6 @@ invariant_of-self c =
     record {
       order = c.put.ensures.order;
       apart = on_either c.put.result _ _ (AreApart new) c.put.ensures.ok c.put.ensures.err
-          (λ put. apart_put old new c.args.key.now c.args.versions put c.args.self.now.apart c.requires)
+          (λ put. apart_put old new c.args.key c.args.versions put c.args.self.now.apart c.requires)
           (λ same. apart_same old new same c.args.self.now.apart);
     }

@@ -1,11 +1,12 @@
-use Rattle.std.proofs.Common.{◌∙◌, ℕ, List, [], sym, ap, subst, Option}
+use Rattle.std.proofs.Common.{◌∙◌, List, [], sym, ap, subst, Option}
 use Rattle.std.specs.Prelude.{unwrap_or}
 use Rattle.ring_versions.specs.declared.version.Version.{Version}
 use Rattle.ring_versions.specs.Versions.{IsApart}
-use Rattle.ring_names.specs.AtBytes.{value_in}
-use Rattle.store_maps.proofs.Keys.{Putting, putting_none, putting_more}
-use Rattle.store_maps.specs.Entries.{entries_of, left_of, PutsAt}
-use Rattle.store_maps.proofs.EntriesLeft.{found}
+use Rattle.store_maps.specs.Places.{value_in}
+use Rattle.store_maps.proofs.EntriesLeft.{found, Putting, putting_none, putting_more}
+use Rattle.std.specs.Ordering.{nat_cmp}
+use Rattle.store_maps.specs.Entries.{entries_of, left_of}
+use Rattle.store_maps.specs.Sorted.{PutsAt}
 use Rattle.store_maps.proofs.key_tree.KeyTree.put_all.Goals as goal
 
 pub keys-init : goal.keys-init
@@ -16,14 +17,13 @@ put-requires c =
     let start = ap left_of c.into_iter-key-iterator.ensures.into_iter_gives ∙ c.walk-key-items.ensures in
     let at = found (entries_of c.args.other.now.entries) c.keys.yielded c.into_iter-key-iterator.result c.keys.key-iterator c.next.new.self c.next.result (c.in-Some.key, c.in-Some.versions) c.keys.yielded_by c.in-Some.is c.next.ensures.steps start c.args.other.now.order in
     let was = ap (λ (o : Option (List Version)). unwrap_or o []) at in
-    subst IsApart (was ∙ sym (c.in_ok-try_copy.ensures).same) (c.args.other.now.apart c.in-Some.key.now.items)
+    subst IsApart (was ∙ sym (c.in_ok-try_copy.ensures).same) (c.args.other.now.apart c.in-Some.key.now)
 
 pub keys-preserved : goal.keys-preserved
 keys-preserved c =
     let start = ap left_of c.into_iter-key-iterator.ensures.into_iter_gives ∙ c.walk-key-items.ensures in
     let at = found (entries_of c.args.other.now.entries) c.keys.yielded c.into_iter-key-iterator.result c.keys.key-iterator c.next.new.self c.next.result (c.in-Some.key, c.in-Some.versions) c.keys.yielded_by c.in-Some.is c.next.ensures.steps start c.args.other.now.order in
-    let put = subst (λ (bs : List ℕ). PutsAt (entries_of c.keys.self.entries) (entries_of c.put.new.self.entries) bs c.in_ok-try_copy.field-0) c.as_slice.ensures.value (c.in_ok-put.ensures).ok in
-    let same = subst (λ (v : List Version). PutsAt (entries_of c.keys.self.entries) (entries_of c.put.new.self.entries) c.in-Some.key.now.items v) (c.in_ok-try_copy.ensures).same put in
+    let same = subst (PutsAt nat_cmp (entries_of c.keys.self.entries) (entries_of c.put.new.self.entries) c.in-Some.key.now) (c.in_ok-try_copy.ensures).same (c.in_ok-put.ensures).ok in
     putting_more c.args.other.now c.args.self.now c.keys.self c.put.new.self (left_of c.keys.key-iterator) (left_of c.next.new.self) c.in-Some.key.now c.in-Some.versions.now (c.in-Some.ensures).steps at same c.keys.invariant
 
 pub returns-clause-ok : goal.returns-clause-ok

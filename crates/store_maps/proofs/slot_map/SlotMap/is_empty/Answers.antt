@@ -1,7 +1,6 @@
-use Rattle.std.proofs.Common.{refl}
-use Rattle.store_maps.specs.Slots.{space_of}
-use Rattle.store_maps.proofs.HoldersChanged.{chunk_within}
+use Rattle.std.proofs.Common.{◌∙◌}
+use Rattle.store_maps.specs.Ids.{id}
 use Rattle.store_maps.proofs.slot_map.SlotMap.is_empty.Goals as goal
 
-pub returns : goal.returns
-returns c = (λ _ k. c.chunks.invariant k (chunk_within (space_of c.args.self.now) k c.chunks.chunk c.chunks-test.false), λ _. refl)
+pub returns-then-not-is_empty : goal.returns-then-not-is_empty
+returns-then-not-is_empty c = (λ h. absurd cc, λ h. absurd (let empty = c.is_empty.ensures.1 (λ n. c.chunk.ensures.places n ∙ h (id c.chunks.chunk n)) in cc))

@@ -1,45 +1,109 @@
-use Rattle.std.proofs.Common.{◌∙◌, inl, inr, ap, arith, length, sym}
+use Rattle.std.proofs.Common.{◌≡◌, ◌≢◌, ◌⊎◌, ◌∙◌, inl, inr, slice_set, true, [], refl, sym, subst, Some, arith}
+use Rattle.std.specs.Ordering.{nat_cmp}
+use Rattle.ring_versions.specs.Versions.{IsMerge}
+use Rattle.store_maps.specs.Chunks.{held_of, place_in}
 use Rattle.store_maps.specs.Merges.{at_key}
+use Rattle.store_maps.specs.Places.{value_in}
+use Rattle.store_maps.specs.Slots.{held_for, has_place_for}
+use Rattle.store_maps.proofs.Chunks.{each, narrow_put, merged_key, nothing_key}
 use Rattle.store_maps.proofs.OneAnswer.{on_ok, on_err}
-use Rattle.store_maps.specs.Chunks.{chunk_of, place_in}
-use Rattle.store_maps.proofs.Chunks.{placed_set, lies_old, same_set, stays_set, filled_set, places_set, merged_key, merged_before, nothing_key, place_within}
-use Rattle.store_maps.specs.Slots.{held_for, has_place_for, has_room_for}
+use Rattle.store_maps.proofs.Sorted.{number_order, within, read_there, written, order_written}
 use Rattle.store_maps.proofs.slot_map.SlotMap.merge.Goals as goal
+
+pub returns-then-is_empty-clause-ok : goal.returns-then-is_empty-clause-ok
+returns-then-is_empty-clause-ok c = nothing_key c.args.self.now c.args.key c.args.more.now (c.is_empty.ensures.value.0 c.if-is_empty.true)
 
 pub index_mut-requires : goal.index_mut-requires
 index_mut-requires c =
-    let less = place_within c.args.chunk c.open.new.self.chunks.items c.in_ok-place.place (c.in_ok-place.ensures).at in
+    let less = within nat_cmp c.args.key.chunk c.open.new.self.chunks.items c.in_ok-place.place (c.in_ok-place.ensures).at in
     let all = c.open.new.self.chunks.ok.0 in omega arith
 
 pub invariant_of-self : goal.invariant_of-self
-invariant_of-self c = record {
-  placed = placed_set c.open.new.self c.args.chunk c.in_ok-place.place c.index_mut.result.now c.merge.new.self (c.in_ok-place.ensures).at c.index_mut.ensures.value c.open.new.self.placed (λ k h. elim (c.merge.ensures.only k h) [ inl was ↦ lies_old c.open.new.self c.args.chunk c.in_ok-place.place c.index_mut.result.now c.merge.new.self (c.in_ok-place.ensures).at c.index_mut.ensures.value c.open.new.self.placed k was | inr is_key ↦ ap (λ key. chunk_of c.open.new.self.q key) is_key ∙ (ap (λ q. chunk_of q c.args.key.now) (c.in_ok-place.ensures).space ∙ c.requires) ]);
-  bare = c.open.new.self.bare;
-}
+invariant_of-self c =
+    let b = c.open.new.self in
+    let es = b.chunks.items in
+    let chunk = c.args.key.chunk in
+    let i = c.in_ok-place.place in
+    let e = c.index_mut.result.now in
+    let n = c.merge.new.self in
+    let at = (c.in_ok-place.ensures).at in
+    let value = c.index_mut.ensures.value in
+    record {
+      order = order_written number_order es i e n value b.order;
+      narrow = narrow_put es (slice_set es i (e.0, n)) chunk (Some e.1) n (read_there number_order chunk es i e at (sym value)) (written number_order chunk es i e n at value) c.requires b.narrow;
+      bare = b.bare;
+    }
 
 pub returns-clause-ok : goal.returns-clause-ok
-unfolding held_for has_place_for has_room_for
-returns-clause-ok c = on_ok c.merge.result _ _ (λ h. merged_before c.args.self.now c.open.new.self (at_key c.args.key.now c.args.more.now) _ c.open.ensures.same (merged_key c.open.new.self c.args.chunk c.in_ok-place.place c.index_mut.result.now c.merge.new.self (c.in_ok-place.ensures).at c.index_mut.ensures.value c.args.key.now c.args.more.now (ap (λ q. chunk_of q c.args.key.now) (c.in_ok-place.ensures).space ∙ c.requires) h)) c.merge.ensures.ok
+unfolding held_for has_place_for
+returns-clause-ok c =
+    let es = c.open.new.self.chunks.items in
+    let chunk = c.args.key.chunk in
+    let i = c.in_ok-place.place in
+    let e = c.index_mut.result.now in
+    let n = c.merge.new.self in
+    let at = (c.in_ok-place.ensures).at in
+    let value = c.index_mut.ensures.value in
+    let was = read_there number_order chunk es i e at (sym value) in
+    let put = written number_order chunk es i e n at value in
+    let more = at_key c.args.key c.args.more.now in
+    on_ok c.merge.result _ _ (λ h k. subst (λ old. IsMerge old (more k) (held_of (value_in (slice_set es i (e.0, n)) k.chunk) k.number)) (c.open.ensures.same k) (merged_key es (slice_set es i (e.0, n)) c.args.key e.1 n c.args.more.now was put h k)) c.merge.ensures.ok
 
 pub returns-clause-err : goal.returns-clause-err
-unfolding held_for has_place_for has_room_for
-returns-clause-err c = on_err c.merge.result _ _ (λ h k. same_set c.open.new.self c.args.chunk c.in_ok-place.place c.index_mut.result.now c.merge.new.self (c.in_ok-place.ensures).at c.index_mut.ensures.value h k ∙ c.open.ensures.same k) c.merge.ensures.err
+unfolding held_for has_place_for
+returns-clause-err c =
+    let es = c.open.new.self.chunks.items in
+    let chunk = c.args.key.chunk in
+    let i = c.in_ok-place.place in
+    let e = c.index_mut.result.now in
+    let n = c.merge.new.self in
+    let at = (c.in_ok-place.ensures).at in
+    let value = c.index_mut.ensures.value in
+    let was = read_there number_order chunk es i e at (sym value) in
+    let put = written number_order chunk es i e n at value in
+    on_err c.merge.result _ _ (λ h k. each es (slice_set es i (e.0, n)) chunk (Some e.1) n was put (λ d o p. held_of p k.number ≡ held_of o k.number) (h k.number) (λ d ne o. refl) k.chunk ∙ c.open.ensures.same k) c.merge.ensures.err
 
 pub returns-clause-stays : goal.returns-clause-stays
-unfolding held_for has_place_for has_room_for
-returns-clause-stays c k h = stays_set c.open.new.self c.args.chunk c.in_ok-place.place c.index_mut.result.now c.merge.new.self (c.in_ok-place.ensures).at c.index_mut.ensures.value place_in c.merge.ensures.stays k (c.open.ensures.places k ∙ h)
+unfolding held_for has_place_for
+returns-clause-stays c =
+    let es = c.open.new.self.chunks.items in
+    let chunk = c.args.key.chunk in
+    let i = c.in_ok-place.place in
+    let e = c.index_mut.result.now in
+    let n = c.merge.new.self in
+    let at = (c.in_ok-place.ensures).at in
+    let value = c.index_mut.ensures.value in
+    let was = read_there number_order chunk es i e at (sym value) in
+    let put = written number_order chunk es i e n at value in
+    λ k h. each es (slice_set es i (e.0, n)) chunk (Some e.1) n was put (λ d o p. place_in o k.number ≡ true → place_in p k.number ≡ true) (c.merge.ensures.stays k.number) (λ d ne o h. h) k.chunk (c.open.ensures.places k ∙ h)
 
 pub returns-clause-filled : goal.returns-clause-filled
-unfolding held_for has_place_for has_room_for
-returns-clause-filled c k h = elim (filled_set c.open.new.self c.args.chunk c.in_ok-place.place c.index_mut.result.now c.merge.new.self (c.in_ok-place.ensures).at c.index_mut.ensures.value c.merge.ensures.filled k h) [ inl was ↦ inl (sym (c.open.ensures.places k) ∙ was) | inr some ↦ inr some ]
+unfolding held_for has_place_for
+returns-clause-filled c =
+    let es = c.open.new.self.chunks.items in
+    let chunk = c.args.key.chunk in
+    let i = c.in_ok-place.place in
+    let e = c.index_mut.result.now in
+    let n = c.merge.new.self in
+    let at = (c.in_ok-place.ensures).at in
+    let value = c.index_mut.ensures.value in
+    let was = read_there number_order chunk es i e at (sym value) in
+    let put = written number_order chunk es i e n at value in
+    λ k h. elim (each es (slice_set es i (e.0, n)) chunk (Some e.1) n was put (λ d o p. place_in p k.number ≡ true → (place_in o k.number ≡ true) ⊎ (held_of p k.number ≢ [])) (c.merge.ensures.filled k.number) (λ d ne o h. inl h) k.chunk h) [
+      | inl here ↦ inl (sym (c.open.ensures.places k) ∙ here)
+      | inr some ↦ inr some
+    ]
 
 pub returns-clause-places : goal.returns-clause-places
-unfolding held_for has_place_for has_room_for
-returns-clause-places c = on_err c.merge.result _ _ (λ h k. places_set c.open.new.self c.args.chunk c.in_ok-place.place c.index_mut.result.now c.merge.new.self (c.in_ok-place.ensures).at c.index_mut.ensures.value place_in h k ∙ c.open.ensures.places k) c.merge.ensures.places
-
-pub returns-clause-memory : goal.returns-clause-memory
-returns-clause-memory c = c.merge.ensures.memory
-
-pub returns-then-is_empty-clause-ok : goal.returns-then-is_empty-clause-ok
-returns-then-is_empty-clause-ok c =
-    nothing_key c.args.self.now c.args.key.now c.args.more.now (ap length (c.is_empty.ensures.value.0 c.if-is_empty.true))
+unfolding held_for has_place_for
+returns-clause-places c =
+    let es = c.open.new.self.chunks.items in
+    let chunk = c.args.key.chunk in
+    let i = c.in_ok-place.place in
+    let e = c.index_mut.result.now in
+    let n = c.merge.new.self in
+    let at = (c.in_ok-place.ensures).at in
+    let value = c.index_mut.ensures.value in
+    let was = read_there number_order chunk es i e at (sym value) in
+    let put = written number_order chunk es i e n at value in
+    on_err c.merge.result _ _ (λ h k. each es (slice_set es i (e.0, n)) chunk (Some e.1) n was put (λ d o p. place_in p k.number ≡ place_in o k.number) (h k.number) (λ d ne o. refl) k.chunk ∙ c.open.ensures.places k) c.merge.ensures.places

@@ -1,50 +1,62 @@
-use Rattle.std.proofs.Common.{◌≡◌, ◌∙◌, ◌++◌, ◌∷◌, [], is_ok, length, sym, ap, subst, arith}
-use Rattle.store_maps.specs.Chunks.{chunk_of, held_of, map_in, place_in, room_in, IsMapAt}
-use Rattle.store_maps.proofs.MapPlaces.{made_at, made_reads, placed_pushed, no_room}
-use Rattle.store_maps.specs.Slots.{held_for, has_place_for, has_room_for}
+use Rattle.std.proofs.Common.{◌≡◌, ◌∙◌, cond, is_ok, insert, length, refl, sym, ap, subst, None, arith}
+use Rattle.std.specs.Ordering.{nat_cmp}
+use Rattle.store_maps.specs.Chunks.{held_of, place_in, AreNarrow}
+use Rattle.store_maps.specs.Places.{value_in}
+use Rattle.store_maps.specs.Slots.{held_for, has_place_for}
+use Rattle.store_maps.specs.Sorted.{Ascends, GoesAt, IsThere}
+use Rattle.store_maps.proofs.Chunks.{each, narrow_put}
+use Rattle.store_maps.proofs.OneAnswer.{either}
+use Rattle.store_maps.proofs.Sorted.{number_order, at_most, read_missing, put_in, there_in, order_in}
 use Rattle.store_maps.proofs.slot_map.SlotMap.open.Goals as goal
 
-pub invariant_of-self-2 : goal.invariant_of-self-2
-invariant_of-self-2 c =
-    let es = c.args.self.now.chunks.items in
-    let none = ap (λ xs. map_in xs c.args.chunk) (sym c.as_slice.ensures.value) ∙ (c.in_default.ensures).none in
+pub insert-requires : goal.insert-requires
+insert-requires c =
+    let less = at_most nat_cmp c.args.chunk c.as_slice.result.now c.in-Err.place (c.in-Err.ensures).missing in
+    let all = ap length (c.as_slice.ensures.value ∙ sym c.lengthen.ensures.same) in
+    let long = c.lengthen.new.list.ok.0 in omega arith
+
+pub invariant_of-self-in-Err : goal.invariant_of-self-in-Err
+invariant_of-self-in-Err c =
+    let a = c.args.self.now in
+    let es = a.chunks.items in
+    let fs = insert es c.in-Err.place (c.args.chunk, c.new.result) in
+    let b = is_ok c.insert.result in
+    let goes = subst (λ xs. GoesAt nat_cmp c.args.chunk xs c.in-Err.place) c.as_slice.ensures.value (c.in-Err.ensures).missing in
+    let is : c.insert.new.self.items ≡ cond b fs es = c.insert.ensures.items ∙ ap (λ xs. cond b (insert xs c.in-Err.place (c.args.chunk, c.new.result)) xs) c.lengthen.ensures.same in
+    let put = put_in number_order c.args.chunk c.new.result es c.in-Err.place goes in
     record {
-      placed = placed_pushed c.args.self.now.q c.args.chunk (is_ok c.push.result) es c.lengthen.new.list.items c.push.new.self.items c.new.result c.lengthen.ensures.same c.push.ensures.items none c.new.ensures.places c.args.self.now.placed;
-      bare = c.args.self.now.bare;
+      order = subst (Ascends nat_cmp) (sym is) (either (Ascends nat_cmp) b fs es (order_in number_order c.args.chunk c.new.result es c.in-Err.place a.order goes) a.order);
+      narrow = subst AreNarrow (sym is) (either AreNarrow b fs es (narrow_put es fs c.args.chunk None c.new.result (read_missing number_order c.args.chunk es c.in-Err.place a.order goes) put c.requires a.narrow) a.narrow);
+      bare = a.bare;
     }
 
-pub returns-clause-same : goal.returns-clause-same
-unfolding held_for has_place_for has_room_for
-returns-clause-same c k =
-    let es = c.args.self.now.chunks.items in
-    let d = chunk_of c.args.self.now.q k in
-    let none = ap (λ xs. map_in xs c.args.chunk) (sym c.as_slice.ensures.value) ∙ (c.in_default.ensures).none in
-    let is = (c.in_ok-push.ensures).items ∙ ap (λ xs. xs ++ (c.args.chunk, c.new.result) ∷ []) c.lengthen.ensures.same in
-    ap (λ xs. held_of (map_in xs d) k) is ∙ made_reads (λ o. held_of o k) c.args.chunk es c.new.result none (c.new.ensures.versions k) d
+pub returns-in_ok-insert-in-Err-clause-same : goal.returns-in_ok-insert-in-Err-clause-same
+unfolding held_for
+returns-in_ok-insert-in-Err-clause-same c k =
+    let a = c.args.self.now in
+    let es = a.chunks.items in
+    let fs = insert es c.in-Err.place (c.args.chunk, c.new.result) in
+    let goes = subst (λ xs. GoesAt nat_cmp c.args.chunk xs c.in-Err.place) c.as_slice.ensures.value (c.in-Err.ensures).missing in
+    let is : c.insert.new.self.items ≡ fs = (c.in_ok-insert-in-Err.ensures).items ∙ ap (λ xs. insert xs c.in-Err.place (c.args.chunk, c.new.result)) c.lengthen.ensures.same in
+    ap (λ xs. held_of (value_in xs k.chunk) k.number) is
+    ∙ each es fs c.args.chunk None c.new.result (read_missing number_order c.args.chunk es c.in-Err.place a.order goes) (put_in number_order c.args.chunk c.new.result es c.in-Err.place goes)
+    (λ d o p. held_of p k.number ≡ held_of o k.number) (c.new.ensures.versions k.number) (λ d ne o. refl) k.chunk
 
-pub returns-clause-places : goal.returns-clause-places
-unfolding held_for has_place_for has_room_for
-returns-clause-places c k =
-    let es = c.args.self.now.chunks.items in
-    let d = chunk_of c.args.self.now.q k in
-    let none = ap (λ xs. map_in xs c.args.chunk) (sym c.as_slice.ensures.value) ∙ (c.in_default.ensures).none in
-    let is = (c.in_ok-push.ensures).items ∙ ap (λ xs. xs ++ (c.args.chunk, c.new.result) ∷ []) c.lengthen.ensures.same in
-    ap (λ xs. place_in (map_in xs d) k) is ∙ made_reads (λ o. place_in o k) c.args.chunk es c.new.result none (c.new.ensures.places k) d
+pub returns-in_ok-insert-in-Err-clause-places : goal.returns-in_ok-insert-in-Err-clause-places
+unfolding has_place_for
+returns-in_ok-insert-in-Err-clause-places c k =
+    let a = c.args.self.now in
+    let es = a.chunks.items in
+    let fs = insert es c.in-Err.place (c.args.chunk, c.new.result) in
+    let goes = subst (λ xs. GoesAt nat_cmp c.args.chunk xs c.in-Err.place) c.as_slice.ensures.value (c.in-Err.ensures).missing in
+    let is : c.insert.new.self.items ≡ fs = (c.in_ok-insert-in-Err.ensures).items ∙ ap (λ xs. insert xs c.in-Err.place (c.args.chunk, c.new.result)) c.lengthen.ensures.same in
+    ap (λ xs. place_in (value_in xs k.chunk) k.number) is
+    ∙ each es fs c.args.chunk None c.new.result (read_missing number_order c.args.chunk es c.in-Err.place a.order goes) (put_in number_order c.args.chunk c.new.result es c.in-Err.place goes)
+    (λ d o p. place_in p k.number ≡ place_in o k.number) (c.new.ensures.places k.number) (λ d ne o. refl) k.chunk
 
-pub returns-clause-rooms : goal.returns-clause-rooms
-unfolding held_for has_place_for has_room_for
-returns-clause-rooms c k =
+pub returns-in_ok-insert-in-Err-clause-at : goal.returns-in_ok-insert-in-Err-clause-at
+returns-in_ok-insert-in-Err-clause-at c =
     let es = c.args.self.now.chunks.items in
-    let d = chunk_of c.args.self.now.q k in
-    let none = ap (λ xs. map_in xs c.args.chunk) (sym c.as_slice.ensures.value) ∙ (c.in_default.ensures).none in
-    let is = (c.in_ok-push.ensures).items ∙ ap (λ xs. xs ++ (c.args.chunk, c.new.result) ∷ []) c.lengthen.ensures.same in
-    ap (λ xs. room_in (map_in xs d) k) is ∙ made_reads (λ o. room_in o k) c.args.chunk es c.new.result none (no_room c.new.result k (c.new.ensures.places k)) d
-
-pub returns-clause-at : goal.returns-clause-at
-unfolding held_for has_place_for has_room_for
-returns-clause-at c =
-    let es = c.args.self.now.chunks.items in
-    let none = ap (λ xs. map_in xs c.args.chunk) (sym c.as_slice.ensures.value) ∙ (c.in_default.ensures).none in
-    let is = (c.in_ok-push.ensures).items ∙ ap (λ xs. xs ++ (c.args.chunk, c.new.result) ∷ []) c.lengthen.ensures.same in
-    let count : length es ≡ c.len-place.result = (let all = c.args.self.now.chunks.ok.0 in omega arith) in
-    subst (λ xs. IsMapAt c.args.chunk xs c.len-place.result) (sym is) (subst (IsMapAt c.args.chunk (es ++ (c.args.chunk, c.new.result) ∷ [])) count (made_at c.args.chunk es c.new.result none))
+    let goes = subst (λ xs. GoesAt nat_cmp c.args.chunk xs c.in-Err.place) c.as_slice.ensures.value (c.in-Err.ensures).missing in
+    let is = (c.in_ok-insert-in-Err.ensures).items ∙ ap (λ xs. insert xs c.in-Err.place (c.args.chunk, c.new.result)) c.lengthen.ensures.same in
+    subst (λ xs. IsThere nat_cmp c.args.chunk xs c.in-Err.place) (sym is) (there_in number_order c.args.chunk c.new.result es c.in-Err.place goes)

@@ -1,4 +1,4 @@
-use Rattle.std.proofs.Common.{◌∙◌, ℕ, List, length, map, refl, ap, subst}
+use Rattle.std.proofs.Common.{◌∙◌, ℕ, List, length, map, refl, sym, ap, subst}
 use Rattle.std.specs.Prelude.{option_map, replicate}
 use Rattle.ring_table.specs.Value.{RingValue, owner_of}
 use Rattle.ring_table.specs.Valid.{IsRing}
@@ -8,6 +8,11 @@ use Rattle.store_tables.specs.KeyTable.{KeyTable}
 use Rattle.store_tables.specs.Nodes.{node_at_start}
 use Rattle.store_tables.specs.Slots.{slot_at_start}
 use Rattle.store_tables.specs.Steps.{step_at_start}
+use Rattle.ring_store.specs.Stores.{held_at}
+use Rattle.ring_hints.specs.Hints.{hinted_at}
+use Rattle.store_tells.specs.Puts.{AreNumbered}
+use Rattle.store_tells.proofs.Numbers.{nothing_at, placed_nothing}
+use Rattle.store_tells.proofs.PutsLists.{none_numbered}
 use Rattle.store_tells.proofs.TellsStart.{tells_start}
 use Rattle.store_tells.proofs.parts.Parts.start.Goals as goal
 
@@ -28,5 +33,16 @@ returns-clause-opening c =
     c.new-3.ensures
     c.new-4.ensures
     refl
-    c.in_ok-stores.ensures.versions
-    c.new-5.ensures.versions
+    (λ x s. nothing_at c.new.result (held_at c.in_ok-stores.stores x s) (c.in_ok-stores.ensures.versions x s))
+    (λ x s. nothing_at c.new.result (hinted_at c.new-5.result x s) (c.new-5.ensures x s))
+
+pub returns-clause-sized : goal.returns-clause-sized
+returns-clause-sized c =
+    let q = c.q-q.ensures.value ∙ ap (λ (r : RingValue). r.q) c.ring-ring.ensures.value in
+    record {
+      space = c.in_ok-stores.ensures.space ∙ q;
+      keys = ap (λ (t : KeyTable). t.q) c.new.ensures ∙ q;
+      numbered = subst (λ (t : KeyTable). AreNumbered t.keys) (sym c.new.ensures) none_numbered;
+      stored = λ x s. placed_nothing c.new.result (held_at c.in_ok-stores.stores x s) (c.in_ok-stores.ensures.versions x s);
+      hinted = λ x s. placed_nothing c.new.result (hinted_at c.new-5.result x s) (c.new-5.ensures x s);
+    }

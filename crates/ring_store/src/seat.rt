@@ -1,0 +1,10 @@
+//! The place of a node's map in the row of its chunk.
+
+use ring_names::NodeId;
+
+// A slot's index and a node.
+#[derive(Clone, Copy, PartialEq, Eq, PartialOrd, Ord)]
+pub(crate) struct Seat {
+    pub(crate) index: u32,
+    pub(crate) node: NodeId,
+}
