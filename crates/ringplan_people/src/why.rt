@@ -41,7 +41,7 @@ pub(crate) enum Outcome {
     Replayed,
     /// Another refusal.
     Next(Refusal),
-    /// The same refusal as before, or there is no mend.
+    /// The mend leaves the refusal as it was, or none was found.
     Same,
 }
 

@@ -14,7 +14,7 @@ const LANES: u32 = 90;
 
 /// Draws a plan, and how far a run has come, as SVG.
 ///
-/// The same plan has the same bytes. Fails only with `OutOfMemory`.
+/// A plan always has the same bytes. Fails only with `OutOfMemory`.
 ///
 /// Shows every copy up to 40 rounds and 90 lanes, if each bar fits its partition's number. Otherwise shows sums, in at
 /// most 60 columns and 31 rows.

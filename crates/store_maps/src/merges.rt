@@ -59,6 +59,7 @@ impl KeyTree {
         }
         self.put(key, more.try_copy()?)
     }
+
     /// Completes a merge with a whole tree. Cannot fail.
     pub fn settle_all(&mut self, fresh: FreshKeys)
         requires { AreReadyIn self.old fresh }

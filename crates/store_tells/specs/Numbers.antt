@@ -11,7 +11,7 @@ use Rattle.store_tables.specs.KeyTable.{KeyTable, chunk_of, id_of}
 abbrev pub by_bytes : KeyTable → (KeyId → List Version) → List ℕ → List Version
 by_bytes t held key = elim (id_of t key) [ Some k ↦ held k | None ↦ [] ]
 
--- the same for each node and slot
+-- what each node holds for each slot, told by the keys
 abbrev pub by_keys : KeyTable → (ℕ → Slot → KeyId → List Version) → ℕ → Slot → List ℕ → List Version
 by_keys t held x s = by_bytes t (held x s)
 

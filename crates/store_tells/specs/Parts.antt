@@ -44,7 +44,7 @@ kept_of a = record {
 abbrev pub Meets : Parts → World → Type 0
 Meets a w = Tells (ring_of a) (plan_of a) (kept_of a) w
 
--- the parts are of the ring's size, and nothing is stored or kept but of keys that have numbers
+-- the parts are of the ring's size, and only keys that have numbers are stored or kept
 pub record IsSized (a : Parts) : Type 0 where
   pub space : shared_space a.stores ≡ (ring_of a).q
   pub keys : a.keys.q ≡ (ring_of a).q
