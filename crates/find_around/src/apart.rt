@@ -1,7 +1,7 @@
 //! Keeps retargeted slots out of the racks of their partition's other slots.
 
 use crate::around::Search;
-use crate::told::Outcome;
+use crate::told::SlotOutcome;
 use ring_names::{Refusal, Slot};
 
 impl Search<'_> {
@@ -55,7 +55,7 @@ impl Search<'_> {
             return Ok(false);
         } else {
             self.leave_out_from(place)?;
-            self.note_outcome(slot, Outcome::Close(it.target))?;
+            self.note_outcome(slot, SlotOutcome::Close(it.target))?;
         }
         Ok(true)
     }

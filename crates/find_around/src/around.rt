@@ -1,13 +1,13 @@
 //! The search and its input.
 
 use crate::crowding::Crowd;
-use crate::entries::Begun;
-use crate::hints::Hints;
+use crate::entries::BegunSteps;
+use crate::hints::HintTable;
 use crate::linking::link;
 use crate::moving::Moves;
 use crate::needs::Needs;
 use crate::settling::settle;
-use crate::sources::Listing;
+use crate::sources::CopyListing;
 use crate::told::Saying;
 use crate::writing::{Written, write};
 use helpers::{Labels, Words, is_set, put};
@@ -23,7 +23,7 @@ use std::collections::{BTreeMap, BTreeSet};
 
 /// A plan that has begun, and what is to change.
 #[derive(Clone, Copy)]
-pub struct Task<'a> {
+pub struct AroundTask<'a> {
     pub alloc: Global,
     pub ring: &'a Ring,
     pub plan: &'a Plan,
@@ -73,11 +73,11 @@ pub struct Around {
 
 #[derive(Drop)]
 pub(crate) struct Search<'a> {
-    pub(crate) task: Task<'a>,
+    pub(crate) task: AroundTask<'a>,
     pub(crate) reach: Reach,
     pub(crate) progress: Progress,
     pub(crate) moves: Moves,
-    pub(crate) hints: Hints,
+    pub(crate) hints: HintTable,
     pub(crate) dead: Vec<bool>,
     pub(crate) ahead: BTreeSet<Slot>,
     /// By partition, whether no more moves begin.
@@ -95,7 +95,7 @@ pub(crate) struct Search<'a> {
     /// Dependencies that the old plan lacks.
     pub(crate) more: Needs,
     /// By copy, its new sources.
-    pub(crate) listings: BTreeMap<u32, Listing>,
+    pub(crate) listings: BTreeMap<u32, CopyListing>,
     /// By node, copies newly read from it; then slots owned in the end.
     pub(crate) load: Vec<u32>,
     pub(crate) owned: Vec<u32>,
@@ -109,7 +109,7 @@ pub(crate) struct Search<'a> {
     pub(crate) words: Words,
 }
 
-fn flags(task: &Task) -> Result<Vec<bool>, Refusal> {
+fn flags(task: &AroundTask) -> Result<Vec<bool>, Refusal> {
     let mut dead = vec![in task.alloc; false; task.ring.nodes().len()]?;
     for node in task.dead {
         put(dead.as_mut_slice(), node.0, true);
@@ -117,7 +117,7 @@ fn flags(task: &Task) -> Result<Vec<bool>, Refusal> {
     Ok(dead)
 }
 
-fn slots(task: &Task) -> Result<BTreeSet<Slot>, Refusal> {
+fn slots(task: &AroundTask) -> Result<BTreeSet<Slot>, Refusal> {
     let mut ahead = BTreeSet::new(task.alloc);
     for slot in task.ahead {
         ahead.insert(*slot)?;
@@ -126,14 +126,14 @@ fn slots(task: &Task) -> Result<BTreeSet<Slot>, Refusal> {
 }
 
 impl<'a> Search<'a> {
-    fn of(task: Task<'a>, reach: Reach) -> Result<Search<'a>, Refusal> {
+    fn of(task: AroundTask<'a>, reach: Reach) -> Result<Search<'a>, Refusal> {
         let (alloc, steps, nodes) = (
             task.alloc,
             task.plan.len() as usize,
             task.ring.nodes().len(),
         );
-        let found = Begun::of(&task)?;
-        let Begun { begun, hints, .. } = found;
+        let found = BegunSteps::of(&task)?;
+        let BegunSteps { begun, hints, .. } = found;
         let moves = Moves::of(alloc, task.ring, task.plan)?;
         let crowd = Crowd::of(&task, &moves)?;
         Ok(Search {
@@ -141,7 +141,7 @@ impl<'a> Search<'a> {
             reach,
             progress: Progress::of(alloc, task.plan, task.history)?,
             moves,
-            hints: Hints::of(alloc, task.ring, hints)?,
+            hints: HintTable::of(alloc, task.ring, hints)?,
             dead: flags(&task)?,
             ahead: slots(&task)?,
             resting: vec![in alloc; false; task.ring.q() as usize]?,
@@ -209,7 +209,7 @@ impl<'a> Search<'a> {
 /// If nothing changes, returns the old plan. Named slots stay; no remaining step involves a dead node.
 ///
 /// Fails with `NoPlan` or `OutOfMemory`. Costs a pass over plan and history, and sorting.
-pub fn find_around(task: Task, reach: Reach) -> Result<Around, Refusal> {
+pub fn find_around(task: AroundTask, reach: Reach) -> Result<Around, Refusal> {
     let mut search = Search::of(task, reach)?;
     settle(&mut search)?;
     let needs = link(&mut search)?;

@@ -1,7 +1,7 @@
 //! Maps steps to those of the plan chosen instead.
 
-use crate::around::Task;
-use crate::entries::Begun;
+use crate::around::AroundTask;
+use crate::entries::BegunSteps;
 use helpers::{at, is_set, set};
 use plan_runs::Back;
 use plan_text::{Plan, Source, Step};
@@ -93,7 +93,7 @@ impl ByKey {
     }
 }
 
-fn slots_ahead(task: &Task) -> Result<BTreeSet<Slot>, Refusal> {
+fn slots_ahead(task: &AroundTask) -> Result<BTreeSet<Slot>, Refusal> {
     let mut ahead = BTreeSet::new(task.alloc);
     for slot in task.ahead {
         ahead.insert(*slot)?;
@@ -102,7 +102,12 @@ fn slots_ahead(task: &Task) -> Result<BTreeSet<Slot>, Refusal> {
 }
 
 // Drops the numbers of mirrors ahead of their owners, if their begun copies are new in the chosen plan.
-fn take_back(task: &Task, chosen: &Plan, kept: &mut Kept, begun: &[bool]) -> Result<(), Refusal> {
+fn take_back(
+    task: &AroundTask,
+    chosen: &Plan,
+    kept: &mut Kept,
+    begun: &[bool],
+) -> Result<(), Refusal> {
     let ahead = slots_ahead(task)?;
     let fresh = kept.fresh_copies(task.alloc, chosen)?;
     let mut mirrors = BTreeMap::new(task.alloc);
@@ -156,7 +161,7 @@ impl Kept {
     }
 
     // Drops the numbers, and so the entries, of unfinished copies that must now wait.
-    fn forget_waiting(&mut self, task: &Task, chosen: &Plan, done: &[bool]) {
+    fn forget_waiting(&mut self, task: &AroundTask, chosen: &Plan, done: &[bool]) {
         for step in 0..task.plan.len() {
             let is_copy = matches!(task.plan.step(step), Step::Copy(_, _));
             if is_copy && !is_set(done, step) && self.waits(chosen, step, done) {
@@ -219,8 +224,8 @@ impl Keeping {
 ///
 /// Unfinished copies that must wait get no number. If mirrors may be undone, neither do mirrors ahead of their owners
 /// whose copies change.
-pub fn find_kept(task: &Task, chosen: &Plan) -> Result<Kept, Refusal> {
-    let Begun { begun, done, .. } = Begun::of(task)?;
+pub fn find_kept(task: &AroundTask, chosen: &Plan) -> Result<Kept, Refusal> {
+    let BegunSteps { begun, done, .. } = BegunSteps::of(task)?;
     let mut it = Keeping {
         left: ByKey::of(task.alloc, chosen)?,
         mirrors: BTreeMap::new(task.alloc),

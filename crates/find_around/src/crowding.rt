@@ -1,8 +1,8 @@
 //! Leaves out moves to nodes that keep another slot of the partition.
 
-use crate::around::{Search, Task};
-use crate::moving::{Move, Moves};
-use crate::told::Outcome;
+use crate::around::{AroundTask, Search};
+use crate::moving::{Moves, PlannedMove};
+use crate::told::SlotOutcome;
 use helpers::{at, place_of, set};
 use ring_names::{Refusal, Slot};
 use std::alloc::Global;
@@ -19,7 +19,7 @@ pub(crate) struct Crowd {
 }
 
 impl Crowd {
-    pub(crate) fn of(task: &Task, moves: &Moves) -> Result<Crowd, Refusal> {
+    pub(crate) fn of(task: &AroundTask, moves: &Moves) -> Result<Crowd, Refusal> {
         let alloc: Global = task.alloc;
         let mut arrivals = Vec::new(alloc);
         for place in 0..moves.len() {
@@ -72,7 +72,7 @@ impl Crowd {
 }
 
 impl Search<'_> {
-    pub(crate) fn leave_out(&mut self, it: &Move) {
+    pub(crate) fn leave_out(&mut self, it: &PlannedMove) {
         self.remove(it.mirror);
         self.remove(it.copy);
         self.remove(it.switch);
@@ -122,7 +122,7 @@ impl Search<'_> {
         Ok(())
     }
 
-    fn next_switch(&self, it: &Move) -> Option<u32> {
+    fn next_switch(&self, it: &PlannedMove) -> Option<u32> {
         let mut next = it.next;
         for turn in 0..self.moves.len() {
             let later = self.moves.at(next)?;
@@ -135,7 +135,7 @@ impl Search<'_> {
     }
 
     // Leaves out moves that would reach the owner before its next kept switch.
-    fn make_way_for(&mut self, it: &Move, mirror: u32) -> Result<(), Refusal> {
+    fn make_way_for(&mut self, it: &PlannedMove, mirror: u32) -> Result<(), Refusal> {
         let until = self.next_switch(it);
         let (partition, node) = (it.slot.partition, it.source);
         let from = self.crowd.first(partition, node, mirror);
@@ -153,7 +153,7 @@ impl Search<'_> {
         Ok(())
     }
 
-    fn step_aside(&mut self, it: &Move, other: u32) -> Result<(), Refusal> {
+    fn step_aside(&mut self, it: &PlannedMove, other: u32) -> Result<(), Refusal> {
         let place = self.moves.of_step(other);
         let Some(late) = self.moves.at(place) else {
             return Ok(());
@@ -163,6 +163,6 @@ impl Search<'_> {
             return Ok(());
         }
         self.leave_out_from(place)?;
-        self.note_outcome(late.slot, Outcome::Crowded(it.source))
+        self.note_outcome(late.slot, SlotOutcome::Crowded(it.source))
     }
 }

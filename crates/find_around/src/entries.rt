@@ -1,21 +1,21 @@
 //! What a history has begun, and the hints that remain.
 
-use crate::around::Task;
+use crate::around::AroundTask;
 use helpers::put;
 use plan_runs::{Entry, Event, Reply};
 use ring_names::{Refusal, Slot};
 use std::collections::BTreeSet;
 
 #[derive(Drop)]
-pub(crate) struct Begun {
+pub(crate) struct BegunSteps {
     pub(crate) begun: Vec<bool>,
     pub(crate) done: Vec<bool>,
     pub(crate) hints: BTreeSet<(Slot, u32)>,
 }
 
-impl Begun {
-    pub(crate) fn of(task: &Task) -> Result<Begun, Refusal> {
-        let mut found = Begun {
+impl BegunSteps {
+    pub(crate) fn of(task: &AroundTask) -> Result<BegunSteps, Refusal> {
+        let mut found = BegunSteps {
             begun: vec![in task.alloc; false; task.plan.len() as usize]?,
             done: vec![in task.alloc; false; task.plan.len() as usize]?,
             hints: BTreeSet::new(task.alloc),

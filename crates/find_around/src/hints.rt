@@ -7,21 +7,21 @@ use std::alloc::Global;
 use std::collections::BTreeSet;
 
 #[derive(Drop)]
-pub(crate) struct Hints {
+pub(crate) struct HintTable {
     // ascending
     all: Vec<(Slot, u32)>,
     // by partition, where its hints begin; then their count
     firsts: Vec<u32>,
 }
 
-impl Hints {
+impl HintTable {
     pub(crate) fn of(
         alloc: Global,
         ring: &Ring,
         kept: BTreeSet<(Slot, u32)>,
-    ) -> Result<Hints, Refusal> {
+    ) -> Result<HintTable, Refusal> {
         let partitions = ring.q() as usize;
-        let mut hints = Hints {
+        let mut hints = HintTable {
             all: Vec::new(alloc),
             firsts: vec![in alloc; 0u32; partitions.saturating_add(1)]?,
         };

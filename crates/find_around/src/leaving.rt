@@ -1,13 +1,13 @@
 //! Slots that stay with their owners on request.
 
-use crate::around::{Search, Task};
-use crate::moving::{Move, Moves};
-use crate::told::Outcome;
+use crate::around::{AroundTask, Search};
+use crate::moving::{Moves, PlannedMove};
+use crate::told::SlotOutcome;
 use helpers::put;
 use plan_moves::Progress;
 use ring_names::{Refusal, Slot};
 
-fn has_slot(task: &Task, slot: Slot) -> bool {
+fn has_slot(task: &AroundTask, slot: Slot) -> bool {
     slot.partition < task.ring.q() && slot.index < task.ring.n()
 }
 
@@ -37,7 +37,7 @@ fn first_open(moves: &Moves, progress: &Progress, slot: Slot) -> Option<usize> {
 /// Returns the slots asked to stay that stay anyway. No remaining step moves them, and no node mirrors them.
 ///
 /// Costs a pass over plan and history.
-pub fn find_unmoved(task: &Task) -> Result<Vec<Slot>, Refusal> {
+pub fn find_unmoved(task: &AroundTask) -> Result<Vec<Slot>, Refusal> {
     let mut unmoved = Vec::new(task.alloc);
     if task.left.is_empty() {
         return Ok(unmoved);
@@ -71,14 +71,14 @@ impl Search<'_> {
         };
         if self.is_filled(&it) {
             self.leave_out_from(it.next)?;
-            return self.note_outcome(slot, Outcome::Ended(it.target));
+            return self.note_outcome(slot, SlotOutcome::Ended(it.target));
         }
         self.cancel(&it)?;
         self.leave_out_from(place)?;
-        self.note_outcome(slot, Outcome::Left)
+        self.note_outcome(slot, SlotOutcome::Left)
     }
 
-    fn cancel(&mut self, it: &Move) -> Result<(), Refusal> {
+    fn cancel(&mut self, it: &PlannedMove) -> Result<(), Refusal> {
         if self.has_done(it.mirror) {
             self.take_back(it)?;
         }
@@ -86,7 +86,7 @@ impl Search<'_> {
     }
 
     /// Undoes the mirror, so that the move has not begun.
-    pub(crate) fn take_back(&mut self, it: &Move) -> Result<(), Refusal> {
+    pub(crate) fn take_back(&mut self, it: &PlannedMove) -> Result<(), Refusal> {
         self.note_taken(it.slot, it.target)?;
         if let Some(mirror) = it.mirror {
             put(self.taken.as_mut_slice(), mirror, true);

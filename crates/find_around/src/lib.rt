@@ -24,6 +24,6 @@ mod targets;
 mod told;
 mod writing;
 
-pub use around::{Around, Reach, Task, find_around};
+pub use around::{Around, AroundTask, Reach, find_around};
 pub use choosing::{Kept, find_kept};
 pub use leaving::find_unmoved;

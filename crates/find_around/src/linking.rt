@@ -1,10 +1,10 @@
 //! Dependencies of the new plan.
 
 use crate::around::Search;
-use crate::moving::Move;
+use crate::moving::PlannedMove;
 use crate::needs::Needs;
 use crate::owners::Way;
-use crate::sources::Listing;
+use crate::sources::CopyListing;
 use helpers::{at, is_set, raise, set, small};
 use plan_text::{Source, Step};
 use ring_names::{NodeId, Refusal, Slot};
@@ -183,7 +183,7 @@ impl Search<'_> {
         Ok(())
     }
 
-    fn copied_by(&self, step: u32) -> Option<Move> {
+    fn copied_by(&self, step: u32) -> Option<PlannedMove> {
         let it = self.moves.at(self.moves.of_step(step))?;
         if self.kept(it.copy) == Some(step) {
             Some(it)
@@ -196,7 +196,7 @@ impl Search<'_> {
         &self,
         needs: &mut Needs,
         tails: &mut Tails,
-        it: &Move,
+        it: &PlannedMove,
         copy: u32,
     ) -> Result<(), Refusal> {
         let parties = self.parties(it, copy)?;
@@ -240,7 +240,7 @@ impl Search<'_> {
         }
     }
 
-    fn parties(&self, it: &Move, copy: u32) -> Result<Parties, Refusal> {
+    fn parties(&self, it: &PlannedMove, copy: u32) -> Result<Parties, Refusal> {
         let mut groups = Vec::new(self.task.alloc);
         groups.push(self.group(it.target, Side::Take))?;
         match self.listings.get(&copy) {
@@ -253,9 +253,9 @@ impl Search<'_> {
     fn push_listed(
         &self,
         groups: &mut Vec<usize>,
-        it: &Move,
+        it: &PlannedMove,
         copy: u32,
-        listing: &Listing,
+        listing: &CopyListing,
     ) -> Result<(), Refusal> {
         let partition = it.slot.partition;
         for index in 0..7u32 {
@@ -271,7 +271,12 @@ impl Search<'_> {
         Ok(())
     }
 
-    fn push_sources(&self, groups: &mut Vec<usize>, it: &Move, copy: u32) -> Result<(), Refusal> {
+    fn push_sources(
+        &self,
+        groups: &mut Vec<usize>,
+        it: &PlannedMove,
+        copy: u32,
+    ) -> Result<(), Refusal> {
         if copy >= self.task.plan.len() {
             return Ok(());
         }

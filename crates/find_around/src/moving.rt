@@ -9,7 +9,7 @@ use std::collections::BTreeMap;
 
 /// A slot goes from its owner to another node.
 #[derive(Clone, Copy, Debug)]
-pub(crate) struct Move {
+pub(crate) struct PlannedMove {
     pub(crate) slot: Slot,
     pub(crate) source: u32,
     pub(crate) target: u32,
@@ -25,7 +25,7 @@ pub(crate) struct Move {
 /// The moves of a plan, in the order of their mirrors.
 #[derive(Drop)]
 pub(crate) struct Moves {
-    all: Vec<Move>,
+    all: Vec<PlannedMove>,
     // by slot, 1 plus the places of its first and its last move; 0 for none
     firsts: Vec<u32>,
     lasts: Vec<u32>,
@@ -51,8 +51,14 @@ pub(crate) fn first_owner(ring: &Ring, slot: Slot) -> u32 {
     0
 }
 
-fn begun_move(slot: Slot, source: u32, target: u32, mirror: u32, before: Option<usize>) -> Move {
-    Move {
+fn begun_move(
+    slot: Slot,
+    source: u32,
+    target: u32,
+    mirror: u32,
+    before: Option<usize>,
+) -> PlannedMove {
+    PlannedMove {
         slot,
         source,
         target,
@@ -168,7 +174,7 @@ impl Moves {
         self.all.len()
     }
 
-    pub(crate) fn at(&self, place: Option<usize>) -> Option<Move> {
+    pub(crate) fn at(&self, place: Option<usize>) -> Option<PlannedMove> {
         self.all.get(place?).copied()
     }
 

@@ -1,7 +1,7 @@
 //! Who owns a slot after the kept steps.
 
 use crate::around::Search;
-use crate::moving::{Move, first_owner};
+use crate::moving::{PlannedMove, first_owner};
 use ring_names::Slot;
 
 /// The line after all steps.
@@ -108,7 +108,7 @@ impl Search<'_> {
         false
     }
 
-    pub(crate) fn is_filled(&self, it: &Move) -> bool {
+    pub(crate) fn is_filled(&self, it: &PlannedMove) -> bool {
         let (Some(copy), Some(_)) = (it.copy, it.switch) else {
             return false;
         };

@@ -1,7 +1,7 @@
 //! Copies that now precede a switch that they used to follow, since it leads to a dead node.
 
 use crate::around::Search;
-use crate::moving::Move;
+use crate::moving::PlannedMove;
 use crate::owners::Way;
 use helpers::is_set;
 use ring_names::{Refusal, Slot};
@@ -39,7 +39,7 @@ impl Search<'_> {
     }
 
     // The switches that the copy now precedes, ascending.
-    fn switches_after(&self, it: &Move) -> Result<Vec<u32>, Refusal> {
+    fn switches_after(&self, it: &PlannedMove) -> Result<Vec<u32>, Refusal> {
         let mut switches = Vec::new(self.task.alloc);
         let Some(copy) = it.copy else {
             return Ok(switches);

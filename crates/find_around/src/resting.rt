@@ -1,8 +1,8 @@
 //! Partitions in which no more moves begin.
 
 use crate::around::{Reach, Search};
-use crate::moving::Move;
-use crate::told::Outcome;
+use crate::moving::PlannedMove;
+use crate::told::SlotOutcome;
 use helpers::{is_set, put, small};
 use plan_runs::Back;
 use ring_names::{NodeId, Refusal, Slot};
@@ -96,7 +96,7 @@ impl Search<'_> {
     }
 
     // Whether the move has begun and is to end. With `--back`, a mirror without chunks is undone instead.
-    fn is_to_end(&self, it: &Move) -> bool {
+    fn is_to_end(&self, it: &PlannedMove) -> bool {
         let has_chunks = match it.copy {
             Some(copy) => self.is_done(copy) || self.progress.chunks(copy) > 0,
             None => false,
@@ -122,12 +122,12 @@ impl Search<'_> {
         Ok(())
     }
 
-    fn rest_from(&mut self, from: Option<usize>, it: &Move) -> Result<(), Refusal> {
+    fn rest_from(&mut self, from: Option<usize>, it: &PlannedMove) -> Result<(), Refusal> {
         if self.has_done(it.mirror) {
             self.take_back(it)?;
         }
         self.leave_out_from(from)?;
-        self.note_outcome(it.slot, Outcome::NotBegun)
+        self.note_outcome(it.slot, SlotOutcome::NotBegun)
     }
 
     pub(crate) fn keep_full(&mut self) -> Result<(), Refusal> {
@@ -142,27 +142,27 @@ impl Search<'_> {
         Ok(())
     }
 
-    fn keep_if_full(&mut self, place: usize, it: &Move) -> Result<(), Refusal> {
+    fn keep_if_full(&mut self, place: usize, it: &PlannedMove) -> Result<(), Refusal> {
         let is_full = self.is_filled(it);
         if is_full || self.has_done(it.switch) {
             if self.is_dead(it.source) && !self.has_done(it.drop) {
                 self.remove(it.drop);
             }
             if self.is_dead(it.target) && !self.has_done(it.switch) {
-                self.note_outcome(it.slot, Outcome::Filled(it.target))?;
+                self.note_outcome(it.slot, SlotOutcome::Filled(it.target))?;
             }
             return Ok(());
         }
         if !self.has_done(it.mirror) {
             self.leave_out_from(Some(place))?;
-            return self.note_outcome(it.slot, Outcome::NotBegun);
+            return self.note_outcome(it.slot, SlotOutcome::NotBegun);
         }
         if self.task.back == Back::Allowed && !self.has_done(it.copy) {
             self.take_back(it)?;
             self.leave_out_from(Some(place))?;
-            return self.note_outcome(it.slot, Outcome::NotBegun);
+            return self.note_outcome(it.slot, SlotOutcome::NotBegun);
         }
         self.stick(it)?;
-        self.note_outcome(it.slot, Outcome::MirroredStill(it.target))
+        self.note_outcome(it.slot, SlotOutcome::MirroredStill(it.target))
     }
 }

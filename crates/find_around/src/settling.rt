@@ -1,8 +1,8 @@
 //! What becomes of each move.
 
 use crate::around::{Reach, Search};
-use crate::moving::{Move, first_owner};
-use crate::told::Outcome;
+use crate::moving::{PlannedMove, first_owner};
+use crate::told::SlotOutcome;
 use helpers::{is_set, put};
 use plan_runs::Back;
 use ring_names::{NodeId, Refusal, Slot};
@@ -92,7 +92,7 @@ impl Search<'_> {
     }
 
     // `owner` is the slot's owner by then.
-    fn settle_move(&mut self, place: usize, it: Move, owner: u32) -> Result<Fate, Refusal> {
+    fn settle_move(&mut self, place: usize, it: PlannedMove, owner: u32) -> Result<Fate, Refusal> {
         self.moves.lead(place, owner, it.target);
         if owner != it.source && !self.has_done(it.drop) {
             self.is_changed = true;
@@ -105,7 +105,7 @@ impl Search<'_> {
         }
         if self.is_filled(&it) {
             if self.is_dead(it.target) {
-                self.note_outcome(it.slot, Outcome::Filled(it.target))?;
+                self.note_outcome(it.slot, SlotOutcome::Filled(it.target))?;
             }
             return Ok(Fate::Goes);
         }
@@ -118,10 +118,10 @@ impl Search<'_> {
         Ok(Fate::Goes)
     }
 
-    fn settle_dead(&mut self, place: usize, it: &Move, owner: u32) -> Result<Fate, Refusal> {
+    fn settle_dead(&mut self, place: usize, it: &PlannedMove, owner: u32) -> Result<Fate, Refusal> {
         if self.task.back == Back::Never || self.has_done(it.copy) {
             self.stick(it)?;
-            self.note_outcome(it.slot, Outcome::MirroredToDead(it.target))?;
+            self.note_outcome(it.slot, SlotOutcome::MirroredToDead(it.target))?;
             return Ok(Fate::Stuck);
         }
         self.take_back(it)?;
@@ -129,7 +129,7 @@ impl Search<'_> {
         if is_resting || it.switch.is_none() {
             self.leave_out_from(Some(place))?;
             if is_resting {
-                self.note_outcome(it.slot, Outcome::NotBegun)?;
+                self.note_outcome(it.slot, SlotOutcome::NotBegun)?;
             }
             return Ok(Fate::Stuck);
         }
@@ -140,7 +140,7 @@ impl Search<'_> {
     }
 
     // Returns whether the move is kept.
-    fn retarget(&mut self, place: usize, it: &Move, owner: u32) -> Result<bool, Refusal> {
+    fn retarget(&mut self, place: usize, it: &PlannedMove, owner: u32) -> Result<bool, Refusal> {
         if it.target == owner {
             self.leave_out(it);
             return Ok(false);
@@ -156,7 +156,7 @@ impl Search<'_> {
         };
         let Some(other) = other else {
             self.leave_out(it);
-            self.note_outcome(it.slot, Outcome::Untaken(it.target))?;
+            self.note_outcome(it.slot, SlotOutcome::Untaken(it.target))?;
             return Ok(false);
         };
         self.redirect(place, it, owner, other)?;
@@ -167,15 +167,15 @@ impl Search<'_> {
     pub(crate) fn redirect(
         &mut self,
         place: usize,
-        it: &Move,
+        it: &PlannedMove,
         owner: u32,
         other: u32,
     ) -> Result<(), Refusal> {
         let planned = match self.saying_of(it.slot).outcome {
-            Some(Outcome::Elsewhere(node, planned)) if node == it.target => planned,
+            Some(SlotOutcome::Elsewhere(node, planned)) if node == it.target => planned,
             _ => it.target,
         };
-        self.note_outcome(it.slot, Outcome::Elsewhere(other, planned))?;
+        self.note_outcome(it.slot, SlotOutcome::Elsewhere(other, planned))?;
         self.own(other);
         self.moves.lead(place, owner, other);
         self.is_changed = true;
@@ -186,7 +186,7 @@ impl Search<'_> {
     }
 
     /// Keeps the slot mirrored for good: both nodes stay.
-    pub(crate) fn stick(&mut self, it: &Move) -> Result<(), Refusal> {
+    pub(crate) fn stick(&mut self, it: &PlannedMove) -> Result<(), Refusal> {
         if !self.has_done(it.copy) {
             self.remove(it.copy);
         }
@@ -209,7 +209,7 @@ impl Search<'_> {
         Ok(())
     }
 
-    fn settle_copy(&mut self, place: usize, it: &Move, copy: u32) -> Result<(), Refusal> {
+    fn settle_copy(&mut self, place: usize, it: &PlannedMove, copy: u32) -> Result<(), Refusal> {
         if self.is_done(copy) || self.is_filled(it) || !self.reads_dead(it) {
             return Ok(());
         }
@@ -221,7 +221,7 @@ impl Search<'_> {
         self.make_way()
     }
 
-    fn is_ahead(&self, it: &Move) -> bool {
+    fn is_ahead(&self, it: &PlannedMove) -> bool {
         self.has_done(it.mirror) && self.ahead.contains(&it.slot)
     }
 
@@ -240,7 +240,7 @@ impl Search<'_> {
         Ok(awaited)
     }
 
-    fn is_awaited(&self, it: &Move) -> bool {
+    fn is_awaited(&self, it: &PlannedMove) -> bool {
         match it.mirror {
             Some(mirror) => is_set(self.awaited.as_slice(), mirror),
             None => false,
@@ -248,28 +248,28 @@ impl Search<'_> {
     }
 
     // Restarts a move whose mirror is ahead of the owner, since its copy gets new sources.
-    fn begin_again(&mut self, it: &Move, place: usize) -> Result<(), Refusal> {
+    fn begin_again(&mut self, it: &PlannedMove, place: usize) -> Result<(), Refusal> {
         if self.task.back == Back::Never || self.is_awaited(it) {
             self.stick(it)?;
-            return self.note_outcome(it.slot, Outcome::MirroredAhead(it.target));
+            return self.note_outcome(it.slot, SlotOutcome::MirroredAhead(it.target));
         }
         self.take_back(it)?;
         if self.is_resting(it.slot.partition) {
             self.leave_out_from(Some(place))?;
-            return self.note_outcome(it.slot, Outcome::NotBegun);
+            return self.note_outcome(it.slot, SlotOutcome::NotBegun);
         }
-        self.note_outcome(it.slot, Outcome::Again(it.target))
+        self.note_outcome(it.slot, SlotOutcome::Again(it.target))
     }
 
-    fn leave_unread(&mut self, it: &Move, place: usize) -> Result<(), Refusal> {
+    fn leave_unread(&mut self, it: &PlannedMove, place: usize) -> Result<(), Refusal> {
         if self.has_done(it.mirror) && self.task.back == Back::Allowed {
             self.take_back(it)?;
         }
         if self.has_done(it.mirror) {
             self.stick(it)?;
-            return self.note_outcome(it.slot, Outcome::MirroredUnread(it.target));
+            return self.note_outcome(it.slot, SlotOutcome::MirroredUnread(it.target));
         }
         self.leave_out_from(Some(place))?;
-        self.note_outcome(it.slot, Outcome::Unread)
+        self.note_outcome(it.slot, SlotOutcome::Unread)
     }
 }

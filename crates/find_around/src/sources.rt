@@ -1,7 +1,7 @@
 //! Other sources for a copy than a dead owner.
 
 use crate::around::Search;
-use crate::moving::Move;
+use crate::moving::PlannedMove;
 use crate::owners::Way;
 use helpers::{at, put, raise};
 use plan_text::{Source, Step};
@@ -10,13 +10,13 @@ use ring_table::Allowance;
 
 /// The slots that a copy lists, by index.
 #[derive(Clone, Copy, Debug)]
-pub(crate) struct Listing {
+pub(crate) struct CopyListing {
     pub(crate) ways: [Option<Way>; 7],
 }
 
 // A slot that can be listed, ordered by preference.
 #[derive(Clone, Copy, Debug, PartialEq, Eq, PartialOrd, Ord)]
-struct Candidate {
+struct ListableSlot {
     // its switches to come
     switches: u32,
     // copies that read from its owner, scaled by the owner's allowance
@@ -43,12 +43,12 @@ impl Search<'_> {
     }
 
     // A copy cannot read its own target.
-    fn candidate(&self, it: &Move, slot: Slot, copy: u32) -> Option<Candidate> {
+    fn candidate(&self, it: &PlannedMove, slot: Slot, copy: u32) -> Option<ListableSlot> {
         let (way, owner) = self.readable(slot, copy)?;
         if owner == it.target {
             return None;
         }
-        Some(Candidate {
+        Some(ListableSlot {
             switches: self.switches_left(slot),
             load: self.load_of(owner),
             index: slot.index,
@@ -57,7 +57,7 @@ impl Search<'_> {
         })
     }
 
-    fn candidates(&self, it: &Move, copy: u32) -> Result<Vec<Candidate>, Refusal> {
+    fn candidates(&self, it: &PlannedMove, copy: u32) -> Result<Vec<ListableSlot>, Refusal> {
         let mut found = Vec::new(self.task.alloc);
         let partition = it.slot.partition;
         for index in 0..self.task.ring.n() {
@@ -93,10 +93,10 @@ impl Search<'_> {
 
     fn list(
         &mut self,
-        listing: &mut Listing,
+        listing: &mut CopyListing,
         partition: u32,
         copy: u32,
-        one: Candidate,
+        one: ListableSlot,
     ) -> Result<(), Refusal> {
         let way = if one.is_first {
             Way::First
@@ -113,13 +113,13 @@ impl Search<'_> {
     }
 
     /// Gives the copy R other slots to read. Returns whether R were found.
-    pub(crate) fn relist(&mut self, it: &Move, copy: u32) -> Result<bool, Refusal> {
+    pub(crate) fn relist(&mut self, it: &PlannedMove, copy: u32) -> Result<bool, Refusal> {
         let found = self.candidates(it, copy)?;
         let reads = self.task.ring.r() as usize;
         if found.len() < reads {
             return Ok(false);
         }
-        let mut listing = Listing { ways: [None; 7] };
+        let mut listing = CopyListing { ways: [None; 7] };
         for one in found.iter().take(reads) {
             self.list(&mut listing, it.slot.partition, copy, *one)?;
         }
@@ -130,7 +130,7 @@ impl Search<'_> {
     }
 
     /// Whether the copy reads an unreadable slot.
-    pub(crate) fn reads_dead(&self, it: &Move) -> bool {
+    pub(crate) fn reads_dead(&self, it: &PlannedMove) -> bool {
         let Some(copy) = it.copy else {
             return false;
         };

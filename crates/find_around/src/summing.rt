@@ -1,7 +1,7 @@
 //! The report on slots, summed by node.
 
 use crate::around::Search;
-use crate::told::Outcome;
+use crate::told::SlotOutcome;
 use helpers::{at, raise, small};
 use ring_names::{Refusal, Slot};
 
@@ -125,40 +125,40 @@ fn phrase_of_mirrored(kind: u32) -> Phrase {
 }
 
 impl Search<'_> {
-    fn part_of(&self, slot: Slot, outcome: Outcome) -> Part {
+    fn part_of(&self, slot: Slot, outcome: SlotOutcome) -> Part {
         let owner = self.last_owner(slot);
         match outcome {
-            Outcome::Elsewhere(node, other) => Part {
+            SlotOutcome::Elsewhere(node, other) => Part {
                 kind: 1,
                 node,
                 other: Some(other),
             },
-            Outcome::Filled(node) => lone_part(2, node),
-            Outcome::Ended(node) => lone_part(3, node),
-            Outcome::Left => lone_part(4, owner),
-            Outcome::NotBegun => lone_part(5, owner),
-            Outcome::Untaken(other) => Part {
+            SlotOutcome::Filled(node) => lone_part(2, node),
+            SlotOutcome::Ended(node) => lone_part(3, node),
+            SlotOutcome::Left => lone_part(4, owner),
+            SlotOutcome::NotBegun => lone_part(5, owner),
+            SlotOutcome::Untaken(other) => Part {
                 kind: 6,
                 node: owner,
                 other: Some(other),
             },
-            Outcome::Crowded(other) => Part {
+            SlotOutcome::Crowded(other) => Part {
                 kind: 7,
                 node: owner,
                 other: Some(other),
             },
-            Outcome::Close(other) => Part {
+            SlotOutcome::Close(other) => Part {
                 kind: 14,
                 node: owner,
                 other: Some(other),
             },
-            Outcome::Unread => lone_part(8, owner),
-            Outcome::MirroredToDead(node) => lone_part(9, node),
-            Outcome::MirroredUnread(node) => lone_part(10, node),
-            Outcome::MirroredAhead(node) => lone_part(11, node),
-            Outcome::MirroredStill(node) => lone_part(12, node),
-            Outcome::Again(node) => lone_part(13, node),
-            Outcome::AtDead(node) => lone_part(15, node),
+            SlotOutcome::Unread => lone_part(8, owner),
+            SlotOutcome::MirroredToDead(node) => lone_part(9, node),
+            SlotOutcome::MirroredUnread(node) => lone_part(10, node),
+            SlotOutcome::MirroredAhead(node) => lone_part(11, node),
+            SlotOutcome::MirroredStill(node) => lone_part(12, node),
+            SlotOutcome::Again(node) => lone_part(13, node),
+            SlotOutcome::AtDead(node) => lone_part(15, node),
         }
     }
 

@@ -1,7 +1,7 @@
 //! Another node for a slot whose target is dead.
 
 use crate::around::Search;
-use crate::moving::{Move, first_owner};
+use crate::moving::{PlannedMove, first_owner};
 use helpers::{at, place_of, raise, set, small};
 use ring_names::{NodeId, Slot};
 
@@ -63,7 +63,7 @@ impl Search<'_> {
     }
 
     /// Returns the final owners of the partition's other slots.
-    pub(crate) fn others(&self, it: &Move) -> [u32; 7] {
+    pub(crate) fn others(&self, it: &PlannedMove) -> [u32; 7] {
         let mut owners = [u32::MAX; 7];
         let partition = it.slot.partition;
         for index in 0..self.task.ring.n() {
@@ -78,7 +78,7 @@ impl Search<'_> {
     /// Returns the best other target. It has the fewest of the partition's slots in its rack, then the fewest slots.
     ///
     /// None if the owner may stay and is as good.
-    pub(crate) fn other_target(&mut self, it: &Move, owner: u32) -> Option<u32> {
+    pub(crate) fn other_target(&mut self, it: &PlannedMove, owner: u32) -> Option<u32> {
         let owners = self.others(it);
         let mut best = None;
         let mut least = (u32::MAX, u32::MAX);

@@ -6,7 +6,7 @@ use ringplan_job::Shape;
 
 /// What becomes of a slot, if not as planned. `say_outcome` has the words.
 #[derive(Clone, Copy, Debug, PartialEq, Eq)]
-pub(crate) enum Outcome {
+pub(crate) enum SlotOutcome {
     /// Goes to the first node instead of the second.
     Elsewhere(u32, u32),
     Filled(u32),
@@ -29,7 +29,7 @@ pub(crate) enum Outcome {
 #[derive(Clone, Copy, Debug)]
 pub(crate) struct Saying {
     pub(crate) taken: Option<u32>,
-    pub(crate) outcome: Option<Outcome>,
+    pub(crate) outcome: Option<SlotOutcome>,
 }
 
 const NOTHING: Saying = Saying {
@@ -53,7 +53,7 @@ impl Search<'_> {
         self.sayings.get(&slot).copied().unwrap_or(NOTHING)
     }
 
-    pub(crate) fn note_outcome(&mut self, slot: Slot, outcome: Outcome) -> Result<(), Refusal> {
+    pub(crate) fn note_outcome(&mut self, slot: Slot, outcome: SlotOutcome) -> Result<(), Refusal> {
         let taken = self.saying_of(slot).taken;
         let outcome = Some(outcome);
         self.sayings.insert(slot, Saying { taken, outcome })?;
@@ -63,7 +63,7 @@ impl Search<'_> {
     /// Notes that a move is done as planned, maybe after another outcome.
     pub(crate) fn note_planned(&mut self, slot: Slot) -> Result<(), Refusal> {
         let Saying { taken, outcome } = self.saying_of(slot);
-        if let Some(Outcome::Filled(_) | Outcome::Untaken(_)) = outcome {
+        if let Some(SlotOutcome::Filled(_) | SlotOutcome::Untaken(_)) = outcome {
             let outcome = None;
             self.sayings.insert(slot, Saying { taken, outcome })?;
         }
@@ -83,37 +83,37 @@ impl Search<'_> {
             .fill(words, &[ring.name(node), ring.name(other)], &[]);
     }
 
-    fn say_outcome(&mut self, slot: Slot, outcome: Outcome) {
+    fn say_outcome(&mut self, slot: Slot, outcome: SlotOutcome) {
         let owner = self.last_owner(slot);
         match outcome {
-            Outcome::Elsewhere(node, other) => {
+            SlotOutcome::Elsewhere(node, other) => {
                 self.say_of_nodes(b"goes to @ in place of @", node, other)
             }
-            Outcome::Filled(node) => self.say_of_node(
+            SlotOutcome::Filled(node) => self.say_of_node(
                 b"goes to @, which is dead but has all of it: move it on by the next change",
                 node,
             ),
-            Outcome::Ended(node) => {
+            SlotOutcome::Ended(node) => {
                 self.say_of_node(b"goes to @ all the same: the copy has all chunks", node)
             }
-            Outcome::Left => self.say_of_node(b"stays at @, as --leave asks", owner),
-            Outcome::NotBegun => {
+            SlotOutcome::Left => self.say_of_node(b"stays at @, as --leave asks", owner),
+            SlotOutcome::NotBegun => {
                 self.say_of_node(b"stays at @, since no more moves begin", owner)
             }
-            Outcome::Untaken(node) => {
+            SlotOutcome::Untaken(node) => {
                 self.say_of_nodes(b"stays at @: @ cannot take it", owner, node)
             }
-            Outcome::Crowded(node) => self.say_of_nodes(
+            SlotOutcome::Crowded(node) => self.say_of_nodes(
                 b"stays at @: @ keeps another slot of the partition",
                 owner,
                 node,
             ),
-            Outcome::Close(node) => self.say_of_nodes(
+            SlotOutcome::Close(node) => self.say_of_nodes(
                 b"stays at @: another slot of the partition is in the rack of @",
                 owner,
                 node,
             ),
-            Outcome::Unread => self.say_of_node(
+            SlotOutcome::Unread => self.say_of_node(
                 b"stays at @: fewer than R slots of its partition can be read",
                 owner,
             ),
@@ -121,24 +121,24 @@ impl Search<'_> {
         }
     }
 
-    fn say_mirrored(&mut self, outcome: Outcome) {
+    fn say_mirrored(&mut self, outcome: SlotOutcome) {
         match outcome {
-            Outcome::MirroredToDead(node) => {
+            SlotOutcome::MirroredToDead(node) => {
                 self.say_of_node(b"stays mirrored to @: its mirror is dead", node)
             }
-            Outcome::MirroredUnread(node) => self.say_of_node(
+            SlotOutcome::MirroredUnread(node) => self.say_of_node(
                 b"stays mirrored to @: fewer than R slots of its partition can be read",
                 node,
             ),
-            Outcome::MirroredAhead(node) => self.say_of_node(
+            SlotOutcome::MirroredAhead(node) => self.say_of_node(
                 b"stays mirrored to @: its mirror has puts that its owner does not have",
                 node,
             ),
-            Outcome::MirroredStill(node) => {
+            SlotOutcome::MirroredStill(node) => {
                 self.say_of_node(b"stays mirrored to @: --leave takes the mirror back", node)
             }
-            Outcome::AtDead(node) => self.say_of_node(b"stays at @, which is dead", node),
-            Outcome::Again(node) => self.say_of_node(
+            SlotOutcome::AtDead(node) => self.say_of_node(b"stays at @, which is dead", node),
+            SlotOutcome::Again(node) => self.say_of_node(
                 b"is to be mirrored to @ again: what was written since the mirror began is only at its owner and at other slots",
                 node,
             ),
@@ -180,7 +180,7 @@ impl Search<'_> {
         let Saying { taken, outcome } = self.saying_of(slot);
         let owner = self.last_owner(slot);
         if outcome.is_none() && self.is_dead(owner) {
-            let outcome = Some(Outcome::AtDead(owner));
+            let outcome = Some(SlotOutcome::AtDead(owner));
             return Saying { taken, outcome };
         }
         Saying { taken, outcome }

@@ -2,7 +2,7 @@
 
 use crate::around::Search;
 use crate::needs::Needs;
-use crate::sources::Listing;
+use crate::sources::CopyListing;
 use find_rounds::add;
 use helpers::{at, lower, raise, set, small};
 use plan_text::{Indexes, Plan, Source, Step};
@@ -61,7 +61,7 @@ pub(crate) fn write(search: &Search, needs: Needs) -> Result<Written, Refusal> {
     })
 }
 
-fn listed(alloc: Global, slot: Slot, listing: &Listing) -> Result<Step, Refusal> {
+fn listed(alloc: Global, slot: Slot, listing: &CopyListing) -> Result<Step, Refusal> {
     let mut slots = Vec::new(alloc);
     for index in 0..7u32 {
         if let Some(Some(_)) = listing.ways.get(index as usize) {

@@ -10,7 +10,7 @@ use crate::ahead::find_ahead;
 use crate::chosen::{Chosen, Halted, read_halted};
 use crate::going::{Going, accepted, go_on};
 use change_text::Options;
-use find_around::{Around, Kept, Reach, Task, find_around, find_kept, find_unmoved};
+use find_around::{Around, AroundTask, Kept, Reach, find_around, find_kept, find_unmoved};
 use find_chains::certificate;
 use helpers::{Labels, Words};
 use history_text::ReplayBundle;
@@ -59,8 +59,8 @@ fn cause(refusal: Refusal) -> Refusal {
     }
 }
 
-fn task_of<'a>(it: &'a Begun, ahead: &'a [Slot]) -> Task<'a> {
-    Task {
+fn task_of<'a>(it: &'a Begun, ahead: &'a [Slot]) -> AroundTask<'a> {
+    AroundTask {
         alloc: it.alloc,
         ring: it.approved.ring(),
         plan: it.approved.plan(),
