@@ -4,7 +4,7 @@ ghost use Rattle.std.specs.Prelude.{◌≡◌, [], IfErr, IfOk};
 ghost use Rattle.ring_names.specs.declared.refusal.Refusal.TheVariants.{OutOfMemory};
 ghost use Rattle.plan_cert.specs.Valid.{Suits as CertSuits};
 
-use crate::needs::Needs;
+use crate::needs::ClauseNeeds;
 use crate::order::Order;
 use crate::paths::Paths;
 use crate::sides::{Sides, sides_of};
@@ -16,7 +16,7 @@ use std::alloc::Global;
 
 /// A certificate, and what is known of nodes with too many chains.
 #[derive(Drop)]
-pub struct Outcome {
+pub struct FoundCert {
     pub cert: Cert,
     /// The first node with too many chains under every certificate.
     pub excess: Option<NodeId>,
@@ -24,7 +24,7 @@ pub struct Outcome {
     pub is_given_up: bool,
 }
 
-impl Outcome {
+impl FoundCert {
     /// Returns what to refuse if the checker refuses this certificate.
     ///
     /// `TooManyChains` names only a node known to need them. If the search was given up and none is known, it becomes
@@ -49,7 +49,7 @@ impl Outcome {
 /// large for its text is left empty.
 ///
 /// If steps depend directly on what they need, this costs about as much as reading the plan.
-pub fn certificate(alloc: Global, ring: &Ring, plan: &Plan) -> Result<Outcome, Refusal>
+pub fn certificate(alloc: Global, ring: &Ring, plan: &Plan) -> Result<FoundCert, Refusal>
     ensures suits { IfOk result (λ f. CertSuits ring.now f.cert) }
     ensures memory { IfErr result (λ e. e ≡ OutOfMemory) }
 {
@@ -59,10 +59,10 @@ pub fn certificate(alloc: Global, ring: &Ring, plan: &Plan) -> Result<Outcome, R
     }
 }
 
-fn sayable(alloc: Global, ring: &Ring, found: Outcome) -> Outcome
+fn sayable(alloc: Global, ring: &Ring, found: FoundCert) -> FoundCert
     ensures { CertSuits ring.now result.cert }
 {
-    let Outcome {
+    let FoundCert {
         cert,
         excess,
         is_given_up,
@@ -72,7 +72,7 @@ fn sayable(alloc: Global, ring: &Ring, found: Outcome) -> Outcome
     } else {
         no_claims(alloc)
     };
-    Outcome {
+    FoundCert {
         cert,
         excess,
         is_given_up,
@@ -89,9 +89,9 @@ fn no_claims(alloc: Global) -> Cert
     }
 }
 
-fn found(alloc: Global, ring: &Ring, plan: &Plan) -> Result<Outcome, Refusal> {
+fn found(alloc: Global, ring: &Ring, plan: &Plan) -> Result<FoundCert, Refusal> {
     let mut paths = Paths::of(alloc, plan)?;
-    let mut needs = Needs::of(alloc, ring, plan)?;
+    let mut needs = ClauseNeeds::of(alloc, ring, plan)?;
     needs.ask_all(&mut paths)?;
     let mut seeking = Seeking {
         order: Order::of(alloc, plan)?,
@@ -109,7 +109,7 @@ fn found(alloc: Global, ring: &Ring, plan: &Plan) -> Result<Outcome, Refusal> {
         facts: found,
         chains,
     };
-    Ok(Outcome {
+    Ok(FoundCert {
         cert,
         excess,
         is_given_up,

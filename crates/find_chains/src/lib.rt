@@ -15,7 +15,7 @@ mod sides;
 mod stays;
 
 pub use excess::{Excess, overload};
-pub use finding::{Outcome, certificate};
+pub use finding::{FoundCert, certificate};
 pub use order::Order;
 pub use runs::slot_of;
 pub use sides::{Sides, sides_of};

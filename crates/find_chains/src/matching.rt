@@ -7,7 +7,7 @@ use std::alloc::Global;
 
 /// Copies, each with a bit set of earlier ones.
 #[derive(Drop)]
-pub(crate) struct Before<'a> {
+pub(crate) struct EarlierCopies<'a> {
     pub(crate) copies: &'a [u32],
     pub(crate) words: usize,
     pub(crate) sets: Vec<u64>,
@@ -26,7 +26,11 @@ pub(crate) struct Matching {
 }
 
 impl Matching {
-    pub(crate) fn of(alloc: Global, before: &Before, links: Links) -> Result<Matching, Refusal> {
+    pub(crate) fn of(
+        alloc: Global,
+        before: &EarlierCopies,
+        links: Links,
+    ) -> Result<Matching, Refusal> {
         let count = before.copies.len();
         Ok(Matching {
             links,
@@ -38,7 +42,7 @@ impl Matching {
     }
 
     /// Lets the copy follow an earlier one, if possible by relinking others.
-    pub(crate) fn link(&mut self, before: &Before, copy: usize) -> Result<(), Refusal> {
+    pub(crate) fn link(&mut self, before: &EarlierCopies, copy: usize) -> Result<(), Refusal> {
         self.spent = 0;
         self.queue.clear();
         self.queue.push(small(copy))?;
@@ -62,7 +66,12 @@ impl Matching {
     }
 
     // Asks a word's unseen earlier copies. Returns the first that is free.
-    fn ask(&mut self, before: &Before, asking: u32, number: usize) -> Result<Option<u32>, Refusal> {
+    fn ask(
+        &mut self,
+        before: &EarlierCopies,
+        asking: u32,
+        number: usize,
+    ) -> Result<Option<u32>, Refusal> {
         let cell = (asking as usize)
             .saturating_mul(before.words)
             .saturating_add(number);

@@ -10,7 +10,7 @@ use std::alloc::Global;
 
 /// Asks for the paths that the checker's clauses need.
 #[derive(Drop)]
-pub(crate) struct Needs<'a> {
+pub(crate) struct ClauseNeeds<'a> {
     ring: &'a Ring,
     plan: &'a Plan,
     stays: Stays,
@@ -18,10 +18,14 @@ pub(crate) struct Needs<'a> {
     lasts: Vec<u32>,
 }
 
-impl<'a> Needs<'a> {
-    pub(crate) fn of(alloc: Global, ring: &'a Ring, plan: &'a Plan) -> Result<Needs<'a>, Refusal> {
+impl<'a> ClauseNeeds<'a> {
+    pub(crate) fn of(
+        alloc: Global,
+        ring: &'a Ring,
+        plan: &'a Plan,
+    ) -> Result<ClauseNeeds<'a>, Refusal> {
         let slots = (ring.q() as usize).saturating_mul(7);
-        Ok(Needs {
+        Ok(ClauseNeeds {
             ring,
             plan,
             stays: Stays::of(alloc, ring)?,

@@ -2,7 +2,7 @@
 
 use crate::links::Links;
 use crate::looks::Looks;
-use crate::matching::{Before, Matching};
+use crate::matching::{EarlierCopies, Matching};
 use crate::runs::runs_of;
 use helpers::{at, parts, set, set_word, small, word};
 use plan_text::Plan;
@@ -29,7 +29,7 @@ pub struct Order<'a> {
 
 // What precedes a copy in a chain: a direct dependency, or the run's last.
 #[derive(Clone, Copy)]
-enum Rule {
+enum LinkRule {
     Direct,
     Run,
 }
@@ -74,16 +74,17 @@ impl<'a> Order<'a> {
 
     /// Returns chains by a first fit along direct dependencies. Costs a look at each dependency of a copy.
     pub fn direct(&mut self, alloc: Global, copies: &[u32]) -> Result<Rows, Refusal> {
-        self.fit(alloc, copies, Rule::Direct)?.chains(alloc, copies)
+        self.fit(alloc, copies, LinkRule::Direct)?
+            .chains(alloc, copies)
     }
 
-    fn fit(&mut self, alloc: Global, copies: &[u32], rule: Rule) -> Result<Links, Refusal> {
+    fn fit(&mut self, alloc: Global, copies: &[u32], rule: LinkRule) -> Result<Links, Refusal> {
         let mut links = Links::of(alloc, copies.len())?;
         for place in 0..copies.len() {
             let copy = at(copies, place);
             let (old, new) = match rule {
-                Rule::Direct => (self.end_before(copy), copy),
-                Rule::Run => (self.run(copy), self.run(copy)),
+                LinkRule::Direct => (self.end_before(copy), copy),
+                LinkRule::Run => (self.run(copy), self.run(copy)),
             };
             let last = at(self.lasts.as_slice(), old as usize);
             if last != 0 {
@@ -129,7 +130,7 @@ impl<'a> Order<'a> {
         copies: &[u32],
         enough: u32,
     ) -> Result<Option<Links>, Refusal> {
-        let links = self.fit(alloc, copies, Rule::Run)?;
+        let links = self.fit(alloc, copies, LinkRule::Run)?;
         if links.count() <= enough {
             return Ok(Some(links));
         }
@@ -137,7 +138,7 @@ impl<'a> Order<'a> {
         if !self.can_pass(copies, words) {
             return Ok(None);
         }
-        let mut before = Before {
+        let mut before = EarlierCopies {
             copies,
             words,
             sets: vec![in alloc; 0u64; copies.len().saturating_mul(words)]?,
@@ -194,7 +195,7 @@ impl<'a> Order<'a> {
     }
 
     // Finds, in one pass, a word's copies that come before each copy.
-    fn pass(&mut self, before: &mut Before, steps: &[u32], number: usize) {
+    fn pass(&mut self, before: &mut EarlierCopies, steps: &[u32], number: usize) {
         let first = at(before.copies, 0);
         let (mut place, mut bit) = (0usize, 1u64);
         for step in steps.iter().rev() {
@@ -225,7 +226,7 @@ impl<'a> Order<'a> {
     fn linked(
         &mut self,
         alloc: Global,
-        before: &Before,
+        before: &EarlierCopies,
         links: Links,
     ) -> Result<Option<Links>, Refusal> {
         let mut matching = Matching::of(alloc, before, links)?;

@@ -8,7 +8,7 @@ ghost use Rattle.plan_cert.specs.Valid.{Suits as CertSuits};
 ghost use Rattle.plan_goal.specs.Proposals.{front_text};
 ghost use Rattle.plan_bundles.specs.Certs.{front_at, front_reading, parts, IsCertifiedBy, IsCertifiedText, IsClaimedText};
 
-use find_chains::{Excess, Outcome, certificate, overload};
+use find_chains::{Excess, FoundCert, certificate, overload};
 use helpers::Words;
 use plan_check::{Turned, check};
 use plan_goal::write_front;
@@ -26,7 +26,7 @@ pub(crate) struct Front {
 
 #[derive(Drop)]
 struct Candidate {
-    found: Outcome,
+    found: FoundCert,
     text: Vec<u8>,
 }
 
