@@ -1,14 +1,14 @@
 //! Levels of joining members: a slot more needs no further move (0), needs one (1), or is impossible (2).
 
-use crate::meeting::Aim;
+use crate::meeting::SearchAim;
 use crate::members::Role;
-use crate::search::Search;
+use crate::search::PathSearch;
 use crate::seats::Seats;
 use helpers::{NONE, at, set};
 use ring_names::Refusal;
 use std::alloc::Global;
 
-fn mark_path(search: &Search, levels: &mut [u32], from: u32, level: u32) {
+fn mark_path(search: &PathSearch, levels: &mut [u32], from: u32, level: u32) {
     let mut node = from;
     for _ in 0..levels.len() {
         if at(levels, node as usize) == NONE {
@@ -24,7 +24,7 @@ fn mark_path(search: &Search, levels: &mut [u32], from: u32, level: u32) {
 fn find_level(
     alloc: Global,
     seats: &Seats,
-    search: &mut Search,
+    search: &mut PathSearch,
     levels: &mut [u32],
     level: u32,
 ) -> Result<(), Refusal> {
@@ -35,7 +35,7 @@ fn find_level(
                 set(levels, node as usize, 0);
                 continue;
             }
-            match search.find(alloc, seats, node, Aim::Part)? {
+            match search.find(alloc, seats, node, SearchAim::Part)? {
                 Some(from) => mark_path(search, levels, from, level),
                 None => search.freeze(alloc, seats)?,
             }
@@ -45,7 +45,7 @@ fn find_level(
 }
 
 /// Finds the levels of all joining members.
-pub fn find_levels(alloc: Global, seats: &Seats, search: &mut Search) -> Result<(), Refusal> {
+pub fn find_levels(alloc: Global, seats: &Seats, search: &mut PathSearch) -> Result<(), Refusal> {
     let mut levels = vec![in alloc; 0u32; seats.members.count() as usize]?;
     for node in 0..seats.members.count() {
         if seats.members.role(node) == Role::Joins {

@@ -15,7 +15,7 @@ const LOOKS: u32 = 80_000_000;
 
 /// The purpose of a search.
 #[derive(Clone, Copy, PartialEq, Eq)]
-pub enum Aim {
+pub enum SearchAim {
     /// Gives a joining member its part.
     Part,
     /// Improves the balance, without further moves or smaller parts.
@@ -32,7 +32,7 @@ pub struct Link {
 /// The members met, and what stays between searches.
 #[derive(Drop)]
 pub struct Meeting {
-    aim: Aim,
+    aim: SearchAim,
     /// The member that needs a slot.
     pub first: u32,
     /// The first giver met.
@@ -52,7 +52,7 @@ impl Meeting {
     /// Starts before any search.
     pub fn new(alloc: Global) -> Meeting {
         Meeting {
-            aim: Aim::Part,
+            aim: SearchAim::Part,
             first: NONE,
             found: None,
             met: Vec::new(alloc),
@@ -116,7 +116,7 @@ impl Meeting {
     }
 
     /// Begins a search at a member.
-    pub fn begin(&mut self, first: u32, aim: Aim) -> Result<(), Refusal> {
+    pub fn begin(&mut self, first: u32, aim: SearchAim) -> Result<(), Refusal> {
         for node in self.met.iter() {
             set(&mut self.to, *node as usize, NONE);
         }
@@ -150,7 +150,7 @@ impl Meeting {
     }
 
     fn can_give(&self, seats: &Seats, node: u32) -> bool {
-        if self.aim == Aim::Part {
+        if self.aim == SearchAim::Part {
             return !seats.is_costly(node);
         }
         self.level(node) == self.level(self.first)

@@ -1,7 +1,7 @@
 //! What a wish means for each node.
 
 use crate::racks::Racks;
-use crate::wish::Wish;
+use crate::wish::WishedChange;
 use helpers::{at, quotient, small};
 use ring_names::{NodeId, Refusal};
 use ring_table::Ring;
@@ -48,7 +48,12 @@ impl Members {
 
     /// Sets the roles. Fails with `NoPlan` if a joining node is a member or undeclared, a leaving one is not a member,
     /// or too few members remain.
-    pub fn begin(&mut self, alloc: Global, ring: &Ring, wish: &Wish) -> Result<(), Refusal> {
+    pub fn begin(
+        &mut self,
+        alloc: Global,
+        ring: &Ring,
+        wish: &WishedChange,
+    ) -> Result<(), Refusal> {
         for node in ring.nodes() {
             self.roles.push(if node.is_member {
                 Role::Stays

@@ -4,20 +4,25 @@
 //! keeps the cost minimal. When no path is left, the balance is optimal.
 
 use crate::levels::find_levels;
-use crate::meeting::Aim;
-use crate::search::Search;
+use crate::meeting::SearchAim;
+use crate::search::PathSearch;
 use crate::seats::Seats;
 use helpers::{set_word, word};
 use ring_names::Refusal;
 use std::alloc::Global;
 
 // Gives the node its missing slots while paths lead there.
-fn raise(alloc: Global, seats: &mut Seats, search: &mut Search, node: u32) -> Result<(), Refusal> {
+fn raise(
+    alloc: Global,
+    seats: &mut Seats,
+    search: &mut PathSearch,
+    node: u32,
+) -> Result<(), Refusal> {
     for _ in 0..seats.partitions {
         if !seats.wants(node) || search.meeting.is_frozen(node) || search.meeting.is_spent() {
             break;
         }
-        match search.find(alloc, seats, node, Aim::Part)? {
+        match search.find(alloc, seats, node, SearchAim::Part)? {
             Some(from) => search.shift(seats, from),
             None => search.freeze(alloc, seats)?,
         }
@@ -29,7 +34,7 @@ fn raise(alloc: Global, seats: &mut Seats, search: &mut Search, node: u32) -> Re
 pub fn raise_all(
     alloc: Global,
     seats: &mut Seats,
-    search: &mut Search,
+    search: &mut PathSearch,
     level: u32,
 ) -> Result<(), Refusal> {
     search.set_levels(alloc, seats, level)?;
@@ -44,7 +49,7 @@ fn class(level: u32, is_costly: bool) -> usize {
 }
 
 // The greatest gain from giving a slot, by class.
-fn gains(alloc: Global, seats: &Seats, search: &Search) -> Result<Vec<u64>, Refusal> {
+fn gains(alloc: Global, seats: &Seats, search: &PathSearch) -> Result<Vec<u64>, Refusal> {
     let mut gains = vec![in alloc; 0u64; 6]?;
     for node in 0..seats.members.count() {
         if seats.members.is_after(node) && !search.meeting.is_frozen(node) {
@@ -57,7 +62,7 @@ fn gains(alloc: Global, seats: &Seats, search: &Search) -> Result<Vec<u64>, Refu
 }
 
 // Whether one slot more may improve the balance.
-fn takes_part(seats: &Seats, search: &Search, node: u32) -> bool {
+fn takes_part(seats: &Seats, search: &PathSearch, node: u32) -> bool {
     if !seats.members.is_after(node) || search.meeting.is_frozen(node) {
         return false;
     }
@@ -66,7 +71,7 @@ fn takes_part(seats: &Seats, search: &Search, node: u32) -> bool {
 }
 
 // The emptiest member by weight that a fuller one could give a slot.
-fn poorest(seats: &Seats, search: &Search, gains: &[u64]) -> Option<u32> {
+fn poorest(seats: &Seats, search: &PathSearch, gains: &[u64]) -> Option<u32> {
     let mut found: Option<u32> = None;
     for node in 0..seats.members.count() {
         let gain = word(gains, class(search.meeting.level(node), seats.wants(node)));
@@ -80,7 +85,7 @@ fn poorest(seats: &Seats, search: &Search, gains: &[u64]) -> Option<u32> {
     found
 }
 
-fn balance(alloc: Global, seats: &mut Seats, search: &mut Search) -> Result<(), Refusal> {
+fn balance(alloc: Global, seats: &mut Seats, search: &mut PathSearch) -> Result<(), Refusal> {
     let turns = seats.total().saturating_add(seats.members.count() as usize);
     for _ in 0..turns {
         if search.meeting.is_spent() {
@@ -90,7 +95,7 @@ fn balance(alloc: Global, seats: &mut Seats, search: &mut Search) -> Result<(), 
         let Some(first) = poorest(seats, search, &gains) else {
             break;
         };
-        match search.find(alloc, seats, first, Aim::Balance)? {
+        match search.find(alloc, seats, first, SearchAim::Balance)? {
             Some(from) => search.shift(seats, from),
             None => search.freeze(alloc, seats)?,
         }
@@ -99,7 +104,11 @@ fn balance(alloc: Global, seats: &mut Seats, search: &mut Search) -> Result<(), 
 }
 
 /// Improves the balance, if looks are left.
-pub fn balance_all(alloc: Global, seats: &mut Seats, search: &mut Search) -> Result<(), Refusal> {
+pub fn balance_all(
+    alloc: Global,
+    seats: &mut Seats,
+    search: &mut PathSearch,
+) -> Result<(), Refusal> {
     if search.meeting.is_spent() {
         return Ok(());
     }

@@ -1,6 +1,6 @@
 //! Searches paths along which slots are handed on.
 
-use crate::meeting::{Aim, Link, Meeting};
+use crate::meeting::{Link, Meeting, SearchAim};
 use crate::members::Role;
 use crate::offers::Offers;
 use crate::seats::Seats;
@@ -9,15 +9,15 @@ use std::alloc::Global;
 
 /// The state of consecutive searches.
 #[derive(Drop)]
-pub struct Search {
+pub struct PathSearch {
     pub meeting: Meeting,
     offers: Vec<Offers>,
 }
 
-impl Search {
+impl PathSearch {
     /// Starts without levels.
-    pub fn new(alloc: Global) -> Search {
-        Search {
+    pub fn new(alloc: Global) -> PathSearch {
+        PathSearch {
             meeting: Meeting::new(alloc),
             offers: Vec::new(alloc),
         }
@@ -89,7 +89,7 @@ impl Search {
         self.meet_back(seats, node)
     }
 
-    fn begin(&mut self, first: u32, aim: Aim) -> Result<(), Refusal> {
+    fn begin(&mut self, first: u32, aim: SearchAim) -> Result<(), Refusal> {
         for level in 0..self.offers.len() {
             if let Some(offers) = self.offers.get_mut(level) {
                 offers.close();
@@ -104,7 +104,7 @@ impl Search {
         alloc: Global,
         seats: &Seats,
         first: u32,
-        aim: Aim,
+        aim: SearchAim,
     ) -> Result<Option<u32>, Refusal> {
         self.begin(first, aim)?;
         for turn in 0..seats.members.count() as usize {

@@ -3,7 +3,7 @@
 use crate::copies::Copies;
 use crate::grouped::Grouped;
 use crate::members::{Members, Role};
-use crate::volumes::Volumes;
+use crate::volumes::NodeVolumes;
 use helpers::{NONE, at, lower, raise, set, small, swap};
 use ring_names::Refusal;
 use ring_table::Ring;
@@ -26,7 +26,7 @@ pub struct Seats<'a> {
     load: Vec<u32>,
     copies: Copies,
     /// The sizes of partitions, if known.
-    pub volumes: Volumes,
+    pub volumes: NodeVolumes,
 }
 
 impl<'a> Seats<'a> {
@@ -41,7 +41,7 @@ impl<'a> Seats<'a> {
             owned: Grouped::new(alloc),
             load: Vec::new(alloc),
             copies: Copies::new(alloc),
-            volumes: Volumes::new(alloc),
+            volumes: NodeVolumes::new(alloc),
         }
     }
 

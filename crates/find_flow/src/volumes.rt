@@ -14,7 +14,7 @@ const MIDDLE: i64 = 4_611_686_018_427_387_904;
 
 /// What each node stores, and should store. Empty without sizes.
 #[derive(Drop)]
-pub struct Volumes {
+pub struct NodeVolumes {
     are_asked: bool,
     // by partition, in units of a power of two
     sizes: Vec<u32>,
@@ -104,10 +104,10 @@ impl<'a> Level<'a> {
     }
 }
 
-impl Volumes {
+impl NodeVolumes {
     /// Starts without sizes.
-    pub fn new(alloc: Global) -> Volumes {
-        Volumes {
+    pub fn new(alloc: Global) -> NodeVolumes {
+        NodeVolumes {
             are_asked: false,
             sizes: Vec::new(alloc),
             slack: 0,

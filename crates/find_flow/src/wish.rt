@@ -4,7 +4,7 @@ use ring_names::NodeId;
 
 /// A wished change of a ring.
 #[derive(Clone, Copy)]
-pub struct Wish<'a> {
+pub struct WishedChange<'a> {
     /// The nodes that join, declared `out`.
     pub joins: &'a [NodeId],
     /// The members that own nothing in the end.
@@ -17,7 +17,7 @@ pub struct Wish<'a> {
     pub sizes: Option<&'a [u64]>,
 }
 
-impl<'a> Wish<'a> {
+impl<'a> WishedChange<'a> {
     pub(crate) fn weight(&self, node: u32) -> u32 {
         match self.weights.get(node as usize) {
             Some(weight) => (*weight).max(1).min(1000),

@@ -14,7 +14,7 @@ use change_text::{Change, Options, Unreadable, Wanted, read_wanted};
 use helpers::Labels;
 use layout_text::{Fact, Layout};
 use plan_goal::{Aim, Goal, Proposed, is_among, reach, read_goal, unread_partitions};
-use plan_maker::{Wish, wished};
+use plan_maker::{WishedChange, wished};
 use ring_names::{Listed, NodeId, Refusal};
 use ring_table::Ring;
 use std::alloc::Global;
@@ -153,8 +153,8 @@ fn asked_for(
     })
 }
 
-fn wish<'a>(asked: &'a Asked, change: &'a Change) -> Wish<'a> {
-    Wish {
+fn wish<'a>(asked: &'a Asked, change: &'a Change) -> WishedChange<'a> {
+    WishedChange {
         joins: change.joins.as_slice(),
         leaves: change.leaves.as_slice(),
         weights: asked.weights.as_slice(),

@@ -5,7 +5,7 @@ use crate::giving::give;
 use crate::sizing::take_by_size;
 use crate::spreading::spread_moves;
 use crate::thinning::thin;
-use find_flow::{Members, Search, Seats, Wish, balance_all, raise_all};
+use find_flow::{Members, PathSearch, Seats, WishedChange, balance_all, raise_all};
 use ring_names::{Listed, NodeId, Refusal};
 use ring_table::Ring;
 use std::alloc::Global;
@@ -23,7 +23,7 @@ fn rows(alloc: Global, seats: &Seats) -> Result<Vec<Listed<NodeId>>, Refusal> {
 }
 
 fn settle(alloc: Global, seats: &mut Seats) -> Result<(), Refusal> {
-    let mut search = Search::new(alloc);
+    let mut search = PathSearch::new(alloc);
     search.fill(alloc)?;
     raise_all(alloc, seats, &mut search, 0)?;
     give(alloc, seats)?;
@@ -75,7 +75,11 @@ fn wished_of(
 ///
 /// Fails with `NoPlan` if a joining node is a member, a leaving node is not, or too few members remain; and
 /// with `OutOfMemory`. The same input gives the same owners.
-pub fn wished(alloc: Global, ring: &Ring, wish: &Wish) -> Result<Vec<Listed<NodeId>>, Refusal> {
+pub fn wished(
+    alloc: Global,
+    ring: &Ring,
+    wish: &WishedChange,
+) -> Result<Vec<Listed<NodeId>>, Refusal> {
     let mut members = Members::new(alloc);
     members.begin(alloc, ring, wish)?;
     wished_of(alloc, ring, &members, wish.sizes)

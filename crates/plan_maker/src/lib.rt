@@ -18,5 +18,5 @@ mod takers;
 mod thinning;
 
 pub use choice::wished;
-pub use find_flow::Wish;
+pub use find_flow::WishedChange;
 pub use maker::make;

@@ -1,7 +1,7 @@
 //! The planner.
 
 use crate::choice::wished;
-use find_flow::Wish;
+use find_flow::WishedChange;
 use find_rounds::{Handover, Turnover};
 use plan_cert::Cert;
 use plan_text::Plan;
@@ -31,7 +31,7 @@ pub fn make<'a>(
     joins: &'a [NodeId],
     leaves: &'a [NodeId],
 ) -> Result<(Plan, Cert), Refusal> {
-    let wish = Wish {
+    let wish = WishedChange {
         joins,
         leaves,
         weights: &[],

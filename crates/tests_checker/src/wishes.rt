@@ -3,7 +3,7 @@
 use crate::ring_texts::{push_nodes, push_numbered, push_owners};
 use crate::rings::ring_from;
 use crate::same::{holds, same};
-use plan_maker::{Wish, wished};
+use plan_maker::{WishedChange, wished};
 use ring_names::{Listed, NodeId, Refusal};
 use ring_table::Ring;
 use std::alloc::{AllocError, Global};
@@ -14,8 +14,8 @@ use std::test::Fail;
 const RACKS: [u32; 14] = [0, 1, 2, 0, 1, 2, 0, 1, 2, 0, 1, 2, 0, 1];
 
 // A wish with these racks: no changes, equal weights.
-fn racked(racks: &[u32]) -> Wish<'_> {
-    Wish {
+fn racked(racks: &[u32]) -> WishedChange<'_> {
+    WishedChange {
         joins: &[],
         leaves: &[],
         weights: &[],
@@ -92,7 +92,7 @@ fn load(rows: &[Listed<NodeId>], node: NodeId) -> u32 {
 }
 
 // The fewest and the most slots of the final members.
-fn least_and_most(ring: &Ring, wish: &Wish, rows: &[Listed<NodeId>]) -> (u32, u32) {
+fn least_and_most(ring: &Ring, wish: &WishedChange, rows: &[Listed<NodeId>]) -> (u32, u32) {
     let (mut least, mut most) = (u32::MAX, 0u32);
     for number in 0..14u32 {
         let node = NodeId(number);
@@ -108,7 +108,7 @@ fn least_and_most(ring: &Ring, wish: &Wish, rows: &[Listed<NodeId>]) -> (u32, u3
 // Checks the moves, the partitions with two slots in one rack, and the fewest and the most slots of a member.
 fn comes_to<RT: AllocGlobal + Abort>(
     rt: &RT,
-    wish: &Wish,
+    wish: &WishedChange,
     moved_and_shared: (u32, u32),
     spread: (u32, u32),
 ) -> Result<(), Fail> {
@@ -120,7 +120,7 @@ fn comes_to<RT: AllocGlobal + Abort>(
     Ok(())
 }
 
-fn is_refused<RT: AllocGlobal + Abort>(rt: &RT, wish: &Wish) -> Result<(), Fail> {
+fn is_refused<RT: AllocGlobal + Abort>(rt: &RT, wish: &WishedChange) -> Result<(), Fail> {
     let ring = twelve(rt.alloc())?;
     holds!(rt; matches!(wished(rt.alloc(), &ring, wish), Err(Refusal::NoPlan)));
     Ok(())
@@ -129,7 +129,7 @@ fn is_refused<RT: AllocGlobal + Abort>(rt: &RT, wish: &Wish) -> Result<(), Fail>
 // Two joiners take their parts, 13 slots each, and no partition gets two in one rack.
 #[test]
 fn two_join_apart(rt: HostRuntime) -> Result<(), Fail> {
-    let wish = Wish {
+    let wish = WishedChange {
         joins: &[NodeId(12), NodeId(13)],
         ..racked(&RACKS)
     };
@@ -139,7 +139,7 @@ fn two_join_apart(rt: HostRuntime) -> Result<(), Fail> {
 // A leaver's slots stay in its rack, as each partition has one in each of three.
 #[test]
 fn one_leaves_its_rack(rt: HostRuntime) -> Result<(), Fail> {
-    let wish = Wish {
+    let wish = WishedChange {
         leaves: &[NodeId(0)],
         ..racked(&RACKS)
     };
@@ -149,7 +149,7 @@ fn one_leaves_its_rack(rt: HostRuntime) -> Result<(), Fail> {
 // Two joiners take all that two leavers had, each in its rack.
 #[test]
 fn two_for_two(rt: HostRuntime) -> Result<(), Fail> {
-    let wish = Wish {
+    let wish = WishedChange {
         joins: &[NodeId(12), NodeId(13)],
         leaves: &[NodeId(0), NodeId(1)],
         ..racked(&RACKS)
@@ -165,7 +165,7 @@ fn two_join_by_size(rt: HostRuntime) -> Result<(), Fail> {
     for partition in 0..32usize {
         sizes[partition] = 1;
     }
-    let wish = Wish {
+    let wish = WishedChange {
         joins: &[NodeId(12), NodeId(13)],
         sizes: Some(&sizes),
         ..racked(&RACKS)
@@ -190,7 +190,7 @@ fn racks_mended(rt: HostRuntime) -> Result<(), Fail> {
 // Weight 3 takes three times as much as weight 1.
 #[test]
 fn weight_taken(rt: HostRuntime) -> Result<(), Fail> {
-    let wish = Wish {
+    let wish = WishedChange {
         joins: &[NodeId(12), NodeId(13)],
         weights: &[1, 1, 1, 1, 1, 1, 1, 1, 1, 1, 1, 1, 3],
         ..racked(&[])
@@ -204,7 +204,7 @@ fn too_few_left(rt: HostRuntime) -> Result<(), Fail> {
     for node in 0..10u32 {
         leaves.push(NodeId(node))?;
     }
-    let wish = Wish {
+    let wish = WishedChange {
         leaves: leaves.as_slice(),
         ..racked(&RACKS)
     };
@@ -214,12 +214,12 @@ fn too_few_left(rt: HostRuntime) -> Result<(), Fail> {
 // A member cannot join, and others cannot leave.
 #[test]
 fn wrong_nodes_refused(rt: HostRuntime) -> Result<(), Fail> {
-    let joins = Wish {
+    let joins = WishedChange {
         joins: &[NodeId(0)],
         ..racked(&[])
     };
     is_refused(&rt, &joins)?;
-    let leaves = Wish {
+    let leaves = WishedChange {
         leaves: &[NodeId(12)],
         ..racked(&[])
     };
