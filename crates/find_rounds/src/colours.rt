@@ -6,7 +6,7 @@
 
 use crate::groups::Groups;
 use crate::listed::fewest;
-use crate::moving::Move;
+use crate::moving::SlotMove;
 use crate::round_sets::RoundSets;
 use crate::rounds::counts;
 use helpers::{at, parts, set, small};
@@ -84,7 +84,7 @@ impl Colours {
         &mut self,
         alloc: Global,
         groups: &Groups,
-        moves: &[Move],
+        moves: &[SlotMove],
     ) -> Result<(), Refusal> {
         self.begin(alloc, groups, &counts(alloc, groups, moves)?, moves.len())?;
         let mut copy = 0usize;

@@ -2,7 +2,7 @@
 
 use crate::groups::Groups;
 use crate::layout::Layout;
-use crate::moving::Move;
+use crate::moving::SlotMove;
 use crate::rounds::Schedule;
 use crate::task::Task;
 use crate::writing::{Turnover, write};
@@ -60,7 +60,7 @@ impl<'a> Handover<'a> {
     fn push_moves(
         &self,
         layout: &mut Layout,
-        out: &mut Vec<Move>,
+        out: &mut Vec<SlotMove>,
         partition: usize,
     ) -> Result<(), Refusal> {
         let ours = owners(self.ring.rows(), partition);
@@ -77,7 +77,7 @@ impl<'a> Handover<'a> {
                     index,
                 };
                 layout.let_move(layout.place_of(slot));
-                out.push(Move {
+                out.push(SlotMove {
                     slot,
                     from: owner.0,
                     to: node.0,
@@ -89,7 +89,7 @@ impl<'a> Handover<'a> {
     }
 
     // Marks the slots that move.
-    fn moves(&self, layout: &mut Layout) -> Result<Vec<Move>, Refusal> {
+    fn moves(&self, layout: &mut Layout) -> Result<Vec<SlotMove>, Refusal> {
         let mut out = Vec::new(self.alloc);
         for partition in 0..layout.partitions {
             self.push_moves(layout, &mut out, partition)?;

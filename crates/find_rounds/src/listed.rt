@@ -4,7 +4,7 @@
 //! instead. This needs R + 1 parties instead of 2, so it must save at least half of the rounds.
 
 use crate::groups::Groups;
-use crate::moving::Move;
+use crate::moving::SlotMove;
 use crate::rounds::counts;
 use crate::task::Task;
 use helpers::{at, lower, parts, raise, small};
@@ -60,7 +60,7 @@ impl Listing {
         best
     }
 
-    fn count(&mut self, task: &Task, step: &Move) {
+    fn count(&mut self, task: &Task, step: &SlotMove) {
         let (layout, groups) = (task.layout, task.groups);
         if self.row.is_empty() {
             return;
@@ -73,7 +73,7 @@ impl Listing {
     }
 
     // Lists R slots for a copy of an overloaded owner, or none if there are fewer.
-    fn list(&mut self, task: &Task, step: &Move, rounds: u32) -> Result<(), Refusal> {
+    fn list(&mut self, task: &Task, step: &SlotMove, rounds: u32) -> Result<(), Refusal> {
         self.row.clear();
         let giver = task.groups.giver(step.from);
         if at(&self.counts, giver) > most(task.groups, giver, rounds) {
@@ -111,7 +111,7 @@ impl Listing {
     }
 
     // Lists R slots for a copy with a barred owner, staying ones first. Returns whether there are R.
-    fn list_around(&mut self, task: &Task, step: &Move, rounds: u32) -> Result<bool, Refusal> {
+    fn list_around(&mut self, task: &Task, step: &SlotMove, rounds: u32) -> Result<bool, Refusal> {
         self.row.clear();
         if task.groups.is_barred(step.from) {
             let partition = step.slot.partition as usize;
@@ -152,22 +152,22 @@ fn nothing_listed(task: &Task) -> Listing {
 
 // Which copies list slots, by their owner.
 #[derive(Clone, Copy)]
-enum Listed {
+enum OwnerKind {
     Loaded,
     Barred,
 }
 
-fn try_rounds(task: &Task, listed: Listed, rounds: u32) -> Result<Option<Rows>, Refusal> {
+fn try_rounds(task: &Task, owner: OwnerKind, rounds: u32) -> Result<Option<Rows>, Refusal> {
     let mut listing = nothing_listed(task);
-    let is_enough = match listed {
-        Listed::Loaded => listing.list_all(task, rounds)?,
-        Listed::Barred => listing.list_all_around(task, rounds)?,
+    let is_enough = match owner {
+        OwnerKind::Loaded => listing.list_all(task, rounds)?,
+        OwnerKind::Barred => listing.list_all_around(task, rounds)?,
     };
     Ok(if is_enough { Some(listing.slots) } else { None })
 }
 
 // Slots for the fewest rounds, up to `most`. Halves a range of 32 bits.
-fn search(task: &Task, listed: Listed, most: u32) -> Result<Option<Rows>, Refusal> {
+fn search(task: &Task, owner: OwnerKind, most: u32) -> Result<Option<Rows>, Refusal> {
     let (mut low, mut high) = (1u32, most);
     let mut found = None;
     for _ in 0..32 {
@@ -175,7 +175,7 @@ fn search(task: &Task, listed: Listed, most: u32) -> Result<Option<Rows>, Refusa
             break;
         }
         let middle = low.saturating_add(high.saturating_sub(low) / 2);
-        match try_rounds(task, listed, middle)? {
+        match try_rounds(task, owner, middle)? {
             Some(better) => {
                 found = Some(better);
                 high = middle.saturating_sub(1);
@@ -192,7 +192,7 @@ fn search(task: &Task, listed: Listed, most: u32) -> Result<Option<Rows>, Refusa
 pub fn around(task: &Task) -> Result<Option<Rows>, Refusal> {
     // Enough rounds for one copy at a time.
     let most = small(task.moves.len()).saturating_mul(8).saturating_add(1);
-    search(task, Listed::Barred, most)
+    search(task, OwnerKind::Barred, most)
 }
 
 /// Returns the fewest rounds that allowances permit for copies from owners.
@@ -213,5 +213,5 @@ pub fn is_worth(rounds: u32, from_owners: u32) -> bool {
 pub fn sources(task: &Task) -> Result<Option<Rows>, Refusal> {
     let groups = task.groups;
     let from_owners = fewest(groups, &counts(task.alloc, groups, task.moves)?);
-    search(task, Listed::Loaded, from_owners / 2)
+    search(task, OwnerKind::Loaded, from_owners / 2)
 }

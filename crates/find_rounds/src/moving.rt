@@ -4,7 +4,7 @@ use ring_names::Slot;
 
 /// A slot that goes from its owner to another node.
 #[derive(Clone, Copy, Drop)]
-pub struct Move {
+pub struct SlotMove {
     pub slot: Slot,
     pub from: u32,
     pub to: u32,

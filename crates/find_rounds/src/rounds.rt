@@ -4,7 +4,7 @@ use crate::colours::Colours;
 use crate::groups::Groups;
 use crate::later::Later;
 use crate::listed::{around, fewest, is_worth, sources};
-use crate::moving::Move;
+use crate::moving::SlotMove;
 use crate::phases::{followers, in_phases};
 use crate::task::Task;
 use crate::urgency::by_urgency;
@@ -13,7 +13,7 @@ use ring_names::{Refusal, Rows};
 use std::alloc::Global;
 
 /// Counts the copies from owners, by group.
-pub fn counts(alloc: Global, groups: &Groups, moves: &[Move]) -> Result<Vec<u32>, Refusal> {
+pub fn counts(alloc: Global, groups: &Groups, moves: &[SlotMove]) -> Result<Vec<u32>, Refusal> {
     let mut counts = vec![in alloc; 0u32; groups.len()]?;
     for step in moves {
         raise(&mut counts, groups.giver(step.from));
@@ -32,7 +32,7 @@ pub struct Schedule {
 }
 
 // The groups that a copy reads from, and its receiver.
-fn parties(task: &Task, step: &Move, listed: &[u32]) -> Result<Vec<u32>, Refusal> {
+fn parties(task: &Task, step: &SlotMove, listed: &[u32]) -> Result<Vec<u32>, Refusal> {
     let (layout, groups) = (task.layout, task.groups);
     let mut parties = Vec::new(task.alloc);
     for index in listed {

@@ -2,7 +2,7 @@
 
 use crate::groups::Groups;
 use crate::layout::Layout;
-use crate::moving::Move;
+use crate::moving::SlotMove;
 use std::alloc::Global;
 
 /// Moves, their copies' groups, and how many slots a copy may list.
@@ -11,6 +11,6 @@ pub struct Task<'a> {
     pub alloc: Global,
     pub layout: &'a Layout,
     pub groups: &'a Groups,
-    pub moves: &'a [Move],
+    pub moves: &'a [SlotMove],
     pub reads: u32,
 }

@@ -1,6 +1,6 @@
 //! Writes a plan's steps and chains.
 
-use crate::moving::Move;
+use crate::moving::SlotMove;
 use crate::rounds::Schedule;
 use crate::steps::add;
 use crate::task::Task;
@@ -71,7 +71,7 @@ impl<'a> Writer<'a> {
     }
 
     // Adds the mirror after what its copy waits for, so that it does not open early.
-    fn mirror(&mut self, step: &Move, links: &[u32]) -> Result<u32, Refusal> {
+    fn mirror(&mut self, step: &SlotMove, links: &[u32]) -> Result<u32, Refusal> {
         let node = NodeId(step.to);
         let mut after = Vec::new(self.task.alloc);
         if let Some(join) = self.plan.join_of(node) {
@@ -81,7 +81,7 @@ impl<'a> Writer<'a> {
         add(&mut self.plan, Step::Mirror(step.slot, node), &after)
     }
 
-    fn copy(&mut self, step: &Move, listed: &[u32], parties: &[u32]) -> Result<u32, Refusal> {
+    fn copy(&mut self, step: &SlotMove, listed: &[u32], parties: &[u32]) -> Result<u32, Refusal> {
         let mut after = self.links(parties)?;
         let mirror = self.mirror(step, &after)?;
         after.push(mirror)?;
@@ -116,7 +116,12 @@ impl<'a> Writer<'a> {
         self.drops.add(node, drop)
     }
 
-    fn add_move(&mut self, step: &Move, listed: &[u32], parties: &[u32]) -> Result<(), Refusal> {
+    fn add_move(
+        &mut self,
+        step: &SlotMove,
+        listed: &[u32],
+        parties: &[u32],
+    ) -> Result<(), Refusal> {
         let slot = step.slot;
         let copy = self.copy(step, listed, parties)?;
         self.note_readers(slot.partition, listed, copy)?;
