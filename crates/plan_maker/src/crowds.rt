@@ -1,6 +1,6 @@
 //! A change's load on partitions.
 
-use crate::pairs::{Half, Pairs};
+use crate::pairs::{Half, PairCounts};
 use find_flow::{Role, Seats};
 use helpers::{at, lower, raise, set, small};
 use ring_names::Refusal;
@@ -86,7 +86,7 @@ fn change(counts: &mut [u32], place: usize, more: i64) {
 pub struct Crowds {
     joiners: Vec<u32>,
     moves: Vec<u32>,
-    pairs: Pairs,
+    pairs: PairCounts,
     // by number of joining owners, how many partitions have it
     levels: Vec<u32>,
     reads: u32,
@@ -98,7 +98,7 @@ impl Crowds {
         Crowds {
             joiners: Vec::new(alloc),
             moves: Vec::new(alloc),
-            pairs: Pairs::new(alloc),
+            pairs: PairCounts::new(alloc),
             levels: Vec::new(alloc),
             reads,
         }

@@ -16,7 +16,7 @@ pub struct Half {
 
 /// By pair of nodes, how many partitions they share. At most 2 MB, for 1,024 nodes.
 #[derive(Drop)]
-pub struct Pairs {
+pub struct PairCounts {
     // by the greater node, its counts with all smaller ones
     counts: Vec<u32>,
 }
@@ -34,10 +34,10 @@ fn place_of(one: u32, other: u32) -> usize {
     pairs_of(high as usize).saturating_add(low as usize)
 }
 
-impl Pairs {
+impl PairCounts {
     /// Starts without nodes.
-    pub fn new(alloc: Global) -> Pairs {
-        Pairs {
+    pub fn new(alloc: Global) -> PairCounts {
+        PairCounts {
             counts: Vec::new(alloc),
         }
     }

@@ -6,14 +6,14 @@ use std::cmp::Reverse;
 
 // The order of moving slots, the greatest first: racks above their most, then owners with many slots by weight.
 #[derive(Clone, Copy, PartialEq, Eq, PartialOrd, Ord, Drop)]
-struct Excess {
+struct Urgency {
     is_above: bool,
     price: u64,
     crowd: Reverse<u32>,
     place: Reverse<usize>,
 }
 
-fn excess_of(seats: &Seats, partition: usize, place: usize) -> Option<Excess> {
+fn urgency_of(seats: &Seats, partition: usize, place: usize) -> Option<Urgency> {
     let rack = seats.rack_at(place)?;
     let racks = &seats.members.racks;
     let count = seats.count(partition, rack);
@@ -21,7 +21,7 @@ fn excess_of(seats: &Seats, partition: usize, place: usize) -> Option<Excess> {
         return None;
     }
     let node = seats.now(place);
-    Some(Excess {
+    Some(Urgency {
         is_above: count > racks.most(rack),
         price: seats.give_price(node),
         crowd: Reverse(seats.giving(node)),
@@ -45,7 +45,7 @@ fn above(seats: &Seats, partition: usize) -> u32 {
     let mut above = 0u32;
     for index in 0..seats.slots {
         let place = seats.place(partition, index);
-        if is_last(seats, partition, place) && excess_of(seats, partition, place).is_some() {
+        if is_last(seats, partition, place) && urgency_of(seats, partition, place).is_some() {
             above = above.saturating_add(1);
         }
     }
@@ -55,7 +55,7 @@ fn above(seats: &Seats, partition: usize) -> u32 {
 fn next(seats: &Seats, partition: usize) -> Option<usize> {
     let mut first = None;
     for index in 0..seats.slots {
-        let one = excess_of(seats, partition, seats.place(partition, index));
+        let one = urgency_of(seats, partition, seats.place(partition, index));
         if first < one {
             first = one;
         }
