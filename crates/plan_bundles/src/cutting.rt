@@ -13,13 +13,13 @@ use std::alloc::Global;
 const PASSES: u32 = 64;
 
 #[derive(Drop)]
-struct Windows<'a> {
+struct StepWindows<'a> {
     plan: &'a Plan,
     of_steps: &'a [u32],
     of_groups: Vec<u32>,
 }
 
-impl<'a> Windows<'a> {
+impl<'a> StepWindows<'a> {
     fn of_step(&self, step: u32) -> u32 {
         let group = at(self.of_steps, step as usize);
         at(&self.of_groups, group as usize)
@@ -121,7 +121,7 @@ impl Cutting {
     }
 }
 
-fn pieces(alloc: Global, windows: &Windows) -> Result<Pieces, Refusal> {
+fn pieces(alloc: Global, windows: &StepWindows) -> Result<Pieces, Refusal> {
     let mut cutting = Cutting {
         alloc,
         pieces: Pieces::new(alloc),
@@ -150,7 +150,7 @@ pub fn cut(
     width: u32,
 ) -> Result<Pieces, Refusal> {
     let groups = Groups::of(alloc, ring, plan)?;
-    let mut windows = Windows {
+    let mut windows = StepWindows {
         plan,
         of_steps: groups.of_steps.as_slice(),
         of_groups: vec![in alloc; 0u32; groups.count as usize]?,
