@@ -8,7 +8,7 @@ use crate::said::Said;
 
 // A field beyond a limit, and the limit in words. `#` is the number.
 #[derive(Clone, Copy)]
-struct Excess {
+struct OverLimit {
     place: usize,
     words: &'static [u8],
     number: u32,
@@ -51,10 +51,10 @@ pub fn is_above(word: &[u8], limit: u32) -> bool {
     }
 }
 
-fn above(line: Line, place: usize, limit: u32, words: &'static [u8]) -> Option<Excess> {
+fn above(line: Line, place: usize, limit: u32, words: &'static [u8]) -> Option<OverLimit> {
     if is_above(field(line.text, place), limit) {
         let number = limit;
-        return Some(Excess {
+        return Some(OverLimit {
             place,
             words,
             number,
@@ -63,10 +63,10 @@ fn above(line: Line, place: usize, limit: u32, words: &'static [u8]) -> Option<E
     None
 }
 
-fn large_number(line: Line, first: usize) -> Option<Excess> {
+fn large_number(line: Line, first: usize) -> Option<OverLimit> {
     for (place, word) in line.text.split(|byte| *byte == b' ').enumerate() {
         if place >= first && number(word).is_none() && is_above(word, 0) {
-            return Some(Excess {
+            return Some(OverLimit {
                 place,
                 words: b"a number is at most 4,294,967,295",
                 number: 0,
@@ -76,7 +76,7 @@ fn large_number(line: Line, first: usize) -> Option<Excess> {
     None
 }
 
-fn in_ring(line: Line) -> Option<Excess> {
+fn in_ring(line: Line) -> Option<OverLimit> {
     let word = line.word();
     if word == b"space".as_slice() {
         return above(line, 1, 4096, b"a ring has at most # partitions");
@@ -94,7 +94,7 @@ fn in_ring(line: Line) -> Option<Excess> {
     above(line, 2, 64, words).or(above(line, 3, 64, words))
 }
 
-fn in_plan(line: Line) -> Option<Excess> {
+fn in_plan(line: Line) -> Option<OverLimit> {
     let word = line.word();
     if word == b"join".as_slice() || word == b"retire".as_slice() {
         return large_number(line, 2);
@@ -115,7 +115,7 @@ fn in_plan(line: Line) -> Option<Excess> {
 }
 
 // A slot that the ring does not have, or the eighth slot.
-fn listed(line: Line, last: u32, words: &'static [u8]) -> Option<Excess> {
+fn listed(line: Line, last: u32, words: &'static [u8]) -> Option<OverLimit> {
     if field(line.text, 3) != b"slots".as_slice() {
         return None;
     }
@@ -127,7 +127,7 @@ fn listed(line: Line, last: u32, words: &'static [u8]) -> Option<Excess> {
         if place > 10 {
             let words: &[u8] = b"a copy lists at most # slots";
             let number = 7;
-            return Some(Excess {
+            return Some(OverLimit {
                 place,
                 words,
                 number,
@@ -135,7 +135,7 @@ fn listed(line: Line, last: u32, words: &'static [u8]) -> Option<Excess> {
         }
         if place > 3 && is_above(word, last) {
             let number = last;
-            return Some(Excess {
+            return Some(OverLimit {
                 place,
                 words,
                 number,
@@ -145,7 +145,7 @@ fn listed(line: Line, last: u32, words: &'static [u8]) -> Option<Excess> {
     None
 }
 
-fn in_cert(line: Line) -> Option<Excess> {
+fn in_cert(line: Line) -> Option<OverLimit> {
     let first = if line.word() == b"fact".as_slice() {
         1
     } else {

@@ -50,28 +50,28 @@ fn undeclared(page: Page, text: &[u8]) -> Option<usize> {
 }
 
 #[derive(Clone, Copy, PartialEq, Eq)]
-enum Wanted {
+enum WantedState {
     In,
     Out,
     Any,
 }
 
-impl Wanted {
-    fn by(word: &[u8]) -> Wanted {
+impl WantedState {
+    fn by(word: &[u8]) -> WantedState {
         if word == b"join".as_slice() {
-            return Wanted::Out;
+            return WantedState::Out;
         }
         if word == b"leave".as_slice() || word == b"slots".as_slice() {
-            return Wanted::In;
+            return WantedState::In;
         }
-        Wanted::Any
+        WantedState::Any
     }
 
     fn is_met(self, last: &[u8]) -> bool {
         match self {
-            Wanted::In => last == b"in".as_slice(),
-            Wanted::Out => last == b"out".as_slice(),
-            Wanted::Any => true,
+            WantedState::In => last == b"in".as_slice(),
+            WantedState::Out => last == b"out".as_slice(),
+            WantedState::Any => true,
         }
     }
 }
@@ -92,7 +92,7 @@ fn nearest_name<'a>(
     alloc: Global,
     page: Page<'a>,
     name: &[u8],
-    wanted: Wanted,
+    wanted: WantedState,
 ) -> Result<&'a [u8], Refusal> {
     let mut nearest = Nearest::new(name);
     for text in page.after(3).split(|byte| *byte == b'\n') {
@@ -123,7 +123,7 @@ pub fn unknown_node(
         move_up(page, said, late, first_row(page, number));
         return Ok(());
     }
-    let wanted = Wanted::by(line.word());
+    let wanted = WantedState::by(line.word());
     let near = nearest_name(alloc, page, name, wanted)?;
     if near.is_empty() {
         tell_choice(line, said, place, wanted);
@@ -161,7 +161,7 @@ fn first_row(page: Page, number: u32) -> u32 {
 }
 
 // If only one node can join, it was meant.
-fn tell_choice(line: Line, said: &mut Said, place: usize, wanted: Wanted) {
+fn tell_choice(line: Line, said: &mut Said, place: usize, wanted: WantedState) {
     let (count, name) = push_choice(line.page, said, wanted);
     if count == 0 {
         return said.note(
@@ -169,18 +169,18 @@ fn tell_choice(line: Line, said: &mut Said, place: usize, wanted: Wanted) {
         );
     }
     said.add_note(b".\n");
-    if count == 1 && wanted == Wanted::Out {
+    if count == 1 && wanted == WantedState::Out {
         said.mend_with(b"`@` was meant? No other can join.", &[name], &[]);
         line.replace(said, place, name);
     }
 }
 
 // Notes up to six nodes. Returns their number and the last.
-fn push_choice<'a>(page: Page<'a>, said: &mut Said, wanted: Wanted) -> (u32, &'a [u8]) {
+fn push_choice<'a>(page: Page<'a>, said: &mut Said, wanted: WantedState) -> (u32, &'a [u8]) {
     let mut words: &[u8] = match wanted {
-        Wanted::In => b"  Members are `@`",
-        Wanted::Out => b"  Declared `out` are `@`",
-        Wanted::Any => b"  Declared are `@`",
+        WantedState::In => b"  Members are `@`",
+        WantedState::Out => b"  Declared `out` are `@`",
+        WantedState::Any => b"  Declared are `@`",
     };
     let (mut count, mut found) = (0u32, b"".as_slice());
     for text in page.after(3).split(|byte| *byte == b'\n') {

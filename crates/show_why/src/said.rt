@@ -6,7 +6,7 @@ use helpers::Words;
 use std::alloc::{AllocError, Global};
 
 #[derive(Clone, Copy)]
-struct Mark {
+struct LineMark {
     place: Place,
     // If not, the line belongs to the fault.
     is_fault: bool,
@@ -16,7 +16,7 @@ struct Mark {
 }
 
 #[derive(Clone, Copy)]
-struct Change {
+struct LineChange {
     line: u32,
     begin: usize,
     end: usize,
@@ -28,11 +28,11 @@ struct Change {
 #[derive(Drop)]
 pub struct Said {
     title: Words,
-    marks: Vec<Mark>,
+    marks: Vec<LineMark>,
     words: Words,
     notes: Words,
     says: Words,
-    changes: Vec<Change>,
+    changes: Vec<LineChange>,
     // The new lines, with newlines.
     news: Words,
     // If set, the mend is the text without this habit.
@@ -78,7 +78,7 @@ impl Said {
 
     fn mark(&mut self, place: Place, is_fault: bool, begin: usize) {
         let end = self.words.len();
-        let mark = Mark {
+        let mark = LineMark {
             place,
             is_fault,
             begin,
@@ -207,7 +207,7 @@ impl Said {
     /// Begins the replacement of a line. An empty replacement removes the line.
     pub fn put(&mut self, line: u32) {
         let end = self.news.len();
-        let change = Change {
+        let change = LineChange {
             line,
             begin: end,
             end,
@@ -236,8 +236,8 @@ impl Said {
     }
 
     // The last mark of the next line to show.
-    fn next(&self, behind: u32) -> Option<Mark> {
-        let mut found: Option<Mark> = None;
+    fn next(&self, behind: u32) -> Option<LineMark> {
+        let mut found: Option<LineMark> = None;
         for mark in self.marks.as_slice() {
             if mark.place.line > behind {
                 let is_first = match found {
@@ -315,7 +315,7 @@ impl Said {
         width
     }
 
-    fn push_mark(&self, out: &mut Words, page: Page, mark: Mark, width: usize) {
+    fn push_mark(&self, out: &mut Words, page: Page, mark: LineMark, width: usize) {
         push_number(out, mark.place.line, width);
         out.text(b" | ");
         let line = page.text(mark.place.line);
@@ -402,7 +402,7 @@ fn push_margin(out: &mut Words, byte: u8, width: usize) {
     out.text(b" |");
 }
 
-fn push_under(out: &mut Words, mark: Mark, shown: usize) {
+fn push_under(out: &mut Words, mark: LineMark, shown: usize) {
     let Place { from, to, .. } = mark.place;
     let (from, to) = if from < to {
         (from.min(shown), to.min(shown))
