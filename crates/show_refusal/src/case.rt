@@ -1,6 +1,6 @@
 //! A bundle with valid texts and a refused plan.
 
-use crate::ends::Ends;
+use crate::ends::FactEnds;
 use find_chains::slot_of;
 use helpers::small;
 use plan_cert::Cert;
@@ -19,7 +19,7 @@ pub struct Case<'a> {
     pub ring: &'a Ring,
     pub plan: &'a Plan,
     pub cert: &'a Cert,
-    pub ends: &'a Ends,
+    pub ends: &'a FactEnds,
 }
 
 // Cuts the dependencies off.

@@ -1,7 +1,7 @@
 //! Certificates that do not show what they must.
 
 use crate::case::Case;
-use crate::roles::{Role, role_at, roles};
+use crate::roles::{CopyRole, role_at, roles};
 use helpers::small;
 use ring_names::{NodeId, Refusal};
 use ring_table::{Allowance, NodeSide, Side};
@@ -47,12 +47,12 @@ pub fn bad_path(case: Case, said: &mut Said, number: u32) {
     }
 }
 
-fn chain_word(case: Case, node: u32, role: Role) -> &'static [u8] {
+fn chain_word(case: Case, node: u32, role: CopyRole) -> &'static [u8] {
     match case.ring.nodes().get(node as usize) {
         Some(declared) => match (declared.allowance, role) {
             (Allowance::Joint(_), _) => b"chain",
-            (Allowance::Split { .. }, Role::Takes) => b"take",
-            (Allowance::Split { .. }, Role::Gives) => b"give",
+            (Allowance::Split { .. }, CopyRole::Takes) => b"take",
+            (Allowance::Split { .. }, CopyRole::Gives) => b"give",
         },
         None => b"chain",
     }
@@ -76,8 +76,8 @@ pub fn cover_missing(case: Case, said: &mut Said, node: u32, number: u32) -> Res
     let name = case.name(node);
     said.title_with(b"no chain of @ has its copy, step #", &[name], &[number]);
     let roles = roles(case, NodeId(node))?;
-    let role = role_at(roles.as_slice(), number).unwrap_or(Role::Gives);
-    let about: &[u8] = if role == Role::Takes {
+    let role = role_at(roles.as_slice(), number).unwrap_or(CopyRole::Gives);
+    let about: &[u8] = if role == CopyRole::Takes {
         b"step # copies to @"
     } else {
         b"step # reads from @"
@@ -91,11 +91,11 @@ pub fn cover_missing(case: Case, said: &mut Said, node: u32, number: u32) -> Res
     Ok(())
 }
 
-fn counts(side: Side, role: Option<Role>) -> bool {
+fn counts(side: Side, role: Option<CopyRole>) -> bool {
     match side {
         Side::Both => role.is_some(),
-        Side::Take => role == Some(Role::Takes),
-        Side::Give => role == Some(Role::Gives),
+        Side::Take => role == Some(CopyRole::Takes),
+        Side::Give => role == Some(CopyRole::Gives),
     }
 }
 

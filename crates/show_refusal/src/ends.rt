@@ -5,13 +5,13 @@ use std::alloc::Global;
 
 /// The first and last steps of the facts, sorted.
 #[derive(Drop)]
-pub struct Ends {
+pub struct FactEnds {
     pairs: Vec<(u32, u32)>,
 }
 
-impl Ends {
+impl FactEnds {
     /// Collects the ends. Costs a sort.
-    pub fn of(alloc: Global, facts: &Rows) -> Result<Ends, Refusal> {
+    pub fn of(alloc: Global, facts: &Rows) -> Result<FactEnds, Refusal> {
         let mut pairs = Vec::new(alloc);
         for place in 0..facts.len() {
             let path = facts.row(place);
@@ -20,7 +20,7 @@ impl Ends {
             }
         }
         pairs.sort_unstable();
-        Ok(Ends { pairs })
+        Ok(FactEnds { pairs })
     }
 
     /// Whether a fact has these ends. Costs a binary search.

@@ -7,7 +7,7 @@ use ring_names::{NodeId, Refusal, Slot};
 
 /// A node's role in a copy: mirror, or owner that is read.
 #[derive(Clone, Copy, Debug, PartialEq, Eq)]
-pub enum Role {
+pub enum CopyRole {
     Takes,
     Gives,
 }
@@ -22,22 +22,22 @@ fn is_read(stays: &Stays, node: NodeId, partition: u32, listed: &[u8]) -> bool {
     false
 }
 
-fn role_in(stays: &Stays, node: NodeId, step: &Step) -> Option<Role> {
+fn role_in(stays: &Stays, node: NodeId, step: &Step) -> Option<CopyRole> {
     let Step::Copy(slot, source) = step else {
         return None;
     };
     if stays.mirror(*slot) == Some(node.0) {
-        return Some(Role::Takes);
+        return Some(CopyRole::Takes);
     }
     let gives = match source {
         Source::Owner => stays.owner(*slot) == Some(node.0),
         Source::Slots(from) => is_read(stays, node, slot.partition, from.as_slice()),
     };
-    if gives { Some(Role::Gives) } else { None }
+    if gives { Some(CopyRole::Gives) } else { None }
 }
 
 /// Returns the node's role in each step. Costs a walk over the plan.
-pub fn roles(case: Case, node: NodeId) -> Result<Vec<Option<Role>>, Refusal> {
+pub fn roles(case: Case, node: NodeId) -> Result<Vec<Option<CopyRole>>, Refusal> {
     let mut stays = Stays::of(case.alloc, case.ring)?;
     let mut found = Vec::new(case.alloc);
     for number in 0..case.plan.len() {
@@ -49,7 +49,7 @@ pub fn roles(case: Case, node: NodeId) -> Result<Vec<Option<Role>>, Refusal> {
 }
 
 /// Returns the role in the step.
-pub fn role_at(roles: &[Option<Role>], number: u32) -> Option<Role> {
+pub fn role_at(roles: &[Option<CopyRole>], number: u32) -> Option<CopyRole> {
     match roles.get(number as usize) {
         Some(role) => *role,
         None => None,

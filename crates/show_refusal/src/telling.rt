@@ -2,7 +2,7 @@
 
 use crate::case::Case;
 use crate::certificates::{Remedy, bad_path, chain_broken, cover_missing, too_many_chains};
-use crate::ends::Ends;
+use crate::ends::FactEnds;
 use crate::holders::{not_joined, retired_in_use, shared_in_plan};
 use crate::sources::{bad_source, moving_source};
 use crate::stages::{unordered_slot, wrong_stage};
@@ -31,7 +31,7 @@ pub fn tell_plan(
     read: Read,
     refusal: &Refusal,
 ) -> Result<bool, Refusal> {
-    let ends = Ends::of(alloc, &read.cert.facts)?;
+    let ends = FactEnds::of(alloc, &read.cert.facts)?;
     let case = Case {
         alloc,
         page: Page { bytes: read.bytes },
