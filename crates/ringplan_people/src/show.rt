@@ -15,11 +15,11 @@ use plan_bundles::{
 use plan_moves::Progress;
 use ring_names::{NodeId, Refusal};
 use ring_table::{Ring, read_ring};
-use ringplan_job::{Picture, Shape as Asked, Wish};
+use ringplan_job::{Picture, Shape, Wish};
 use show_picture::{Sheet, map_picture, picture};
 use show_plan::{
-    Facts, NodeNames, Present, Scene, Shape, Sized, View, Volumes, ring_summary, short_labels,
-    summary,
+    NodeNames, Overview, PresentRing, RingFacts, Scene, Sized, SummaryShape, Volumes, ring_summary,
+    short_labels, summary,
 };
 use std::alloc::Global;
 
@@ -28,7 +28,7 @@ use std::alloc::Global;
 pub(crate) struct Shown {
     pub scene: Scene,
     pub progress: Option<Progress>,
-    pub present: Present,
+    pub present: PresentRing,
 }
 
 /// Returns how much each partition stores, if the layout has sizes.
@@ -82,7 +82,7 @@ pub(crate) fn shown_by(alloc: Global, found: &Study, options: &Options) -> Resul
     let scene = Scene::of(alloc, &found.approved, &found.cert)?;
     let dead = dead_of(alloc, ring, options)?;
     let run = progress.as_ref();
-    let present = Present::of(alloc, ring, plan, &scene, run, dead.as_slice())?;
+    let present = PresentRing::of(alloc, ring, plan, &scene, run, dead.as_slice())?;
     Ok(Shown {
         scene,
         progress,
@@ -90,10 +90,10 @@ pub(crate) fn shown_by(alloc: Global, found: &Study, options: &Options) -> Resul
     })
 }
 
-fn shape_of(asked: Asked) -> Shape {
+fn shape_of(asked: Shape) -> SummaryShape {
     match asked {
-        Asked::Short => Shape::Short,
-        Asked::Whole => Shape::Whole,
+        Shape::Short => SummaryShape::Short,
+        Shape::Whole => SummaryShape::Whole,
     }
 }
 
@@ -114,8 +114,8 @@ pub(crate) fn facts_of(
     ring: &Ring,
     racks: Option<Labels>,
     options: &Options,
-) -> Result<Facts, Refusal> {
-    Ok(Facts {
+) -> Result<RingFacts, Refusal> {
+    Ok(RingFacts {
         racks,
         aliases: aliases_of(alloc, ring, &options.layout)?,
         sizes: sizes_by(alloc, ring, options)?,
@@ -222,7 +222,7 @@ fn show_plan(
     let (ring, plan) = (found.approved.ring(), found.approved.plan());
     let (progress, racks) = (progress.as_ref(), racks.as_ref());
     let shape = shape_of(wish.shape);
-    let view = View {
+    let view = Overview {
         alloc,
         ring,
         names: NodeNames::new(ring, aliases.as_ref()),

@@ -23,7 +23,7 @@ use ring_table::{Allowance, Ring, read_ring};
 use ringplan_job::{Exit, Statement, Wish};
 use ringplan_jobs::{Answer, refusal_members, status_of};
 use serde_json::Value;
-use show_plan::{Facts, Present, Scene, Volumes, stored_by};
+use show_plan::{PresentRing, RingFacts, Scene, Volumes, stored_by};
 use show_why::Said;
 use std::alloc::Global;
 
@@ -140,8 +140,8 @@ fn state_why(alloc: Global, bytes: &[u8]) -> Result<Answer, Refusal>
 struct Nodes<'a> {
     alloc: Global,
     ring: &'a Ring,
-    present: &'a Present,
-    facts: &'a Facts,
+    present: &'a PresentRing,
+    facts: &'a RingFacts,
     // by node
     stored: &'a Option<Vec<u64>>,
 }
@@ -189,8 +189,8 @@ fn put_allowance(object: &mut Object, ring: &Ring, node: u32) -> Result<(), Refu
     }
 }
 
-fn ring_object(alloc: Global, ring: &Ring, facts: &Facts) -> Result<Object, Refusal> {
-    let present = Present::at_rest(alloc, ring, facts.dead.as_slice())?;
+fn ring_object(alloc: Global, ring: &Ring, facts: &RingFacts) -> Result<Object, Refusal> {
+    let present = PresentRing::at_rest(alloc, ring, facts.dead.as_slice())?;
     let stored = stored_by(alloc, &present, facts.sizes())?;
     let stated = Nodes {
         alloc,

@@ -1,12 +1,12 @@
 //! The bars of copies.
 
-use crate::fitting::{Look, can_fit, push_fitting};
+use crate::fitting::{TextLook, can_fit, push_fitting};
 use crate::sheet::Sheet;
-use crate::state::{State, state_of};
+use crate::state::{BarState, state_of};
 use crate::style::{GIVE, TAKE};
 use crate::svg::{Area, Point, push_area, push_titled};
 use helpers::{Words, small};
-use show_plan::Shown;
+use show_plan::ShownMove;
 
 // For words on a filled bar, and on a bare bar.
 const LIGHT: &[u8] = b"b on";
@@ -18,7 +18,7 @@ const ROUND: &[u8] = b" rx=\"3\"";
 // The pixels of a bar that words leave free.
 const RIM: u32 = 2;
 
-fn slot_word(sheet: &Sheet, shown: &Shown) -> Words {
+fn slot_word(sheet: &Sheet, shown: &ShownMove) -> Words {
     let mut word = Words::new(sheet.alloc);
     word.number(shown.slot.partition);
     word.byte(b'.');
@@ -27,7 +27,7 @@ fn slot_word(sheet: &Sheet, shown: &Shown) -> Words {
 }
 
 // `5.1 ← n04`: the slot and the other node.
-fn whole_words(sheet: &Sheet, shown: &Shown, takes: bool) -> Words {
+fn whole_words(sheet: &Sheet, shown: &ShownMove, takes: bool) -> Words {
     let mut words = slot_word(sheet, shown);
     words.text(if takes {
         b" \xe2\x86\x90 "
@@ -47,7 +47,7 @@ fn whole_words(sheet: &Sheet, shown: &Shown, takes: bool) -> Words {
 }
 
 // By room: slot and other node, only the slot, or only the partition.
-fn label(sheet: &Sheet, shown: &Shown, takes: bool, room: u32) -> Words {
+fn label(sheet: &Sheet, shown: &ShownMove, takes: bool, room: u32) -> Words {
     let whole = whole_words(sheet, shown, takes);
     if can_fit(whole.as_slice(), room) {
         return whole;
@@ -77,7 +77,7 @@ pub fn have_room(sheet: &Sheet, wide: u32) -> bool {
     can_fit(digits, wide.saturating_sub(RIM))
 }
 
-fn title(sheet: &Sheet, shown: &Shown) -> Words {
+fn title(sheet: &Sheet, shown: &ShownMove) -> Words {
     let mut words = Words::new(sheet.alloc);
     words.text(b"step ");
     words.number(shown.copy.unwrap_or(0));
@@ -95,7 +95,7 @@ fn title(sheet: &Sheet, shown: &Shown) -> Words {
 /// Writes the bar of a copy at one of its nodes.
 ///
 /// A copy that is open or still to do is bare. An open bar has a part for the copied chunks.
-pub fn push_bar(sheet: &Sheet, out: &mut Words, area: Area, shown: &Shown, takes: bool) {
+pub fn push_bar(sheet: &Sheet, out: &mut Words, area: Area, shown: &ShownMove, takes: bool) {
     let (fill, outline) = if takes {
         (TAKE, b"bare taker".as_slice())
     } else {
@@ -104,23 +104,23 @@ pub fn push_bar(sheet: &Sheet, out: &mut Words, area: Area, shown: &Shown, takes
     let about = title(sheet, shown);
     let state = state_of(sheet, shown);
     let ink = match state {
-        State::Planned | State::Copied => {
+        BarState::Planned | BarState::Copied => {
             push_titled(out, area, fill, ROUND, &about);
             LIGHT
         }
-        State::Open(_) | State::Left => {
+        BarState::Open(_) | BarState::Left => {
             push_titled(out, area, outline, ROUND, &about);
             DARK
         }
     };
-    if let State::Open(chunks) = state {
+    if let BarState::Open(chunks) = state {
         let mut part = area;
         part.width = helpers::parts_of(chunks, 16, area.width);
         push_area(out, part, fill, b" rx=\"3\" opacity=\"0.4\"");
     }
     let room = area.width.saturating_sub(RIM);
     let words = label(sheet, shown, takes, room);
-    let look = Look::new(ink, 11, b" text-anchor=\"middle\"");
+    let look = TextLook::new(ink, 11, b" text-anchor=\"middle\"");
     let middle = Point::at(
         area.x.saturating_add(area.width / 2),
         area.y.saturating_add(12),

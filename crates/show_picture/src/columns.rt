@@ -40,14 +40,14 @@ pub enum Sharing {
 
 // By rack, its joiners last. If nodes share columns by number, all joiners are last.
 #[derive(Clone, Copy, PartialEq, Eq, PartialOrd, Ord)]
-struct Placed {
+struct PlacedNode {
     is_last: bool,
     rack: u32,
     is_joining: bool,
     node: u32,
 }
 
-fn place_nodes(sheet: &Sheet, racks: Option<&Labels>) -> Result<Vec<Placed>, Refusal> {
+fn place_nodes(sheet: &Sheet, racks: Option<&Labels>) -> Result<Vec<PlacedNode>, Refusal> {
     let mut placed = Vec::new(sheet.alloc);
     for node in 0..small(sheet.ring.nodes().len()) {
         let is_joining = sheet.joins(node);
@@ -56,7 +56,7 @@ fn place_nodes(sheet: &Sheet, racks: Option<&Labels>) -> Result<Vec<Placed>, Ref
                 Some(racks) => racks.of(node),
                 None => 0,
             };
-            placed.push(Placed {
+            placed.push(PlacedNode {
                 is_last: false,
                 rack,
                 is_joining,
@@ -69,7 +69,7 @@ fn place_nodes(sheet: &Sheet, racks: Option<&Labels>) -> Result<Vec<Placed>, Ref
 }
 
 // Racks with joiners count twice.
-fn count_racks(placed: &[Placed]) -> usize {
+fn count_racks(placed: &[PlacedNode]) -> usize {
     let mut count = 0usize;
     let mut last = None;
     for one in placed {
@@ -81,7 +81,7 @@ fn count_racks(placed: &[Placed]) -> usize {
     count
 }
 
-fn choose_sharing(placed: &[Placed], has_racks: bool) -> Sharing {
+fn choose_sharing(placed: &[PlacedNode], has_racks: bool) -> Sharing {
     if placed.len() <= MOST {
         return Sharing::Nobody;
     }
@@ -119,7 +119,7 @@ impl<'a> Columns<'a> {
         Ok(columns)
     }
 
-    fn add(&mut self, one: &Placed) -> Result<(), Refusal> {
+    fn add(&mut self, one: &PlacedNode) -> Result<(), Refusal> {
         if !self.last_takes(one) {
             self.columns.push(Column {
                 node: one.node,
@@ -138,7 +138,7 @@ impl<'a> Columns<'a> {
         Ok(())
     }
 
-    fn last_takes(&self, one: &Placed) -> bool {
+    fn last_takes(&self, one: &PlacedNode) -> bool {
         let Some(last) = self.columns.as_slice().last() else {
             return false;
         };

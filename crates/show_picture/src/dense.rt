@@ -1,11 +1,11 @@
 //! A picture with sums: columns of several rounds, rows for the busiest nodes and for the rest.
 
 use crate::bands::{Band, Bands};
-use crate::fitting::{Look, push_fitting};
+use crate::fitting::{TextLook, push_fitting};
 use crate::frame::{caption_of, name_class, push_frame, push_key};
 use crate::sheet::Sheet;
 use crate::slots::{SLOTS, most_owned, push_slots, slots_head};
-use crate::state::{State, state_of};
+use crate::state::{BarState, state_of};
 use crate::style::{DONE, GIVE, PALE, SOME, TAKE};
 use crate::svg::{
     Area, MARGIN, Point, WIDE, push_area, push_picture, push_rule, push_said, push_titled,
@@ -14,7 +14,7 @@ use crate::svg::{
 use crate::widths::width;
 use helpers::{Words, at, parts_of, raise, small};
 use ring_names::Refusal;
-use show_plan::{Shown, push_many};
+use show_plan::{ShownMove, push_many};
 
 const COLUMNS: u32 = 60;
 
@@ -92,9 +92,9 @@ impl Tally {
         row.saturating_mul(self.columns).saturating_add(column)
     }
 
-    fn count(&mut self, sheet: &Sheet, bands: &Bands, shown: &Shown) {
+    fn count(&mut self, sheet: &Sheet, bands: &Bands, shown: &ShownMove) {
         let column = self.column(shown.round);
-        let is_done = state_of(sheet, shown) == State::Copied;
+        let is_done = state_of(sheet, shown) == BarState::Copied;
         raise(self.all.as_mut_slice(), column);
         if is_done {
             raise(self.done.as_mut_slice(), column);
@@ -136,7 +136,7 @@ impl Tally {
 }
 
 #[derive(Drop)]
-struct Grid {
+struct CopyGrid {
     left: u32,
     column: u32,
     right: u32,
@@ -183,8 +183,8 @@ fn label(sheet: &Sheet, band: &Band) -> Words {
     words
 }
 
-impl Grid {
-    fn of(sheet: &Sheet, nodes: &[u32], bands: &Bands, tally: &Tally) -> Result<Grid, Refusal> {
+impl CopyGrid {
+    fn of(sheet: &Sheet, nodes: &[u32], bands: &Bands, tally: &Tally) -> Result<CopyGrid, Refusal> {
         let mut words = NARROW;
         for band in bands.bands.as_slice() {
             let wide = width(label(sheet, band).end()?.as_slice(), 12);
@@ -204,7 +204,7 @@ impl Grid {
             (None, 0..=18) => 24,
             (None, _) => 20,
         };
-        Ok(Grid {
+        Ok(CopyGrid {
             left,
             column,
             right,
@@ -302,7 +302,7 @@ impl Grid {
             Some(node) => name_class(sheet, node),
             None => b"s",
         };
-        let look = Look::new(class, 12, b" text-anchor=\"end\"");
+        let look = TextLook::new(class, 12, b" text-anchor=\"end\"");
         push_fitting(
             out,
             before,
@@ -322,7 +322,7 @@ impl Grid {
     }
 
     fn push_work(&self, sheet: &Sheet, out: &mut Words, node: u32, y: u32) {
-        let look = Look::new(b"k", 10, b"");
+        let look = TextLook::new(b"k", 10, b"");
         let x = self.right.saturating_add(GAP);
         let sizes = sheet.sizes(node);
         out.heed(&sizes);
@@ -376,7 +376,7 @@ impl Grid {
             words.number(self.sum_scale);
         }
         let room = (WIDE - MARGIN).saturating_sub(next.x);
-        push_fitting(out, next, Look::new(b"h", 11, b""), &words, room);
+        push_fitting(out, next, TextLook::new(b"h", 11, b""), &words, room);
         let mut words = Words::new(sheet.alloc);
         push_many(
             &mut words,
@@ -389,7 +389,7 @@ impl Grid {
         );
         let below = Point::at(self.left, y.saturating_add(20));
         let room = (WIDE - MARGIN).saturating_sub(self.left);
-        push_fitting(out, below, Look::new(b"h", 11, b""), &words, room);
+        push_fitting(out, below, TextLook::new(b"h", 11, b""), &words, room);
         y.saturating_add(36)
     }
 }
@@ -451,7 +451,7 @@ fn rounds_words(sheet: &Sheet, tally: &Tally, column: usize, what: &[u8], count:
 pub fn dense_picture(sheet: &Sheet, nodes: &[u32]) -> Result<Vec<u8>, Refusal> {
     let bands = Bands::of(sheet, nodes)?;
     let tally = Tally::of(sheet, &bands)?;
-    let grid = Grid::of(sheet, nodes, &bands, &tally)?;
+    let grid = CopyGrid::of(sheet, nodes, &bands, &tally)?;
     let mut shapes = Words::new(sheet.alloc);
     let caption = caption_of(sheet);
     push_frame(sheet, &mut shapes, &caption);

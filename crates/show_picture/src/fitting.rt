@@ -9,21 +9,21 @@ const LEAST: u32 = 10;
 
 /// A class, a font size, and more attributes, each after a space.
 #[derive(Clone, Copy)]
-pub struct Look<'a> {
+pub struct TextLook<'a> {
     pub class: &'a [u8],
     pub size: u32,
     pub more: &'a [u8],
 }
 
-impl<'a> Look<'a> {
+impl<'a> TextLook<'a> {
     /// Returns the look.
-    pub fn new(class: &'a [u8], size: u32, more: &'a [u8]) -> Look<'a> {
-        Look { class, size, more }
+    pub fn new(class: &'a [u8], size: u32, more: &'a [u8]) -> TextLook<'a> {
+        TextLook { class, size, more }
     }
 }
 
 // From 10 pixels on.
-fn size_for(look: Look, words: &[u8], room: u32) -> Option<u32> {
+fn size_for(look: TextLook, words: &[u8], room: u32) -> Option<u32> {
     let mut found = None;
     for size in LEAST..look.size.saturating_add(1) {
         if width(words, size) <= room {
@@ -40,7 +40,7 @@ fn push_size(out: &mut Words, size: u32) {
 }
 
 /// Writes words into a room: if need be smaller, down to 10 pixels, or narrowed.
-pub fn push_fitting(out: &mut Words, at: Point, look: Look, words: &Words, room: u32) {
+pub fn push_fitting(out: &mut Words, at: Point, look: TextLook, words: &Words, room: u32) {
     push_begin(out, at);
     out.text(b" class=\"");
     out.text(look.class);

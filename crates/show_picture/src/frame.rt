@@ -1,6 +1,6 @@
 //! The frame around a picture's rows.
 
-use crate::fitting::{Look, push_fitting};
+use crate::fitting::{TextLook, push_fitting};
 use crate::sheet::Sheet;
 use crate::style::DONE;
 use crate::svg::{Area, Caption, MARGIN, Point, WIDE, push_area, push_said, push_words};
@@ -52,7 +52,7 @@ pub fn caption_of(sheet: &Sheet) -> Caption {
 /// Writes the title, the words below, and the progress.
 pub fn push_frame(sheet: &Sheet, out: &mut Words, caption: &Caption) {
     // Bold words are wider by about an eighth.
-    let title = Look::new(b"t", 19, b"");
+    let title = TextLook::new(b"t", 19, b"");
     push_fitting(
         out,
         Point::at(MARGIN, 34),
@@ -60,7 +60,7 @@ pub fn push_frame(sheet: &Sheet, out: &mut Words, caption: &Caption) {
         &caption.title,
         ROOM / 9 * 8,
     );
-    let about = Look::new(b"s", 12, b"");
+    let about = TextLook::new(b"s", 12, b"");
     push_fitting(out, Point::at(MARGIN, 55), about, &caption.about, ROOM);
     push_sizes(sheet, out);
     push_progress(sheet, out)
@@ -83,7 +83,7 @@ fn push_sizes(sheet: &Sheet, out: &mut Words) {
             words.text(b" to move in all");
         }
     }
-    let look = Look::new(b"s", 12, b"");
+    let look = TextLook::new(b"s", 12, b"");
     push_fitting(out, Point::at(MARGIN, 75), look, &words, ROOM / 2)
 }
 
@@ -138,7 +138,7 @@ pub fn name_class(sheet: &Sheet, node: u32) -> &'static [u8] {
 
 /// Writes a node's name, ending at the place.
 pub fn push_name(sheet: &Sheet, out: &mut Words, at: Point, node: u32, room: u32) {
-    let look = Look::new(name_class(sheet, node), 12, b" text-anchor=\"end\"");
+    let look = TextLook::new(name_class(sheet, node), 12, b" text-anchor=\"end\"");
     let mut words = Words::new(sheet.alloc);
     words.text(sheet.names.name(node));
     let is_bold = sheet.leaves(node) || sheet.joins(node);
@@ -167,6 +167,6 @@ pub fn push_idle(sheet: &Sheet, out: &mut Words, at: Point) -> Result<(), Refusa
     push_names(&mut words, sheet.names, idle.as_slice(), 6);
     words.byte(b'.');
     let room = WIDE.saturating_sub(MARGIN).saturating_sub(at.x);
-    push_fitting(out, at, Look::new(b"h", 11, b""), &words, room);
+    push_fitting(out, at, TextLook::new(b"h", 11, b""), &words, room);
     Ok(())
 }

@@ -1,7 +1,7 @@
 //! A picture with every copy.
 
 use crate::bars::{have_room, push_bar};
-use crate::fitting::{Look, push_fitting};
+use crate::fitting::{TextLook, push_fitting};
 use crate::frame::{caption_of, push_frame, push_idle, push_key, push_name};
 use crate::lanes::Lanes;
 use crate::order::by_copy;
@@ -14,7 +14,7 @@ use crate::svg::{
 use crate::widths::width;
 use helpers::Words;
 use ring_names::Refusal;
-use show_plan::Shown;
+use show_plan::ShownMove;
 
 // The height of a lane, and the least height of a row.
 const LANE: u32 = 19;
@@ -169,7 +169,7 @@ impl Plot {
         if words.len() == 0 {
             return y;
         }
-        let look = Look::new(b"k", 10, b" text-anchor=\"end\"");
+        let look = TextLook::new(b"k", 10, b" text-anchor=\"end\"");
         let place = Point::at(self.left.saturating_sub(12), y);
         let room = self.left.saturating_sub(MARGIN + 12);
         push_fitting(out, place, look, words, room);
@@ -203,7 +203,7 @@ impl Plot {
         for line in LINES {
             let mut words = Words::new(sheet.alloc);
             words.text(line);
-            let look = Look::new(b"h", 11, b"");
+            let look = TextLook::new(b"h", 11, b"");
             let room = (WIDE - MARGIN).saturating_sub(self.left);
             push_fitting(out, Point::at(self.left, below), look, &words, room);
             below = below.saturating_add(15);
@@ -275,14 +275,20 @@ fn role_of(sheet: &Sheet, node: u32, has_bound: bool) -> Words {
     words
 }
 
-fn push_copy(sheet: &Sheet, out: &mut Words, plot: &Plot, lanes: &mut Lanes, shown: &Shown) {
+fn push_copy(sheet: &Sheet, out: &mut Words, plot: &Plot, lanes: &mut Lanes, shown: &ShownMove) {
     push_part(sheet, out, plot, lanes, (shown, shown.to));
     for node in sheet.scene.shown.read_by(shown) {
         push_part(sheet, out, plot, lanes, (shown, *node));
     }
 }
 
-fn push_part(sheet: &Sheet, out: &mut Words, plot: &Plot, lanes: &mut Lanes, part: (&Shown, u32)) {
+fn push_part(
+    sheet: &Sheet,
+    out: &mut Words,
+    plot: &Plot,
+    lanes: &mut Lanes,
+    part: (&ShownMove, u32),
+) {
     let (shown, node) = part;
     let Some(place) = lanes.row(node) else {
         return;

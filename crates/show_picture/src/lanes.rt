@@ -3,7 +3,7 @@
 use crate::sheet::Sheet;
 use helpers::{at, raise};
 use ring_names::Refusal;
-use show_plan::Shown;
+use show_plan::ShownMove;
 
 /// The copies counted so far, by row and round.
 #[derive(Drop)]
@@ -56,7 +56,7 @@ impl Lanes {
     }
 
     /// Counts a move's copy at each of its nodes.
-    pub fn count(&mut self, sheet: &Sheet, shown: &Shown) {
+    pub fn count(&mut self, sheet: &Sheet, shown: &ShownMove) {
         if let Some(row) = self.row(shown.to) {
             self.take(row, shown.round);
         }

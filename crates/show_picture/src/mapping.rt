@@ -2,7 +2,7 @@
 
 use crate::cells::{Cells, DUE, GIVEN, GONE, KEPT, MARKS, TAKEN, joined};
 use crate::columns::{Column, Columns, Sharing};
-use crate::fitting::{Look, push_fitting};
+use crate::fitting::{TextLook, push_fitting};
 use crate::frame::{caption_of, name_class, push_frame, push_key};
 use crate::sheet::Sheet;
 use crate::svg::{Area, MARGIN, Point, WIDE, push_area, push_picture, push_said};
@@ -35,7 +35,7 @@ fn class_of_mark(mark: usize) -> &'static [u8] {
 }
 
 #[derive(Clone, Copy)]
-struct Grid {
+struct SlotGrid {
     top: u32,
     row: u32,
     column: u32,
@@ -44,8 +44,8 @@ struct Grid {
     most: u32,
 }
 
-impl Grid {
-    fn of(sheet: &Sheet, columns: &Columns, cells: &Cells) -> Result<Grid, Refusal> {
+impl SlotGrid {
+    fn of(sheet: &Sheet, columns: &Columns, cells: &Cells) -> Result<SlotGrid, Refusal> {
         let mut names = 0u32;
         for column in columns.columns.as_slice() {
             let wide = width(label(sheet, columns, column).end()?.as_slice(), 12);
@@ -63,7 +63,7 @@ impl Grid {
             None => WIDEST,
         };
         let top = names.min(NAMES).saturating_add(HEAD + 12);
-        Ok(Grid {
+        Ok(SlotGrid {
             top,
             row,
             column,
@@ -112,7 +112,7 @@ impl Grid {
         out.heed(&more);
         out.heed(&class);
         let size = if is_small { 10 } else { 12 };
-        let look = Look::new(class.as_slice(), size, more.as_slice());
+        let look = TextLook::new(class.as_slice(), size, more.as_slice());
         push_fitting(out, Point::at(x, y), look, words, NAMES / 9 * 8)
     }
 
@@ -129,7 +129,7 @@ impl Grid {
                     words.text(racks.name(column.node));
                     let room = self.column.saturating_mul(2).max(30);
                     let start = Point::at(self.x(place), HEAD);
-                    push_fitting(out, start, Look::new(b"h", 11, b""), &words, room);
+                    push_fitting(out, start, TextLook::new(b"h", 11, b""), &words, room);
                 }
             }
             last = Some(column.rack);
@@ -201,7 +201,7 @@ impl Grid {
     fn push_notes(&self, sheet: &Sheet, out: &mut Words, columns: &Columns, cells: &Cells) -> u32 {
         let y = self.bottom.saturating_add(26);
         push_keys(sheet, out, Point::at(MARGIN, y));
-        let look = Look::new(b"h", 11, b"");
+        let look = TextLook::new(b"h", 11, b"");
         let room = WIDE - 2 * MARGIN;
         let below = y.saturating_add(20);
         let words = parts_words(sheet, columns, cells);
@@ -322,7 +322,7 @@ fn joiners_words(sheet: &Sheet) -> Words {
 pub fn map_picture(sheet: &Sheet, racks: Option<&Labels>) -> Result<Vec<u8>, Refusal> {
     let columns = Columns::of(sheet, racks)?;
     let cells = Cells::of(sheet, &columns)?;
-    let grid = Grid::of(sheet, &columns, &cells)?;
+    let grid = SlotGrid::of(sheet, &columns, &cells)?;
     let caption = caption_of(sheet);
     let mut shapes = Words::new(sheet.alloc);
     push_frame(sheet, &mut shapes, &caption);

@@ -4,7 +4,7 @@ use helpers::{Words, at, word};
 use plan_moves::Progress;
 use plan_text::Plan;
 use ring_table::Ring;
-use show_plan::{NodeNames, Present, Scene, Shown, Volumes, push_short};
+use show_plan::{NodeNames, PresentRing, Scene, ShownMove, Volumes, push_short};
 use std::alloc::Global;
 
 /// An approved plan, and a run's progress, if any.
@@ -16,14 +16,14 @@ pub struct Sheet<'a> {
     pub plan: &'a Plan,
     pub scene: &'a Scene,
     /// The ring after the history, or before the first step.
-    pub present: &'a Present,
+    pub present: &'a PresentRing,
     pub progress: Option<&'a Progress>,
     pub volumes: Option<&'a Volumes>,
 }
 
 impl<'a> Sheet<'a> {
     /// Returns the move.
-    pub fn shown(&self, place: u32) -> Option<&Shown> {
+    pub fn shown(&self, place: u32) -> Option<&ShownMove> {
         self.scene.shown.moves.as_slice().get(place as usize)
     }
 

@@ -1,6 +1,6 @@
 //! Bars of the slots that a node owns.
 
-use crate::fitting::{Look, push_fitting};
+use crate::fitting::{TextLook, push_fitting};
 use crate::sheet::Sheet;
 use crate::style::{INK, KEPT, TAKE};
 use crate::svg::{Area, Point, push_area};
@@ -99,5 +99,5 @@ fn push_numbers(sheet: &Sheet, out: &mut Words, place: Point, node: u32) {
         words.number(after);
     }
     let behind = Point::at(place.x.saturating_add(BAR + 8), place.y.saturating_add(9));
-    push_fitting(out, behind, Look::new(b"b", 11, b""), &words, NUMBERS)
+    push_fitting(out, behind, TextLook::new(b"b", 11, b""), &words, NUMBERS)
 }

@@ -1,11 +1,11 @@
 //! How far a run has come with a move.
 
 use crate::sheet::Sheet;
-use show_plan::Shown;
+use show_plan::ShownMove;
 
 /// What a bar says of its copy.
 #[derive(Clone, Copy, Debug, PartialEq, Eq)]
-pub enum State {
+pub enum BarState {
     /// There is no run.
     Planned,
     Copied,
@@ -16,18 +16,18 @@ pub enum State {
 }
 
 /// Returns the state of the move's copy.
-pub fn state_of(sheet: &Sheet, shown: &Shown) -> State {
+pub fn state_of(sheet: &Sheet, shown: &ShownMove) -> BarState {
     let Some(progress) = sheet.progress else {
-        return State::Planned;
+        return BarState::Planned;
     };
     let Some(copy) = shown.copy else {
-        return State::Left;
+        return BarState::Left;
     };
     if progress.is_done(copy) {
-        State::Copied
+        BarState::Copied
     } else if progress.is_open(copy) {
-        State::Open(progress.chunks(copy))
+        BarState::Open(progress.chunks(copy))
     } else {
-        State::Left
+        BarState::Left
     }
 }

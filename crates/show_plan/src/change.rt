@@ -1,7 +1,7 @@
 //! Which nodes join and leave, and what moves.
 
 use crate::names::{NodeNames, push_many, push_names};
-use crate::present::Present;
+use crate::present::PresentRing;
 use crate::scene::Scene;
 use crate::writing::columns;
 use helpers::{Words, small};
@@ -51,7 +51,7 @@ pub fn push_moves(out: &mut Words, scene: &Scene, one: &[u8], more: &[u8]) {
 /// Returns the fewest slots that must move.
 ///
 /// These are all slots of leavers and dead nodes, or more, so that each joiner gets its share, rounded down.
-pub fn fewest_moves(ring: &Ring, scene: &Scene, present: &Present) -> u32 {
+pub fn fewest_moves(ring: &Ring, scene: &Scene, present: &PresentRing) -> u32 {
     let total = ring.q().saturating_mul(ring.n());
     let share = match total.checked_div(count_living(ring, scene, present)) {
         Some(share) => share,
@@ -72,7 +72,7 @@ pub fn fewest_moves(ring: &Ring, scene: &Scene, present: &Present) -> u32 {
     leaving.saturating_add(share.saturating_mul(joins).saturating_sub(given))
 }
 
-fn count_living(ring: &Ring, scene: &Scene, present: &Present) -> u32 {
+fn count_living(ring: &Ring, scene: &Scene, present: &PresentRing) -> u32 {
     let mut count = 0u32;
     for node in 0..small(ring.nodes().len()) {
         if scene.stays(ring, node) && !present.is_dead(node) {
@@ -83,7 +83,7 @@ fn count_living(ring: &Ring, scene: &Scene, present: &Present) -> u32 {
 }
 
 /// Counts the final members that answer.
-pub fn count_members(ring: &Ring, scene: &Scene, present: &Present) -> u32 {
+pub fn count_members(ring: &Ring, scene: &Scene, present: &PresentRing) -> u32 {
     let mut count = 0u32;
     for node in 0..small(ring.nodes().len()) {
         if scene.stays(ring, node) && !present.is_silent(node) {

@@ -1,12 +1,12 @@
 //! What remains if more nodes fail.
 
-use crate::present::Present;
+use crate::present::PresentRing;
 use helpers::{at, raise, small};
 use ring_names::{Listed, NodeId, Refusal};
 use ring_table::Ring;
 use std::alloc::Global;
 
-fn count_up(row: &[NodeId], present: &Present) -> u32 {
+fn count_up(row: &[NodeId], present: &PresentRing) -> u32 {
     let mut count = 0u32;
     for node in row {
         if !present.is_silent(node.0) {
@@ -17,7 +17,7 @@ fn count_up(row: &[NodeId], present: &Present) -> u32 {
 }
 
 /// Counts the partitions that still answer reads and writes.
-pub fn kept(ring: &Ring, rows: &[Listed<NodeId>], present: &Present) -> u32 {
+pub fn kept(ring: &Ring, rows: &[Listed<NodeId>], present: &PresentRing) -> u32 {
     let needed = ring.r().max(ring.w());
     let mut count = 0u32;
     for row in rows {
@@ -33,7 +33,7 @@ pub fn kept_by_one(
     alloc: Global,
     ring: &Ring,
     rows: &[Listed<NodeId>],
-    present: &Present,
+    present: &PresentRing,
 ) -> Result<u32, Refusal> {
     let needed = ring.r().max(ring.w());
     let mut lost = vec![in alloc; 0u32; ring.nodes().len()]?;
@@ -55,7 +55,7 @@ pub fn kept_by_one(
 
 /// How many partitions two answering nodes share.
 #[derive(Clone, Copy)]
-pub struct Shared {
+pub struct SharedCounts {
     /// The most for a pair.
     pub most: u32,
     /// The sum over all pairs.
@@ -67,11 +67,11 @@ pub fn count_shared(
     alloc: Global,
     ring: &Ring,
     rows: &[Listed<NodeId>],
-    present: &Present,
-) -> Result<Shared, Refusal> {
+    present: &PresentRing,
+) -> Result<SharedCounts, Refusal> {
     let pairs = all_pairs(small(ring.nodes().len()));
     let mut counts = vec![in alloc; 0u32; pairs as usize]?;
-    let mut shared = Shared { most: 0, sum: 0 };
+    let mut shared = SharedCounts { most: 0, sum: 0 };
     for row in rows {
         let up = up_of(alloc, row.as_slice(), present)?;
         let most = count_pairs(counts.as_mut_slice(), up.as_slice());
@@ -81,7 +81,7 @@ pub fn count_shared(
     Ok(shared)
 }
 
-fn up_of(alloc: Global, row: &[NodeId], present: &Present) -> Result<Vec<u32>, Refusal> {
+fn up_of(alloc: Global, row: &[NodeId], present: &PresentRing) -> Result<Vec<u32>, Refusal> {
     let mut up = Vec::new(alloc);
     for node in row {
         if !present.is_silent(node.0) {

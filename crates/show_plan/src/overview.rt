@@ -4,12 +4,12 @@ use crate::change::{count_members, fewest_moves, push_change, push_moves};
 use crate::domains::sharing;
 use crate::failing::{all_pairs, count_crowded, count_shared, kept_by_one};
 use crate::names::{NodeNames, push_many, push_names, push_quorum};
-use crate::present::Present;
+use crate::present::PresentRing;
 use crate::rounds::push_rounds;
 use crate::running::push_progress;
 use crate::scene::Scene;
 use crate::silent::{count_answering, push_failing, tell_silent};
-use crate::span::Span;
+use crate::span::SlotSpan;
 use crate::table::push_table;
 use crate::volumes::Volumes;
 use crate::writing::{end_line, push_long, push_tenths, push_time};
@@ -22,7 +22,7 @@ use std::alloc::Global;
 
 /// How much a summary shows.
 #[derive(Clone, Copy, Debug, PartialEq, Eq)]
-pub enum Shape {
+pub enum SummaryShape {
     /// At most 24 nodes, 12 rounds and 6 entries a round, and sums of the rest.
     Short,
     Whole,
@@ -38,30 +38,30 @@ pub struct Sized<'a> {
 
 /// The input of a summary.
 #[derive(Clone, Copy)]
-pub struct View<'a> {
+pub struct Overview<'a> {
     pub alloc: Global,
     pub ring: &'a Ring,
     pub names: NodeNames<'a>,
     pub plan: &'a Plan,
     pub scene: &'a Scene,
     /// The ring after the history, or before the first step.
-    pub present: &'a Present,
+    pub present: &'a PresentRing,
     pub progress: Option<&'a Progress>,
-    pub shape: Shape,
+    pub shape: SummaryShape,
     pub sized: Option<Sized<'a>>,
     pub racks: Option<&'a Labels>,
 }
 
 const INDENT: usize = 12;
 
-fn tell_change(view: &View, line: &mut Words) {
+fn tell_change(view: &Overview, line: &mut Words) {
     push_change(line, view.names, view.scene);
     line.text(b" a ring of ");
     push_quorum(line, view.ring, b": any ", b", any ");
     line.byte(b'.');
 }
 
-fn tell_moves(view: &View, line: &mut Words) {
+fn tell_moves(view: &Overview, line: &mut Words) {
     let slots = view.scene.moved_slots;
     let total = view.ring.q().saturating_mul(view.ring.n());
     let moves = view.scene.move_count();
@@ -77,7 +77,7 @@ fn tell_moves(view: &View, line: &mut Words) {
     push_fewest(view, line)
 }
 
-fn push_fewest(view: &View, line: &mut Words) {
+fn push_fewest(view: &Overview, line: &mut Words) {
     let moves = view.scene.move_count();
     let fewest = fewest_moves(view.ring, view.scene, view.present);
     let is_still = view.scene.joins.is_empty() && view.scene.leaves.is_empty();
@@ -94,7 +94,7 @@ fn push_fewest(view: &View, line: &mut Words) {
     }
 }
 
-fn tell_round_count(view: &View, line: &mut Words) {
+fn tell_round_count(view: &Overview, line: &mut Words) {
     line.text(b"  rounds    ");
     line.number(view.scene.round_count());
     line.text(b" of copies behind one another; the widest has ");
@@ -131,7 +131,7 @@ fn tell_sizes(line: &mut Words, sized: Sized) {
     }
 }
 
-fn count_early(view: &View) -> u32 {
+fn count_early(view: &Overview) -> u32 {
     let mut early = 0u32;
     for shown in view.scene.shown.moves.as_slice() {
         if shown.round > shown.opens.saturating_add(1) {
@@ -141,7 +141,7 @@ fn count_early(view: &View) -> u32 {
     early
 }
 
-fn count_listed(view: &View) -> u32 {
+fn count_listed(view: &Overview) -> u32 {
     let mut listed = 0u32;
     for shown in view.scene.shown.moves.as_slice() {
         if shown.is_listed {
@@ -151,7 +151,7 @@ fn count_listed(view: &View) -> u32 {
     listed
 }
 
-fn tell_writes(view: &View, line: &mut Words) {
+fn tell_writes(view: &Overview, line: &mut Words) {
     line.text(b"  writes    twice for a slot while its mirror is open; ");
     let early = count_early(view);
     if early == 0 {
@@ -173,8 +173,8 @@ fn tell_sources(line: &mut Words, listed: u32) {
 }
 
 // Of answering members, now and in the end.
-fn spans_of(view: &View) -> (Span, Span) {
-    let (mut now, mut then) = (Span::new(), Span::new());
+fn spans_of(view: &Overview) -> (SlotSpan, SlotSpan) {
+    let (mut now, mut then) = (SlotSpan::new(), SlotSpan::new());
     let loads = &view.scene.loads;
     for node in 0..small(view.ring.nodes().len()) {
         if view.present.is_silent(node) {
@@ -190,7 +190,7 @@ fn spans_of(view: &View) -> (Span, Span) {
     (now, then)
 }
 
-fn tell_balance(view: &View, line: &mut Words) {
+fn tell_balance(view: &Overview, line: &mut Words) {
     let total = view.ring.q().saturating_mul(view.ring.n());
     let (now, then) = spans_of(view);
     line.text(if view.present.silent.is_empty() {
@@ -206,7 +206,7 @@ fn tell_balance(view: &View, line: &mut Words) {
     push_tenths(line, parts_of(total, members, 10))
 }
 
-fn tell_racks(view: &View, line: &mut Words, racks: &Labels) {
+fn tell_racks(view: &Overview, line: &mut Words, racks: &Labels) {
     let now = sharing(view.present.rows.as_slice(), racks);
     let then = sharing(view.scene.last_rows.as_slice(), racks);
     line.text(b"  racks     ");
@@ -219,7 +219,7 @@ fn tell_racks(view: &View, line: &mut Words, racks: &Labels) {
     }
 }
 
-fn tell_joiners(view: &View, line: &mut Words) -> Result<(), Refusal> {
+fn tell_joiners(view: &Overview, line: &mut Words) -> Result<(), Refusal> {
     let rows = view.scene.last_rows.as_slice();
     let joins = view.scene.joins.as_slice();
     let crowded = count_crowded(view.alloc, view.ring, rows, joins)?;
@@ -233,7 +233,7 @@ fn tell_joiners(view: &View, line: &mut Words) -> Result<(), Refusal> {
     Ok(())
 }
 
-fn tell_hints(view: &View, out: &mut Words, line: &mut Words) -> Result<(), Refusal> {
+fn tell_hints(view: &Overview, out: &mut Words, line: &mut Words) -> Result<(), Refusal> {
     let Some(progress) = view.progress else {
         return Ok(());
     };
@@ -255,7 +255,7 @@ fn tell_hints(view: &View, out: &mut Words, line: &mut Words) -> Result<(), Refu
     Ok(())
 }
 
-fn tell_one_fails(view: &View, line: &mut Words) -> Result<(), Refusal> {
+fn tell_one_fails(view: &Overview, line: &mut Words) -> Result<(), Refusal> {
     let (ring, present) = (view.ring, view.present);
     push_failing(line, view.names, present, b"  if one fails   ");
     let now = kept_by_one(view.alloc, ring, present.rows.as_slice(), present)?;
@@ -274,7 +274,7 @@ fn tell_one_fails(view: &View, line: &mut Words) -> Result<(), Refusal> {
     Ok(())
 }
 
-fn tell_two_fail(view: &View, line: &mut Words) -> Result<(), Refusal> {
+fn tell_two_fail(view: &Overview, line: &mut Words) -> Result<(), Refusal> {
     let (ring, present) = (view.ring, view.present);
     let now = count_shared(view.alloc, ring, present.rows.as_slice(), present)?;
     let then = count_shared(view.alloc, ring, view.scene.last_rows.as_slice(), present)?;
@@ -293,7 +293,7 @@ fn tell_two_fail(view: &View, line: &mut Words) -> Result<(), Refusal> {
     Ok(())
 }
 
-fn push_total(view: &View, out: &mut Words) {
+fn push_total(view: &Overview, out: &mut Words) {
     let scene = view.scene;
     out.text(b"Plan: ");
     out.number(small(scene.joins.len()));
@@ -305,7 +305,7 @@ fn push_total(view: &View, out: &mut Words) {
     push_many(out, scene.round_count(), b"round.\n", b"rounds.\n");
 }
 
-fn push_overview(view: &View, out: &mut Words, line: &mut Words) -> Result<(), Refusal> {
+fn push_overview(view: &Overview, out: &mut Words, line: &mut Words) -> Result<(), Refusal> {
     tell_change(view, line);
     end_line(out, line, 2);
     out.byte(b'\n');
@@ -330,7 +330,7 @@ fn push_overview(view: &View, out: &mut Words, line: &mut Words) -> Result<(), R
     Ok(())
 }
 
-fn push_motion(view: &View, out: &mut Words, line: &mut Words) {
+fn push_motion(view: &Overview, out: &mut Words, line: &mut Words) {
     tell_moves(view, line);
     end_line(out, line, INDENT);
     tell_round_count(view, line);
@@ -348,7 +348,7 @@ fn push_motion(view: &View, out: &mut Words, line: &mut Words) {
     }
 }
 
-fn push_failures(view: &View, out: &mut Words, line: &mut Words) -> Result<(), Refusal> {
+fn push_failures(view: &Overview, out: &mut Words, line: &mut Words) -> Result<(), Refusal> {
     tell_one_fails(view, line)?;
     end_line(out, line, INDENT);
     tell_two_fail(view, line)?;
@@ -356,7 +356,7 @@ fn push_failures(view: &View, out: &mut Words, line: &mut Words) -> Result<(), R
     Ok(())
 }
 
-fn push_summary(view: &View, out: &mut Words, line: &mut Words) -> Result<(), Refusal> {
+fn push_summary(view: &Overview, out: &mut Words, line: &mut Words) -> Result<(), Refusal> {
     push_overview(view, out, line)?;
     push_table(view, out, line)?;
     out.byte(b'\n');
@@ -372,7 +372,7 @@ fn push_summary(view: &View, out: &mut Words, line: &mut Words) -> Result<(), Re
 /// Writes the summary of a plan. Fails only with `OutOfMemory`.
 ///
 /// Lines have at most 100 bytes, except rows with long names or large sizes.
-pub fn summary(view: &View) -> Result<Vec<u8>, Refusal> {
+pub fn summary(view: &Overview) -> Result<Vec<u8>, Refusal> {
     let mut out = Words::new(view.alloc);
     let mut line = Words::new(view.alloc);
     push_summary(view, &mut out, &mut line)?;

@@ -1,7 +1,7 @@
 //! A ring after a history's last entry.
 
 use crate::scene::Scene;
-use crate::shown::Shown;
+use crate::shown::ShownMove;
 use helpers::{is_set, put};
 use plan_moves::{Progress, owned};
 use plan_text::{Plan, Step};
@@ -11,7 +11,7 @@ use std::alloc::Global;
 
 /// The ring after a history, or before the first step.
 #[derive(Drop)]
-pub struct Present {
+pub struct PresentRing {
     /// By partition.
     pub rows: Vec<Listed<NodeId>>,
     /// The slots of each node.
@@ -25,7 +25,7 @@ pub struct Present {
     is_dead: Vec<bool>,
 }
 
-impl Present {
+impl PresentRing {
     /// Returns the ring after the history. Fails only with `OutOfMemory`.
     pub fn of(
         alloc: Global,
@@ -34,9 +34,9 @@ impl Present {
         scene: &Scene,
         progress: Option<&Progress>,
         dead: &[NodeId],
-    ) -> Result<Present, Refusal> {
+    ) -> Result<PresentRing, Refusal> {
         let rows = rows_now(alloc, ring, scene.shown.moves.as_slice(), progress)?;
-        let mut present = Present::with_rows(alloc, ring, rows)?;
+        let mut present = PresentRing::with_rows(alloc, ring, rows)?;
         present.note_dead(dead);
         present.note_nodes(ring, progress)?;
         if let Some(progress) = progress {
@@ -46,9 +46,9 @@ impl Present {
     }
 
     /// Returns the ring without a plan. Fails only with `OutOfMemory`.
-    pub fn at_rest(alloc: Global, ring: &Ring, dead: &[NodeId]) -> Result<Present, Refusal> {
+    pub fn at_rest(alloc: Global, ring: &Ring, dead: &[NodeId]) -> Result<PresentRing, Refusal> {
         let rows = rows_now(alloc, ring, &[], None)?;
-        let mut present = Present::with_rows(alloc, ring, rows)?;
+        let mut present = PresentRing::with_rows(alloc, ring, rows)?;
         present.note_dead(dead);
         present.note_nodes(ring, None)?;
         Ok(present)
@@ -58,9 +58,9 @@ impl Present {
         alloc: Global,
         ring: &Ring,
         rows: Vec<Listed<NodeId>>,
-    ) -> Result<Present, Refusal> {
+    ) -> Result<PresentRing, Refusal> {
         let owned = owned(alloc, ring.nodes().len(), rows.as_slice())?;
-        Ok(Present {
+        Ok(PresentRing {
             rows,
             owned,
             silent: Vec::new(alloc),
@@ -141,7 +141,7 @@ fn is_down(progress: Option<&Progress>, node: u32) -> bool {
     }
 }
 
-fn is_switched(shown: &Shown, progress: &Progress) -> bool {
+fn is_switched(shown: &ShownMove, progress: &Progress) -> bool {
     match shown.switch {
         Some(step) => progress.is_done(step),
         None => false,
@@ -152,7 +152,7 @@ fn is_switched(shown: &Shown, progress: &Progress) -> bool {
 fn rows_now(
     alloc: Global,
     ring: &Ring,
-    moves: &[Shown],
+    moves: &[ShownMove],
     progress: Option<&Progress>,
 ) -> Result<Vec<Listed<NodeId>>, Refusal> {
     let mut rows = Vec::new(alloc);
@@ -173,7 +173,7 @@ fn rows_now(
     Ok(listed)
 }
 
-fn set_owner(rows: &mut [Vec<NodeId>], shown: &Shown) {
+fn set_owner(rows: &mut [Vec<NodeId>], shown: &ShownMove) {
     if let Some(row) = rows.get_mut(shown.slot.partition as usize) {
         if let Some(owner) = row.get_mut(shown.slot.index as usize) {
             *owner = NodeId(shown.to);

@@ -3,9 +3,9 @@
 use crate::domains::sharing;
 use crate::failing::{all_pairs, count_shared, kept_by_one};
 use crate::names::{NodeNames, push_many, push_quorum};
-use crate::present::Present;
+use crate::present::PresentRing;
 use crate::silent::{count_answering, push_failing, tell_silent};
-use crate::span::Span;
+use crate::span::SlotSpan;
 use crate::volumes::stored;
 use crate::writing::{
     columns, end_line, push_left, push_long_right, push_number_right, push_right, push_spaces,
@@ -20,7 +20,7 @@ const INDENT: usize = 12;
 
 /// What is known besides the ring's text.
 #[derive(Drop)]
-pub struct Facts {
+pub struct RingFacts {
     pub racks: Option<Labels>,
     pub aliases: Option<Labels>,
     /// By partition.
@@ -28,7 +28,7 @@ pub struct Facts {
     pub dead: Vec<NodeId>,
 }
 
-impl Facts {
+impl RingFacts {
     /// Returns how much each partition stores.
     pub fn sizes(&self) -> Option<&[u64]> {
         match &self.sizes {
@@ -39,16 +39,16 @@ impl Facts {
 }
 
 #[derive(Clone, Copy)]
-struct Rest<'a> {
+struct RingState<'a> {
     alloc: Global,
     ring: &'a Ring,
-    present: &'a Present,
-    facts: &'a Facts,
+    present: &'a PresentRing,
+    facts: &'a RingFacts,
     // by node
     stored: &'a Option<Vec<u64>>,
 }
 
-impl<'a> Rest<'a> {
+impl<'a> RingState<'a> {
     // Aliases have a column of their own.
     fn names(&self) -> NodeNames<'a> {
         NodeNames::new(self.ring, None)
@@ -64,40 +64,40 @@ struct Widths {
     sizes: usize,
 }
 
-fn tell_balance(rest: &Rest, line: &mut Words) {
-    let total = rest.ring.q().saturating_mul(rest.ring.n());
-    let mut span = Span::new();
-    for node in 0..small(rest.ring.nodes().len()) {
-        if rest.present.is_member(node) && !rest.present.is_silent(node) {
-            span.add(at(rest.present.owned.as_slice(), node as usize));
+fn tell_balance(state: &RingState, line: &mut Words) {
+    let total = state.ring.q().saturating_mul(state.ring.n());
+    let mut span = SlotSpan::new();
+    for node in 0..small(state.ring.nodes().len()) {
+        if state.present.is_member(node) && !state.present.is_silent(node) {
+            span.add(at(state.present.owned.as_slice(), node as usize));
         }
     }
-    line.text(if rest.present.silent.is_empty() {
+    line.text(if state.present.silent.is_empty() {
         b"  balance   a member owns ".as_slice()
     } else {
         b"  balance   a member that answers owns ".as_slice()
     });
     span.push(line);
     line.text(b"; even would be ");
-    let members = count_answering(rest.ring, rest.present);
+    let members = count_answering(state.ring, state.present);
     push_tenths(line, parts_of(total, members, 10))
 }
 
-fn tell_racks(rest: &Rest, line: &mut Words, racks: &Labels) {
-    let shared = sharing(rest.present.rows.as_slice(), racks);
+fn tell_racks(state: &RingState, line: &mut Words, racks: &Labels) {
+    let shared = sharing(state.present.rows.as_slice(), racks);
     line.text(b"  racks     ");
     push_many(line, shared, b"partition has", b"partitions have");
     line.text(b" two slots in one rack");
 }
 
-fn tell_one_fails(rest: &Rest, line: &mut Words) -> Result<(), Refusal> {
-    let rows = rest.present.rows.as_slice();
-    push_failing(line, rest.names(), rest.present, b"  if one fails   ");
-    line.number(kept_by_one(rest.alloc, rest.ring, rows, rest.present)?);
+fn tell_one_fails(state: &RingState, line: &mut Words) -> Result<(), Refusal> {
+    let rows = state.present.rows.as_slice();
+    push_failing(line, state.names(), state.present, b"  if one fails   ");
+    line.number(kept_by_one(state.alloc, state.ring, rows, state.present)?);
     line.text(b" of ");
     push_many(
         line,
-        rest.ring.q(),
+        state.ring.q(),
         b"partition still answers",
         b"partitions still answer",
     );
@@ -105,38 +105,38 @@ fn tell_one_fails(rest: &Rest, line: &mut Words) -> Result<(), Refusal> {
     Ok(())
 }
 
-fn tell_two_fail(rest: &Rest, line: &mut Words) -> Result<(), Refusal> {
-    let rows = rest.present.rows.as_slice();
-    let shared = count_shared(rest.alloc, rest.ring, rows, rest.present)?;
-    push_failing(line, rest.names(), rest.present, b"  if two fail    ");
+fn tell_two_fail(state: &RingState, line: &mut Words) -> Result<(), Refusal> {
+    let rows = state.present.rows.as_slice();
+    let shared = count_shared(state.alloc, state.ring, rows, state.present)?;
+    push_failing(line, state.names(), state.present, b"  if two fail    ");
     line.text(b"at most ");
     push_many(line, shared.most, b"partition loses", b"partitions lose");
     line.text(b" two slots, ");
-    let pairs = all_pairs(count_answering(rest.ring, rest.present));
+    let pairs = all_pairs(count_answering(state.ring, state.present));
     push_tenths(line, parts_of(shared.sum, pairs, 10));
     line.text(b" on average");
     Ok(())
 }
 
-fn push_whole(rest: &Rest, out: &mut Words, line: &mut Words) -> Result<(), Refusal> {
+fn push_whole(state: &RingState, out: &mut Words, line: &mut Words) -> Result<(), Refusal> {
     line.text(b"A ring of ");
-    push_quorum(line, rest.ring, b": any ", b", any ");
+    push_quorum(line, state.ring, b": any ", b", any ");
     line.byte(b'.');
     end_line(out, line, 2);
     out.byte(b'\n');
-    if !rest.present.silent.is_empty() {
-        tell_silent(rest.alloc, rest.names(), rest.present, line)?;
+    if !state.present.silent.is_empty() {
+        tell_silent(state.alloc, state.names(), state.present, line)?;
         end_line(out, line, INDENT);
     }
-    tell_balance(rest, line);
+    tell_balance(state, line);
     end_line(out, line, INDENT);
-    if let Some(racks) = &rest.facts.racks {
-        tell_racks(rest, line, racks);
+    if let Some(racks) = &state.facts.racks {
+        tell_racks(state, line, racks);
         end_line(out, line, INDENT);
     }
-    tell_one_fails(rest, line)?;
+    tell_one_fails(state, line)?;
     end_line(out, line, INDENT);
-    tell_two_fail(rest, line)?;
+    tell_two_fail(state, line)?;
     end_line(out, line, INDENT);
     out.byte(b'\n');
     Ok(())
@@ -154,8 +154,8 @@ fn push_bears(out: &mut Words, allowance: Allowance) {
     }
 }
 
-fn state_of(rest: &Rest, node: u32) -> &'static [u8] {
-    match (rest.present.is_member(node), rest.present.is_dead(node)) {
+fn state_of(state: &RingState, node: u32) -> &'static [u8] {
+    match (state.present.is_member(node), state.present.is_dead(node)) {
         (true, false) => b"in",
         (false, false) => b"out",
         (true, true) => b"in, dead",
@@ -164,25 +164,25 @@ fn state_of(rest: &Rest, node: u32) -> &'static [u8] {
 }
 
 impl Widths {
-    fn of(rest: &Rest) -> Widths {
+    fn of(state: &RingState) -> Widths {
         let mut widths = Widths {
             names: 4,
             aliases: 5,
             racks: 4,
             states: 5,
-            sizes: match rest.stored {
+            sizes: match state.stored {
                 Some(stored) => width_of(stored.as_slice(), 4),
                 None => 0,
             },
         };
         let mut number = 0u32;
-        for node in rest.ring.nodes() {
+        for node in state.ring.nodes() {
             widths.names = widths.names.max(node.name.as_slice().len());
-            widths.states = widths.states.max(state_of(rest, number).len());
-            if let Some(aliases) = &rest.facts.aliases {
+            widths.states = widths.states.max(state_of(state, number).len());
+            if let Some(aliases) = &state.facts.aliases {
                 widths.aliases = widths.aliases.max(columns(aliases.name(number)));
             }
-            if let Some(racks) = &rest.facts.racks {
+            if let Some(racks) = &state.facts.racks {
                 widths.racks = widths.racks.max(racks.name(number).len());
             }
             number = number.saturating_add(1);
@@ -190,45 +190,45 @@ impl Widths {
         widths
     }
 
-    fn push_head(&self, rest: &Rest, out: &mut Words) {
+    fn push_head(&self, state: &RingState, out: &mut Words) {
         push_spaces(out, 4);
         push_left(out, b"node", self.names);
-        if rest.facts.aliases.is_some() {
+        if state.facts.aliases.is_some() {
             push_spaces(out, 2);
             push_left(out, b"alias", self.aliases);
         }
-        if rest.facts.racks.is_some() {
+        if state.facts.racks.is_some() {
             push_spaces(out, 2);
             push_left(out, b"rack", self.racks);
         }
         push_spaces(out, 2);
         push_left(out, b"state", self.states);
         out.text(b"  slots");
-        if rest.stored.is_some() {
+        if state.stored.is_some() {
             push_spaces(out, 2);
             push_right(out, b"size", self.sizes);
         }
         out.text(b"  bears\n");
     }
 
-    fn push_row(&self, rest: &Rest, out: &mut Words, row: (&Node, u32)) {
+    fn push_row(&self, state: &RingState, out: &mut Words, row: (&Node, u32)) {
         let (node, number) = row;
         push_spaces(out, 4);
         push_left(out, node.name.as_slice(), self.names);
-        if let Some(aliases) = &rest.facts.aliases {
+        if let Some(aliases) = &state.facts.aliases {
             push_spaces(out, 2);
             push_left(out, aliases.name(number), self.aliases);
         }
-        if let Some(racks) = &rest.facts.racks {
+        if let Some(racks) = &state.facts.racks {
             push_spaces(out, 2);
             push_left(out, racks.name(number), self.racks);
         }
         push_spaces(out, 2);
-        push_left(out, state_of(rest, number), self.states);
+        push_left(out, state_of(state, number), self.states);
         push_spaces(out, 2);
-        let slots = at(rest.present.owned.as_slice(), number as usize);
+        let slots = at(state.present.owned.as_slice(), number as usize);
         push_number_right(out, slots, 5);
-        if let Some(stored) = rest.stored {
+        if let Some(stored) = state.stored {
             push_spaces(out, 2);
             push_long_right(out, word(stored.as_slice(), number as usize), self.sizes);
         }
@@ -241,7 +241,7 @@ impl Widths {
 /// Returns how much each node stores, if partitions have sizes.
 pub fn stored_by(
     alloc: Global,
-    present: &Present,
+    present: &PresentRing,
     sizes: Option<&[u64]>,
 ) -> Result<Option<Vec<u64>>, Refusal> {
     match sizes {
@@ -255,10 +255,10 @@ pub fn stored_by(
 }
 
 /// Writes the summary of a ring, with a table of nodes. Fails only with `OutOfMemory`.
-pub fn ring_summary(alloc: Global, ring: &Ring, facts: &Facts) -> Result<Vec<u8>, Refusal> {
-    let present = Present::at_rest(alloc, ring, facts.dead.as_slice())?;
+pub fn ring_summary(alloc: Global, ring: &Ring, facts: &RingFacts) -> Result<Vec<u8>, Refusal> {
+    let present = PresentRing::at_rest(alloc, ring, facts.dead.as_slice())?;
     let stored = stored_by(alloc, &present, facts.sizes())?;
-    let rest = Rest {
+    let state = RingState {
         alloc,
         ring,
         present: &present,
@@ -267,13 +267,13 @@ pub fn ring_summary(alloc: Global, ring: &Ring, facts: &Facts) -> Result<Vec<u8>
     };
     let mut out = Words::new(alloc);
     let mut line = Words::new(alloc);
-    push_whole(&rest, &mut out, &mut line)?;
+    push_whole(&state, &mut out, &mut line)?;
     line.end()?;
-    let widths = Widths::of(&rest);
-    widths.push_head(&rest, &mut out);
+    let widths = Widths::of(&state);
+    widths.push_head(&state, &mut out);
     let mut number = 0u32;
     for node in ring.nodes() {
-        widths.push_row(&rest, &mut out, (node, number));
+        widths.push_row(&state, &mut out, (node, number));
         number = number.saturating_add(1);
     }
     out.end()

@@ -1,9 +1,9 @@
 //! The rounds of copies.
 
 use crate::names::push_many;
-use crate::overview::{Shape, Sized, View};
+use crate::overview::{Overview, Sized, SummaryShape};
 use crate::pieces::Flow;
-use crate::shown::Shown;
+use crate::shown::ShownMove;
 use crate::writing::{push_long_right, push_number_right, push_right, push_spaces};
 use helpers::{Words, at, small};
 use ring_names::Refusal;
@@ -21,7 +21,7 @@ const ENTRIES: usize = 6;
 const INDENT: usize = 18;
 
 // 0 without sizes.
-fn size_column(view: &View) -> usize {
+fn size_column(view: &Overview) -> usize {
     match view.sized {
         Some(Sized { volumes, .. }) => volumes.rounds_width.saturating_add(2),
         None => 0,
@@ -37,7 +37,7 @@ struct Placed {
     place: u32,
 }
 
-fn in_order(alloc: Global, moves: &[Shown]) -> Result<Vec<Placed>, Refusal> {
+fn in_order(alloc: Global, moves: &[ShownMove]) -> Result<Vec<Placed>, Refusal> {
     let mut order = Vec::new(alloc);
     let mut place = 0u32;
     for shown in moves {
@@ -86,13 +86,13 @@ fn cut(order: &[Placed], count: usize) -> (&[Placed], &[Placed]) {
     (order, &[])
 }
 
-fn push_slot(out: &mut Words, shown: &Shown) {
+fn push_slot(out: &mut Words, shown: &ShownMove) {
     out.number(shown.slot.partition);
     out.byte(b'.');
     out.number(shown.slot.index);
 }
 
-fn push_read(view: &View, out: &mut Words, shown: &Shown) {
+fn push_read(view: &Overview, out: &mut Words, shown: &ShownMove) {
     let nodes = view.scene.shown.read_by(shown);
     if nodes.len() > 2 {
         return push_many(out, small(nodes.len()), b"node", b"nodes");
@@ -108,7 +108,7 @@ fn push_read(view: &View, out: &mut Words, shown: &Shown) {
 }
 
 // An entry's first copy begins with the nodes.
-fn tell_copy(view: &View, word: &mut Words, shown: &Shown, is_first: bool) {
+fn tell_copy(view: &Overview, word: &mut Words, shown: &ShownMove, is_first: bool) {
     word.clear();
     if is_first {
         push_read(view, word, shown);
@@ -128,9 +128,15 @@ fn tell_more(word: &mut Words, count: usize, what: &[u8]) {
 }
 
 // `word` is a buffer.
-fn push_entry(view: &View, out: &mut Words, flow: &mut Flow, entry: &[Placed], word: &mut Words) {
+fn push_entry(
+    view: &Overview,
+    out: &mut Words,
+    flow: &mut Flow,
+    entry: &[Placed],
+    word: &mut Words,
+) {
     let most = match view.shape {
-        Shape::Short if entry.len() > ENTRIES => ENTRIES - 1,
+        SummaryShape::Short if entry.len() > ENTRIES => ENTRIES - 1,
         _ => entry.len(),
     };
     let (these, others) = cut(entry, most);
@@ -163,7 +169,7 @@ fn entries(round: &[Placed]) -> usize {
     count
 }
 
-fn push_round(view: &View, out: &mut Words, round: &[Placed], word: &mut Words) {
+fn push_round(view: &Overview, out: &mut Words, round: &[Placed], word: &mut Words) {
     let Some(first) = round.first() else {
         return;
     };
@@ -181,14 +187,14 @@ fn push_round(view: &View, out: &mut Words, round: &[Placed], word: &mut Words) 
     }
     push_spaces(out, 3);
     let most = match view.shape {
-        Shape::Short if entries(round) > ENTRIES => ENTRIES - 1,
+        SummaryShape::Short if entries(round) > ENTRIES => ENTRIES - 1,
         _ => round.len(),
     };
     push_entries(view, out, round, most, word);
     out.byte(b'\n');
 }
 
-fn push_entries(view: &View, out: &mut Words, round: &[Placed], most: usize, word: &mut Words) {
+fn push_entries(view: &Overview, out: &mut Words, round: &[Placed], most: usize, word: &mut Words) {
     let mut flow = Flow::new(INDENT.saturating_add(size_column(view)));
     let mut rest = round;
     for turn in 0..most {
@@ -206,10 +212,10 @@ fn push_entries(view: &View, out: &mut Words, round: &[Placed], most: usize, wor
     flow.push(out, word.as_slice(), 3)
 }
 
-fn push_in_order(view: &View, out: &mut Words, word: &mut Words, order: &[Placed]) {
+fn push_in_order(view: &Overview, out: &mut Words, word: &mut Words, order: &[Placed]) {
     let count = view.scene.round_count();
     let most = match view.shape {
-        Shape::Short if count > SHORT => SHOWN,
+        SummaryShape::Short if count > SHORT => SHOWN,
         _ => count,
     };
     let mut rest = order;
@@ -235,7 +241,7 @@ fn push_in_order(view: &View, out: &mut Words, word: &mut Words, order: &[Placed
 }
 
 /// Writes the rounds and their copies. `word` is an empty buffer.
-pub fn push_rounds(view: &View, out: &mut Words, word: &mut Words) -> Result<(), Refusal> {
+pub fn push_rounds(view: &Overview, out: &mut Words, word: &mut Words) -> Result<(), Refusal> {
     out.text(b"  round  copies");
     if view.sized.is_some() {
         push_right(out, b"size", size_column(view));

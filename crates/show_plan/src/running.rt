@@ -1,7 +1,7 @@
 //! How far a run has come, in words.
 
 use crate::names::push_many;
-use crate::overview::View;
+use crate::overview::Overview;
 use crate::writing::{end_line, push_times};
 use helpers::Words;
 use plan_moves::Progress;
@@ -10,7 +10,7 @@ use ring_names::Slot;
 
 const INDENT: usize = 12;
 
-fn push_step(view: &View, out: &mut Words, number: u32) {
+fn push_step(view: &Overview, out: &mut Words, number: u32) {
     if number >= view.plan.len() {
         return;
     }
@@ -24,7 +24,13 @@ fn push_step(view: &View, out: &mut Words, number: u32) {
     }
 }
 
-fn push_words(view: &View, out: &mut Words, word: &[u8], slot: Option<Slot>, node: Option<u32>) {
+fn push_words(
+    view: &Overview,
+    out: &mut Words,
+    word: &[u8],
+    slot: Option<Slot>,
+    node: Option<u32>,
+) {
     out.text(word);
     if let Some(slot) = slot {
         out.byte(b' ');
@@ -39,7 +45,7 @@ fn push_words(view: &View, out: &mut Words, word: &[u8], slot: Option<Slot>, nod
 }
 
 /// Writes what a history has done.
-pub fn push_progress(view: &View, out: &mut Words, line: &mut Words, progress: &Progress) {
+pub fn push_progress(view: &Overview, out: &mut Words, line: &mut Words, progress: &Progress) {
     push_done(view, out, progress);
     push_open(view, out, progress);
     tell_next(view, line, progress);
@@ -47,7 +53,7 @@ pub fn push_progress(view: &View, out: &mut Words, line: &mut Words, progress: &
     out.byte(b'\n');
 }
 
-fn push_done(view: &View, out: &mut Words, progress: &Progress) {
+fn push_done(view: &Overview, out: &mut Words, progress: &Progress) {
     let steps = view.plan.len();
     let done = progress.count();
     let full = match done.saturating_mul(40).checked_div(steps) {
@@ -75,7 +81,7 @@ fn push_done(view: &View, out: &mut Words, progress: &Progress) {
     push_many(out, copies, b"copy\n", b"copies\n")
 }
 
-fn push_open(view: &View, out: &mut Words, progress: &Progress) {
+fn push_open(view: &Overview, out: &mut Words, progress: &Progress) {
     for number in 0..view.plan.len() {
         if progress.is_open(number) {
             out.text(b"  open      step ");
@@ -90,7 +96,7 @@ fn push_open(view: &View, out: &mut Words, progress: &Progress) {
 }
 
 // Writes the first four ready steps, and how many more there are.
-fn tell_next(view: &View, line: &mut Words, progress: &Progress) {
+fn tell_next(view: &Overview, line: &mut Words, progress: &Progress) {
     line.text(b"  next      ");
     let mut count = 0u32;
     for number in 0..view.plan.len() {

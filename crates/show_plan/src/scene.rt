@@ -1,7 +1,7 @@
 //! What is shown of a plan.
 
 use crate::loads::Loads;
-use crate::shown::{AllShown, Shown};
+use crate::shown::{AllShown, ShownMove};
 use helpers::{at, place_of, raise};
 use plan_cert::Cert;
 use plan_check::Approved;
@@ -88,7 +88,7 @@ impl Scene {
     }
 }
 
-fn widths(alloc: Global, moves: &[Shown]) -> Result<Vec<u32>, Refusal> {
+fn widths(alloc: Global, moves: &[ShownMove]) -> Result<Vec<u32>, Refusal> {
     let mut most = 0u32;
     for shown in moves {
         most = most.max(shown.round);
@@ -102,7 +102,7 @@ fn widths(alloc: Global, moves: &[Shown]) -> Result<Vec<u32>, Refusal> {
     Ok(widths)
 }
 
-fn moved_slots(alloc: Global, ring: &Ring, moves: &[Shown]) -> Result<u32, Refusal> {
+fn moved_slots(alloc: Global, ring: &Ring, moves: &[ShownMove]) -> Result<u32, Refusal> {
     let mut marks = vec![in alloc; 0u32; (ring.q() as usize).saturating_mul(7)]?;
     let mut count = 0u32;
     for shown in moves {

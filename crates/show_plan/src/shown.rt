@@ -10,7 +10,7 @@ use std::alloc::Global;
 
 /// A move with its steps.
 #[derive(Clone, Copy, Debug)]
-pub struct Shown {
+pub struct ShownMove {
     pub slot: Slot,
     pub from: u32,
     pub to: u32,
@@ -30,7 +30,7 @@ pub struct Shown {
 /// The moves in the order of mirrors, and the nodes that copies read.
 #[derive(Drop)]
 pub struct AllShown {
-    pub moves: Vec<Shown>,
+    pub moves: Vec<ShownMove>,
     pub reads: Rows,
 }
 
@@ -82,7 +82,7 @@ impl AllShown {
     fn begin(&mut self, moves: &[Move], rounds: &[u32]) -> Result<(), Refusal> {
         if let Some(found) = moves.get(self.moves.len()) {
             let opens = at(rounds, found.mirror as usize);
-            self.moves.push(Shown {
+            self.moves.push(ShownMove {
                 slot: found.slot,
                 from: found.from.0,
                 to: found.to.0,
@@ -123,7 +123,7 @@ impl AllShown {
     }
 
     /// Returns the nodes that the copy reads, in the order of listed slots.
-    pub fn read_by(&self, shown: &Shown) -> &[u32] {
+    pub fn read_by(&self, shown: &ShownMove) -> &[u32] {
         match shown.reads {
             Some(place) => row(&self.reads, place),
             None => &[],

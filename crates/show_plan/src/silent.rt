@@ -2,14 +2,14 @@
 
 use crate::failing::kept;
 use crate::names::{NodeNames, push_many, push_names};
-use crate::present::Present;
+use crate::present::PresentRing;
 use crate::writing::columns;
 use helpers::{Words, small};
 use ring_names::Refusal;
 use ring_table::Ring;
 use std::alloc::Global;
 
-fn silent_by(alloc: Global, present: &Present, is_dead: bool) -> Result<Vec<u32>, Refusal> {
+fn silent_by(alloc: Global, present: &PresentRing, is_dead: bool) -> Result<Vec<u32>, Refusal> {
     let mut nodes = Vec::new(alloc);
     for node in present.silent.as_slice() {
         if present.is_dead(*node) == is_dead {
@@ -23,7 +23,7 @@ fn silent_by(alloc: Global, present: &Present, is_dead: bool) -> Result<Vec<u32>
 pub fn tell_silent(
     alloc: Global,
     names: NodeNames,
-    present: &Present,
+    present: &PresentRing,
     line: &mut Words,
 ) -> Result<(), Refusal> {
     let dead = silent_by(alloc, present, true)?;
@@ -58,7 +58,7 @@ pub fn tell_silent(
 }
 
 /// Writes the words, then the silent nodes.
-pub fn push_failing(line: &mut Words, names: NodeNames, present: &Present, words: &[u8]) {
+pub fn push_failing(line: &mut Words, names: NodeNames, present: &PresentRing, words: &[u8]) {
     line.text(words);
     if !present.silent.is_empty() {
         line.text(b"beside ");
@@ -68,7 +68,7 @@ pub fn push_failing(line: &mut Words, names: NodeNames, present: &Present, words
 }
 
 /// Writes `n07`, or `n07 dead`. Returns the columns used.
-pub fn push_node(out: &mut Words, names: NodeNames, present: &Present, node: u32) -> usize {
+pub fn push_node(out: &mut Words, names: NodeNames, present: &PresentRing, node: u32) -> usize {
     let name = names.name(node);
     out.text(name);
     if !present.is_silent(node) {
@@ -81,7 +81,7 @@ pub fn push_node(out: &mut Words, names: NodeNames, present: &Present, node: u32
 }
 
 /// Counts the ring's members that answer.
-pub fn count_answering(ring: &Ring, present: &Present) -> u32 {
+pub fn count_answering(ring: &Ring, present: &PresentRing) -> u32 {
     let mut count = 0u32;
     for node in 0..small(ring.nodes().len()) {
         if present.is_member(node) && !present.is_silent(node) {

@@ -4,15 +4,15 @@ use helpers::Words;
 
 /// The fewest and the most slots of nodes.
 #[derive(Clone, Copy)]
-pub struct Span {
+pub struct SlotSpan {
     least: u32,
     most: u32,
 }
 
-impl Span {
+impl SlotSpan {
     /// Returns the span of no nodes.
-    pub fn new() -> Span {
-        Span {
+    pub fn new() -> SlotSpan {
+        SlotSpan {
             least: u32::MAX,
             most: 0,
         }

@@ -1,7 +1,7 @@
 //! The table of nodes that take part or do not answer.
 
 use crate::names::{push_many, push_names};
-use crate::overview::{Shape, Sized, View};
+use crate::overview::{Overview, Sized, SummaryShape};
 use crate::scene::Scene;
 use crate::silent::push_node;
 use crate::volumes::Volumes;
@@ -33,7 +33,7 @@ struct Table {
     top: u32,
 }
 
-fn taking_part(view: &View) -> Result<Vec<u32>, Refusal> {
+fn taking_part(view: &Overview) -> Result<Vec<u32>, Refusal> {
     let mut nodes = Vec::new(view.alloc);
     for node in 0..small(view.ring.nodes().len()) {
         if view.scene.takes_part(node) || view.present.is_silent(node) {
@@ -44,7 +44,7 @@ fn taking_part(view: &View) -> Result<Vec<u32>, Refusal> {
 }
 
 // Ranks a role. Silent nodes come first.
-fn kind(view: &View, node: u32) -> usize {
+fn kind(view: &Overview, node: u32) -> usize {
     if view.present.is_silent(node) {
         0
     } else if view.scene.leaves.as_slice().contains(&node) {
@@ -62,7 +62,7 @@ fn work(scene: &Scene, node: u32) -> u32 {
 }
 
 // By kind, then the busiest first.
-fn ranked(view: &View, nodes: &[u32]) -> Result<Vec<(usize, u32, u32)>, Refusal> {
+fn ranked(view: &Overview, nodes: &[u32]) -> Result<Vec<(usize, u32, u32)>, Refusal> {
     let mut order = Vec::new(view.alloc);
     for node in nodes {
         let rank = u32::MAX - work(view.scene, *node);
@@ -103,7 +103,7 @@ fn first_of(
 }
 
 // The busiest of each kind.
-fn chosen(view: &View, nodes: &[u32], most: usize) -> Result<Vec<u32>, Refusal> {
+fn chosen(view: &Overview, nodes: &[u32], most: usize) -> Result<Vec<u32>, Refusal> {
     let order = ranked(view, nodes)?;
     let turns = in_turns(view.alloc, order.as_slice())?;
     first_of(view.alloc, turns.as_slice(), most)
@@ -120,11 +120,11 @@ fn without(alloc: Global, nodes: &[u32], others: &[u32]) -> Result<Vec<u32>, Ref
 }
 
 impl Table {
-    fn of(view: &View) -> Result<Table, Refusal> {
+    fn of(view: &Overview) -> Result<Table, Refusal> {
         let nodes = taking_part(view)?;
         let most = match view.shape {
-            Shape::Short => SHORT,
-            Shape::Whole => nodes.len(),
+            SummaryShape::Short => SHORT,
+            SummaryShape::Whole => nodes.len(),
         };
         let rows = chosen(view, nodes.as_slice(), most)?;
         let hidden = without(view.alloc, nodes.as_slice(), rows.as_slice())?;
@@ -144,7 +144,7 @@ impl Table {
         })
     }
 
-    fn measure(&mut self, view: &View, line: &mut Words) {
+    fn measure(&mut self, view: &Overview, line: &mut Words) {
         let loads = &view.scene.loads;
         for node in self.rows.as_slice() {
             let place = *node as usize;
@@ -158,7 +158,7 @@ impl Table {
         }
     }
 
-    fn tell_row(&self, view: &View, line: &mut Words, node: u32) {
+    fn tell_row(&self, view: &Overview, line: &mut Words, node: u32) {
         let (scene, place) = (view.scene, node as usize);
         line.text(b"  ");
         line.byte(sign(view, node));
@@ -182,7 +182,7 @@ impl Table {
         push_two(view, line, node)
     }
 
-    fn push_row(&self, view: &View, out: &mut Words, line: &mut Words, node: u32) {
+    fn push_row(&self, view: &Overview, out: &mut Words, line: &mut Words, node: u32) {
         let loads = &view.scene.loads;
         self.tell_row(view, line, node);
         let before = at(loads.before.as_slice(), node as usize);
@@ -202,7 +202,7 @@ impl Table {
         push_times(line, b'-', start.saturating_sub(end))
     }
 
-    fn push_all(&self, view: &View, out: &mut Words, line: &mut Words) {
+    fn push_all(&self, view: &Overview, out: &mut Words, line: &mut Words) {
         push_spaces(out, 4);
         push_left(out, b"node", self.names);
         push_spaces(out, 2);
@@ -225,7 +225,7 @@ impl Table {
         self.push_hidden(view, out)
     }
 
-    fn push_hidden(&self, view: &View, out: &mut Words) {
+    fn push_hidden(&self, view: &Overview, out: &mut Words) {
         if self.hidden.is_empty() {
             return;
         }
@@ -266,7 +266,7 @@ impl Table {
 }
 
 // Writes the slots before and after the plan.
-fn push_two(view: &View, line: &mut Words, node: u32) {
+fn push_two(view: &Overview, line: &mut Words, node: u32) {
     let (loads, place) = (&view.scene.loads, node as usize);
     push_spaces(line, 3);
     push_number_right(line, at(loads.before.as_slice(), place), 4);
@@ -279,7 +279,7 @@ fn push_two(view: &View, line: &mut Words, node: u32) {
 }
 
 // Writes the slots before, now and after.
-fn push_three(view: &View, line: &mut Words, node: u32) {
+fn push_three(view: &Overview, line: &mut Words, node: u32) {
     let (loads, place) = (&view.scene.loads, node as usize);
     push_spaces(line, 2);
     push_number_right(line, at(loads.before.as_slice(), place), 5);
@@ -295,7 +295,7 @@ fn push_three(view: &View, line: &mut Words, node: u32) {
 }
 
 // Writes a point for none. Returns the bytes used.
-fn push_at_once(view: &View, line: &mut Words, node: u32) -> usize {
+fn push_at_once(view: &Overview, line: &mut Words, node: u32) -> usize {
     let begin = line.len();
     if let Some(Node { allowance, .. }) = view.ring.nodes().get(node as usize) {
         view.scene.loads.push_at_once(line, *allowance, node);
@@ -306,7 +306,7 @@ fn push_at_once(view: &View, line: &mut Words, node: u32) -> usize {
     line.len().saturating_sub(begin)
 }
 
-fn sign(view: &View, node: u32) -> u8 {
+fn sign(view: &Overview, node: u32) -> u8 {
     match kind(view, node) {
         0 => b'x',
         1 => b'-',
@@ -323,7 +323,7 @@ fn push_count(line: &mut Words, count: u32) {
     push_number_right(line, count, 5)
 }
 
-fn push_idle(view: &View, out: &mut Words) -> Result<(), Refusal> {
+fn push_idle(view: &Overview, out: &mut Words) -> Result<(), Refusal> {
     let mut idle = Vec::new(view.alloc);
     for node in 0..small(view.ring.nodes().len()) {
         let has_row = view.scene.takes_part(node) || view.present.is_silent(node);
@@ -347,7 +347,7 @@ fn push_idle(view: &View, out: &mut Words) -> Result<(), Refusal> {
 /// Writes the table. `line` is a buffer.
 ///
 /// Columns are transfers at once, moves, and slots before, now and in the end.
-pub fn push_table(view: &View, out: &mut Words, line: &mut Words) -> Result<(), Refusal> {
+pub fn push_table(view: &Overview, out: &mut Words, line: &mut Words) -> Result<(), Refusal> {
     let mut table = Table::of(view)?;
     table.measure(view, line);
     table.push_all(view, out, line);

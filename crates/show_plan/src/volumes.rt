@@ -1,7 +1,7 @@
 //! How much a plan moves, if partitions have sizes.
 
 use crate::scene::Scene;
-use crate::shown::Shown;
+use crate::shown::ShownMove;
 use crate::writing::width_of;
 use helpers::{set_word, word};
 use plan_moves::Progress;
@@ -71,7 +71,7 @@ impl Volumes {
         Ok(volumes)
     }
 
-    fn count(&mut self, scene: &Scene, shown: &Shown, size: u64) {
+    fn count(&mut self, scene: &Scene, shown: &ShownMove, size: u64) {
         self.moved = self.moved.saturating_add(size);
         add(self.takes.as_mut_slice(), shown.to as usize, size);
         for node in scene.shown.read_by(shown) {
