@@ -13,7 +13,7 @@ use crate::racks::{is_of_options, push_misfits, racking_of};
 use crate::reporting::goal_status;
 use crate::show::{Shown, facts_of, racks_at_rest, shown_by, volumes_of};
 use crate::study::{Study, studied};
-use crate::why::{Outcome, push_accepted, push_why};
+use crate::why::{MendOutcome, push_accepted, push_why};
 use change_text::Options;
 use helpers::{Labels, Words, at, small, word};
 use plan_bundles::{Racking, ask_layout, front, led_bundle};
@@ -28,13 +28,13 @@ use show_why::Said;
 use std::alloc::Global;
 
 // `accepted`, `planned`, `replayed`, or the next refusal's line.
-fn outcome_value(alloc: Global, outcome: Outcome) -> Result<Value, Refusal> {
+fn outcome_value(alloc: Global, outcome: MendOutcome) -> Result<Value, Refusal> {
     let word: &[u8] = match outcome {
-        Outcome::Accepted => b"accepted",
-        Outcome::Planned => b"planned",
-        Outcome::Replayed => b"replayed",
-        Outcome::Same => b"",
-        Outcome::Next(refusal) => {
+        MendOutcome::Accepted => b"accepted",
+        MendOutcome::Planned => b"planned",
+        MendOutcome::Replayed => b"replayed",
+        MendOutcome::Same => b"",
+        MendOutcome::Next(refusal) => {
             let mut line = Vec::new(alloc);
             refusal.write_line(&mut line)?;
             line.pop();
@@ -45,7 +45,7 @@ fn outcome_value(alloc: Global, outcome: Outcome) -> Result<Value, Refusal> {
 }
 
 // The new lines, and what they lead to.
-fn mend_value(alloc: Global, said: &Said, outcome: Outcome) -> Result<Value, Refusal> {
+fn mend_value(alloc: Global, said: &Said, outcome: MendOutcome) -> Result<Value, Refusal> {
     let mut lines = Vec::new(alloc);
     for place in 0..said.changes() {
         if let Some((line, new)) = said.change(place) {
@@ -103,7 +103,7 @@ fn state_refusal(alloc: Global, bytes: &[u8], refusal: &Refusal) -> Result<Answe
     if let Some(kept) = kept_value(alloc, bytes)? {
         object.put("kept", kept)?;
     }
-    if outcome != Outcome::Same {
+    if outcome != MendOutcome::Same {
         object.put("mend", mend_value(alloc, &said, outcome)?)?;
     }
     refused_answer(object, refusal)
@@ -137,7 +137,7 @@ fn state_why(alloc: Global, bytes: &[u8]) -> Result<Answer, Refusal>
 }
 
 #[derive(Clone, Copy)]
-struct Nodes<'a> {
+struct StatedNodes<'a> {
     alloc: Global,
     ring: &'a Ring,
     present: &'a PresentRing,
@@ -146,7 +146,7 @@ struct Nodes<'a> {
     stored: &'a Option<Vec<u64>>,
 }
 
-impl<'a> Nodes<'a> {
+impl<'a> StatedNodes<'a> {
     fn object(&self, node: u32) -> Result<Object, Refusal> {
         let present = self.present;
         let mut object = Object::new(self.alloc);
@@ -192,7 +192,7 @@ fn put_allowance(object: &mut Object, ring: &Ring, node: u32) -> Result<(), Refu
 fn ring_object(alloc: Global, ring: &Ring, facts: &RingFacts) -> Result<Object, Refusal> {
     let present = PresentRing::at_rest(alloc, ring, facts.dead.as_slice())?;
     let stored = stored_by(alloc, &present, facts.sizes())?;
-    let stated = Nodes {
+    let stated = StatedNodes {
         alloc,
         ring,
         present: &present,
@@ -209,7 +209,11 @@ fn ring_object(alloc: Global, ring: &Ring, facts: &RingFacts) -> Result<Object, 
     Ok(object)
 }
 
-fn nodes_value(stated: &Nodes, shown: &Shown, volumes: Option<&Volumes>) -> Result<Value, Refusal> {
+fn nodes_value(
+    stated: &StatedNodes,
+    shown: &Shown,
+    volumes: Option<&Volumes>,
+) -> Result<Value, Refusal> {
     let loads = &shown.scene.loads;
     let mut nodes = Vec::new(stated.alloc);
     for node in 0..small(stated.ring.nodes().len()) {
@@ -277,7 +281,7 @@ fn put_nodes<'a>(
     let Racking { racks, .. } = racking_of(alloc, &found.approved, options)?;
     let facts = facts_of(alloc, ring, racks, options)?;
     let stored = stored_by(alloc, &shown.present, facts.sizes())?;
-    let stated = Nodes {
+    let stated = StatedNodes {
         alloc,
         ring,
         present: &shown.present,

@@ -32,7 +32,7 @@ use std::alloc::Global;
 
 /// What the checker says of a mended bundle.
 #[derive(Clone, Copy, PartialEq, Eq)]
-pub(crate) enum Outcome {
+pub(crate) enum MendOutcome {
     /// The checker says yes.
     Accepted,
     /// There is a plan for its change.
@@ -45,35 +45,35 @@ pub(crate) enum Outcome {
     Same,
 }
 
-fn asked(alloc: Global, mended: &[u8], was: &Refusal) -> Result<Outcome, Refusal>
-    ensures yes { IfOk result (λ o. o ≡ Outcome.Accepted → TextsKeepPromises mended.now) }
+fn asked(alloc: Global, mended: &[u8], was: &Refusal) -> Result<MendOutcome, Refusal>
+    ensures yes { IfOk result (λ o. o ≡ MendOutcome.Accepted → TextsKeepPromises mended.now) }
 {
     match kind_of(mended) {
         Kind::Plan => match check_bundle(alloc, mended) {
-            Ok(()) => Ok(Outcome::Accepted),
+            Ok(()) => Ok(MendOutcome::Accepted),
             Err(refusal) => next(refusal, was),
         },
         Kind::Change => match study_change(alloc, mended, &Options::new(alloc)) {
-            Ok(_) => Ok(Outcome::Planned),
+            Ok(_) => Ok(MendOutcome::Planned),
             Err(refusal) => next(refusal, was),
         },
         Kind::History => match studied(alloc, mended, &Options::new(alloc)) {
-            Ok(_) => Ok(Outcome::Replayed),
+            Ok(_) => Ok(MendOutcome::Replayed),
             Err(refusal) => next(refusal, was),
         },
     }
 }
 
-fn next(refusal: Refusal, was: &Refusal) -> Result<Outcome, Refusal>
-    ensures { IfOk result (λ o. o ≢ Outcome.Accepted) }
+fn next(refusal: Refusal, was: &Refusal) -> Result<MendOutcome, Refusal>
+    ensures { IfOk result (λ o. o ≢ MendOutcome.Accepted) }
 {
     if refusal == Refusal::OutOfMemory {
         return Err(refusal);
     }
     Ok(if refusal == *was {
-        Outcome::Same
+        MendOutcome::Same
     } else {
-        Outcome::Next(refusal)
+        MendOutcome::Next(refusal)
     })
 }
 
@@ -84,24 +84,24 @@ fn push_mend(
     bytes: &[u8],
     said: &Said,
     was: &Refusal,
-) -> Result<Outcome, Refusal> {
+) -> Result<MendOutcome, Refusal> {
     let mut mended = Words::new(alloc);
     said.mended(&mut mended, Page { bytes });
     let outcome = asked(alloc, mended.end()?.as_slice(), was)?;
-    if outcome != Outcome::Same {
+    if outcome != MendOutcome::Same {
         said.push_mend(out);
         push_outcome(alloc, out, outcome)?;
     }
     Ok(outcome)
 }
 
-fn push_outcome(alloc: Global, out: &mut Words, outcome: Outcome) -> Result<(), Refusal> {
+fn push_outcome(alloc: Global, out: &mut Words, outcome: MendOutcome) -> Result<(), Refusal> {
     let words: &[u8] = match outcome {
-        Outcome::Accepted => b"  then the checker says yes.\n",
-        Outcome::Planned => b"  then there is a plan.\n",
-        Outcome::Replayed => b"  then the checker says yes, and the history is a run of it.\n",
-        Outcome::Next(refusal) => return push_next(alloc, out, refusal),
-        Outcome::Same => b"",
+        MendOutcome::Accepted => b"  then the checker says yes.\n",
+        MendOutcome::Planned => b"  then there is a plan.\n",
+        MendOutcome::Replayed => b"  then the checker says yes, and the history is a run of it.\n",
+        MendOutcome::Next(refusal) => return push_next(alloc, out, refusal),
+        MendOutcome::Same => b"",
     };
     out.text(words);
     Ok(())
@@ -244,7 +244,7 @@ pub(crate) fn push_why(
     said: &mut Said,
     bytes: &[u8],
     refusal: &Refusal,
-) -> Result<Outcome, Refusal> {
+) -> Result<MendOutcome, Refusal> {
     if !tell_text(alloc, said, bytes, refusal)? {
         tell_read(alloc, said, bytes, refusal)?;
     }
@@ -258,12 +258,12 @@ fn push_said(
     said: &Said,
     bytes: &[u8],
     refusal: &Refusal,
-) -> Result<Outcome, Refusal> {
+) -> Result<MendOutcome, Refusal> {
     said.push(out, Page { bytes });
     if said.has_mend() {
         return push_mend(alloc, out, bytes, said, refusal);
     }
-    Ok(Outcome::Same)
+    Ok(MendOutcome::Same)
 }
 
 /// Adds why a bundle is refused. Nothing if the refusal's line says all.
