@@ -54,11 +54,11 @@ pub(crate) fn volumes_of(
     progress: Option<&Progress>,
     options: &Options,
 ) -> Result<Option<Volumes>, Refusal> {
-    let (ring, plan) = (found.approved.ring(), found.approved.plan());
-    let Some(sizes) = sizes_by(alloc, ring, options)? else {
+    let approved = &found.approved;
+    let Some(sizes) = sizes_by(alloc, approved.ring(), options)? else {
         return Ok(None);
     };
-    let volumes = Volumes::of(alloc, ring, plan, scene, sizes.as_slice(), progress)?;
+    let volumes = Volumes::of(alloc, approved, scene, sizes.as_slice(), progress)?;
     Ok(Some(volumes))
 }
 
@@ -82,7 +82,7 @@ pub(crate) fn shown_by(alloc: Global, found: &Study, options: &Options) -> Resul
     let scene = Scene::of(alloc, &found.approved, &found.cert)?;
     let dead = dead_of(alloc, ring, options)?;
     let run = progress.as_ref();
-    let present = PresentRing::of(alloc, ring, plan, &scene, run, dead.as_slice())?;
+    let present = PresentRing::of(alloc, &found.approved, &scene, run, dead.as_slice())?;
     Ok(Shown {
         scene,
         progress,

@@ -3,6 +3,7 @@
 use crate::scene::Scene;
 use crate::shown::ShownMove;
 use helpers::{is_set, put};
+use plan_check::Approved;
 use plan_moves::{Progress, owned};
 use plan_text::{Plan, Step};
 use ring_names::{Listed, NodeId, Refusal};
@@ -29,18 +30,18 @@ impl PresentRing {
     /// Returns the ring after the history. Fails only with `OutOfMemory`.
     pub fn of(
         alloc: Global,
-        ring: &Ring,
-        plan: &Plan,
+        approved: &Approved,
         scene: &Scene,
         progress: Option<&Progress>,
         dead: &[NodeId],
     ) -> Result<PresentRing, Refusal> {
+        let ring = approved.ring();
         let rows = rows_now(alloc, ring, scene.shown.moves.as_slice(), progress)?;
         let mut present = PresentRing::with_rows(alloc, ring, rows)?;
         present.note_dead(dead);
         present.note_nodes(ring, progress)?;
         if let Some(progress) = progress {
-            present.note_steps(plan, progress);
+            present.note_steps(approved.plan(), progress);
         }
         Ok(present)
     }

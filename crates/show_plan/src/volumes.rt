@@ -4,10 +4,10 @@ use crate::scene::Scene;
 use crate::shown::ShownMove;
 use crate::writing::width_of;
 use helpers::{set_word, word};
+use plan_check::Approved;
 use plan_moves::Progress;
 use plan_text::{Plan, Step};
 use ring_names::{Listed, NodeId, Refusal, Slot};
-use ring_table::Ring;
 use std::alloc::Global;
 
 /// How much a history leaves to move.
@@ -44,13 +44,12 @@ impl Volumes {
     /// Measures the plan, and what remains. Fails only with `OutOfMemory`.
     pub fn of(
         alloc: Global,
-        ring: &Ring,
-        plan: &Plan,
+        approved: &Approved,
         scene: &Scene,
         sizes: &[u64],
         progress: Option<&Progress>,
     ) -> Result<Volumes, Refusal> {
-        let nodes = ring.nodes().len();
+        let (nodes, plan) = (approved.ring().nodes().len(), approved.plan());
         let mut volumes = Volumes {
             moved: 0,
             gives: vec![in alloc; 0u64; nodes]?,
