@@ -32,6 +32,13 @@ pub struct Report {
     pub status: u8,
 }
 
+/// A bundle, and the options given with it.
+#[derive(Clone, Copy)]
+pub(crate) struct GivenBundle<'a> {
+    pub bytes: &'a [u8],
+    pub options: &'a Options,
+}
+
 // What standard error says, and whether a goal's plan has steps.
 #[derive(Drop)]
 struct Notes {
@@ -139,10 +146,10 @@ pub(crate) fn push_said(
     alloc: Global,
     out: &mut Words,
     making: Making,
-    options: &Options,
-    bytes: &[u8],
+    given: GivenBundle,
     refusal: &Refusal,
 ) -> Result<(), Refusal> {
+    let GivenBundle { bytes, options } = given;
     if is_of_options(refusal) && push_misfits(alloc, out, bytes, options)? {
         return Ok(());
     }
@@ -152,7 +159,7 @@ pub(crate) fn push_said(
     match making {
         Making::Cert => push_why_none(alloc, out, bytes, refusal),
         Making::After => push_unmade(alloc, out, bytes, refusal),
-        Making::Windows(cut) => push_windows_words(alloc, out, bytes, cut, options, refusal),
+        Making::Windows(cut) => push_windows_words(alloc, out, given, cut, refusal),
         Making::Goal(_) => push_goal_words(alloc, out, bytes, options, refusal),
         Making::Around(_) => push_unturned(alloc, out, bytes, refusal),
         _ => push_words_of(alloc, out, bytes, refusal),
@@ -233,8 +240,9 @@ fn report_made(
     match make_of(alloc, making, options, bytes, &mut notes) {
         Ok(output) => made(making, output, notes),
         Err(refusal) => {
+            let given = GivenBundle { bytes, options };
             let mut words = said_before(alloc, making, &refusal, notes);
-            push_said(alloc, &mut words, making, options, bytes, &refusal)?;
+            push_said(alloc, &mut words, making, given, &refusal)?;
             refused_with(alloc, refusal, words)
         }
     }

@@ -269,14 +269,13 @@ fn put_volumes(
     Ok(())
 }
 
-fn put_nodes<'a>(
-    object: &mut Object,
+fn nodes_of_plan(
     alloc: Global,
-    found: &'a Study,
-    shown: &'a Shown,
+    found: &Study,
+    shown: &Shown,
     volumes: Option<&Volumes>,
     options: &Options,
-) -> Result<(), Refusal> {
+) -> Result<Value, Refusal> {
     let ring = found.approved.ring();
     let Racking { racks, .. } = racking_of(alloc, &found.approved, options)?;
     let facts = facts_of(alloc, ring, racks, options)?;
@@ -288,7 +287,7 @@ fn put_nodes<'a>(
         facts: &facts,
         stored: &stored,
     };
-    object.put("nodes", nodes_value(&stated, shown, volumes)?)
+    nodes_value(&stated, shown, volumes)
 }
 
 fn plan_object(
@@ -306,7 +305,8 @@ fn plan_object(
     object.text("answer", b"yes")?;
     object.number("steps", plan.len())?;
     put_change(&mut object, alloc, ring, &shown.scene)?;
-    put_nodes(&mut object, alloc, found, &shown, volumes.as_ref(), options)?;
+    let nodes = nodes_of_plan(alloc, found, &shown, volumes.as_ref(), options)?;
+    object.put("nodes", nodes)?;
     if let Some(volumes) = &volumes {
         put_volumes(&mut object, alloc, volumes, wish.rate)?;
     }

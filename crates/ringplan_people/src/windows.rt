@@ -8,6 +8,7 @@ ghost use Rattle.plan_bundles.specs.Windows.{AreAskedOf};
 ghost use Rattle.ringplan_people.specs.Studies.{IsStudyOf};
 
 use crate::racks::push_racks;
+use crate::reporting::GivenBundle;
 use crate::study::{Study, studied};
 use crate::why::push_words_of;
 use change_text::Options;
@@ -39,14 +40,14 @@ pub fn windows_bundle(
 }
 
 /// Adds why `windows_bundle` refuses a bundle.
-pub fn push_windows_words(
+pub(crate) fn push_windows_words(
     alloc: Global,
     out: &mut Words,
-    bytes: &[u8],
+    given: GivenBundle,
     cut: Cut,
-    options: &Options,
     refusal: &Refusal,
 ) -> Result<(), Refusal> {
+    let GivenBundle { bytes, options } = given;
     match refusal {
         Refusal::TooLarge(0) => {
             out.text(TOO_MANY);
