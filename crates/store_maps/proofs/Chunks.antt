@@ -1,5 +1,5 @@
 -- The maps of a slot's chunks, one of which changed or was made.
-use Rattle.std.proofs.Common.{◌≡◌, ◌≢◌, ◌∙◌, ◌≤◌, ◌<◌, ℕ, Bool, true, false, List, [], refl, sym, ap, subst, Option, Some, None, arith}
+use Rattle.std.proofs.Common.{◌≡◌, ◌≢◌, ◌∙◌, ◌≤◌, ◌<◌, ℕ, Bool, true, false, List, [], refl, sym, ap, subst, Option, Some, None, arith, slice_set, get_or}
 use Rattle.std.specs.Ordering.{nat_cmp}
 use Rattle.std.specs.Prelude.{◌==◌, ◌&&◌, if◌then◌else◌, unwrap_or}
 use Rattle.std.proofs.lemmas.Bool.{eq-eqb, ne_eqb}
@@ -13,11 +13,11 @@ use Rattle.store_maps.specs.Held.{map_entry, held, has_place}
 use Rattle.store_maps.specs.Merges.{MergesAll, at_number, at_key}
 use Rattle.store_maps.specs.Places.{value_in}
 use Rattle.store_maps.specs.Slots.{held_for, has_place_for, held_by}
-use Rattle.store_maps.specs.Sorted.{PutsAt}
+use Rattle.store_maps.specs.Sorted.{IsThere, PutsAt}
 use Rattle.store_maps.proofs.MergesInTurn.{merge_none}
 use Rattle.store_maps.proofs.OneAnswer.{none_from_empty}
 use Rattle.store_maps.proofs.Over.{map_apart}
-use Rattle.store_maps.proofs.Sorted.{number_order, by_key}
+use Rattle.store_maps.proofs.Sorted.{number_order, by_key, read_there, written}
 
 -- ---- what is held
 
@@ -73,6 +73,19 @@ module _ (es fs : List (ℕ × KeyMap)) (c : ℕ) (m : Option KeyMap) (n : KeyMa
 
   pub narrow_put : c < 16 → AreNarrow es → AreNarrow fs
   narrow_put l narrow d high = put.others d (λ e. omega arith) ∙ narrow d high
+
+-- ---- the map of chunk c stands at place i, and becomes n
+
+module _ (c : ℕ) (es : List (ℕ × KeyMap)) (i : ℕ) (e : ℕ × KeyMap) (n : KeyMap) (at : IsThere nat_cmp c es i) (value : e ≡ get_or es i e) where
+  pub was_there : value_in es c ≡ Some e.1
+  was_there = read_there number_order c es i e at (sym value)
+
+  pub put_there : PutsAt nat_cmp es (slice_set es i (e.0, n)) c n
+  put_there = written number_order c es i e n at value
+
+  pub each_there : (P : ℕ → Option KeyMap → Option KeyMap → Type 0) → P c (Some e.1) (Some n) → ((d : ℕ) → d ≢ c → (o : Option KeyMap) → P d o o) → (d : ℕ)
+      → P d (value_in es d) (value_in (slice_set es i (e.0, n)) d)
+  each_there = each es (slice_set es i (e.0, n)) c (Some e.1) n was_there put_there
 
 -- what came to a key of the map came to the slot
 pub merged_key : (es fs : List (ℕ × KeyMap)) (key : KeyId) (m n : KeyMap) (more : List Version) → value_in es key.chunk ≡ Some m → PutsAt nat_cmp es fs key.chunk n → MergesAll (held m) (at_number key.number more) (held n)
