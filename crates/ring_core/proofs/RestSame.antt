@@ -35,17 +35,13 @@ sound_again ring plan p rest of_ring of_plan kept ready =
     let by_ring = subst (λ (r : RingValue). IsReady r plan rest) (sym of_ring) ready in
     let by_plan = subst (λ (q : List Planned). IsReady (parts.ring_of p) q rest) (sym of_plan) by_ring in
     let here = subst (λ (k : Rest). IsReady (parts.ring_of p) (parts.plan_of p) k) (sym kept) by_plan in
-    (record { met = here.met; sized = record { space = here.space; keys = here.keys; numbered = here.numbered; stored = here.stored; hinted = here.hinted } }, here.puts, here.gets)
+    (record { met = here.met; sized = here.sized }, here.puts, here.gets)
 
 -- what a store keeps that is sound
 pub ready_at : (a : World) (rest : Rest) → rest ≡ rest_of a → IsReady (ring_of a) (plan_of a) rest
 ready_at a rest is = subst (λ (k : Rest). IsReady (ring_of a) (plan_of a) k) (sym is) (record {
   met = a.sound.met;
-  space = a.sound.sized.space;
-  keys = a.sound.sized.keys;
-  numbered = a.sound.sized.numbered;
-  stored = a.sound.sized.stored;
-  hinted = a.sound.sized.hinted;
+  sized = a.sound.sized;
   puts = a.puts;
   gets = a.gets;
 })

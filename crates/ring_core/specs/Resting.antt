@@ -3,13 +3,12 @@ use Rattle.std.specs.Prelude.{◌≡◌, ◌≤◌, ℕ, List, length}
 use Rattle.ring_table.specs.Value.{RingValue}
 use Rattle.plan_text.specs.declared.step.Planned.{Planned}
 use Rattle.plan_runs.specs.World.{World as TheWorld}
-use Rattle.ring_names.specs.declared.ids.Slot.{Slot}
-use Rattle.ring_store.specs.Stores.{held_at, shared_space}
+use Rattle.ring_store.specs.Stores.{held_at}
 use Rattle.ring_hints.specs.Hints.{hinted_at}
 use Rattle.store_tables.specs.Lasts.{last_of}
 use Rattle.store_tells.specs.Kept.{Kept, Tells}
-use Rattle.store_tells.specs.Numbers.{by_keys, ArePlaced}
-use Rattle.store_tells.specs.Puts.{AreNumbered}
+use Rattle.store_tells.specs.Numbers.{by_keys}
+use Rattle.store_tells.specs.Parts.{AreSized}
 use Rattle.store_tells.specs.declared.parts.Parts.{Parts}
 use Rattle.ring_core.specs.declared.resting.Rest.{Rest}
 use Rattle.ring_core.specs.declared.world.World.{World}
@@ -59,11 +58,7 @@ gets_in rest = length rest.gets
 -- what is kept is that of a store of this ring and this plan, which is in some world
 pub record IsReady (ring : RingValue) (plan : List Planned) (rest : Rest) : Type 0 where
   pub met : ∥ ((w : TheWorld) × Tells ring plan (kept_in rest) w) ∥₁
-  pub space : shared_space rest.stores ≡ ring.q
-  pub keys : rest.keys.q ≡ ring.q
-  pub numbered : AreNumbered rest.keys.keys
-  pub stored : (x : ℕ) (s : Slot) → ArePlaced rest.keys (held_at rest.stores x s)
-  pub hinted : (x : ℕ) (s : Slot) → ArePlaced rest.keys (hinted_at rest.hints x s)
+  pub sized : AreSized ring rest.keys rest.stores rest.hints
   pub puts : puts_in rest ≤ 4294967295
   pub gets : gets_in rest ≤ 4294967295
 

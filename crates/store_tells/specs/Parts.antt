@@ -13,6 +13,9 @@ use Rattle.store_tables.specs.Lasts.{last_of}
 use Rattle.ring_names.specs.declared.ids.Slot.{Slot}
 use Rattle.ring_store.specs.Stores.{held_at, shared_space}
 use Rattle.ring_hints.specs.Hints.{hinted_at}
+use Rattle.ring_store.specs.declared.stores.Stores.{Stores}
+use Rattle.ring_hints.specs.declared.hints.Hints.{Hints}
+use Rattle.store_tables.specs.KeyTable.{KeyTable}
 use Rattle.store_tells.specs.Kept.{Kept, Tells}
 use Rattle.store_tells.specs.Numbers.{by_keys, ArePlaced}
 use Rattle.store_tells.specs.Puts.{AreNumbered}
@@ -44,13 +47,16 @@ kept_of a = record {
 abbrev pub Meets : Parts → World → Type 0
 Meets a w = Tells (ring_of a) (plan_of a) (kept_of a) w
 
--- the parts are of the ring's size, and only keys that have numbers are stored or kept
-pub record IsSized (a : Parts) : Type 0 where
-  pub space : shared_space a.stores ≡ (ring_of a).q
-  pub keys : a.keys.q ≡ (ring_of a).q
-  pub numbered : AreNumbered a.keys.keys
-  pub stored : (x : ℕ) (s : Slot) → ArePlaced a.keys (held_at a.stores x s)
-  pub hinted : (x : ℕ) (s : Slot) → ArePlaced a.keys (hinted_at a.hints x s)
+-- what is kept is of the ring's size, and only keys that have numbers are stored or kept
+pub record AreSized (ring : RingValue) (keys : KeyTable) (stores : Stores) (hints : Hints) : Type 0 where
+  pub space : shared_space stores ≡ ring.q
+  pub keys : keys.q ≡ ring.q
+  pub numbered : AreNumbered keys.keys
+  pub stored : (x : ℕ) (s : Slot) → ArePlaced keys (held_at stores x s)
+  pub hinted : (x : ℕ) (s : Slot) → ArePlaced keys (hinted_at hints x s)
+
+abbrev pub IsSized : Parts → Type 0
+IsSized a = AreSized (ring_of a) a.keys a.stores a.hints
 
 -- and the store is in some world
 pub record IsSound (a : Parts) : Type 0 where
