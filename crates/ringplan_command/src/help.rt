@@ -9,16 +9,16 @@ pub(crate) const ABOUT: &str =
 pub(crate) const MORE: &str = "With --help: the formats, an example and the exit statuses.";
 
 pub(crate) const FILE: &str =
-    "The bundle; several files are read one after the other, as one text; with `-` or without it standard input is read";
+    "The bundle. Several files are read one after the other, as one text. With `-` or without a file standard input is read";
 
 pub(crate) const OUTPUT: &str =
-    "Writes to FILE in place of standard output: all of the text, or with another exit status than 0 and 4 nothing; links and permissions stay";
+    "Writes to FILE in place of standard output: all of the text, or nothing if the exit status is not 0 or 4. Links and permissions stay";
 
 pub(crate) const GOAL: &str =
     "Prints a plan that leads to a goal ring, by racks, weights and dead nodes, with its certificate";
 
 pub(crate) const AROUND: &str =
-    "Prints another plan for a change that has begun, around dead nodes, at rest, or with slots left out, with the history that goes on by it";
+    "Prints another plan and its history for a change that has begun: around dead nodes, at rest, or with slots left out";
 
 pub(crate) const SHOW: &str =
     "Prints a summary of the plan, and with a history how far it has come";
@@ -100,7 +100,7 @@ pub(crate) const WORKERS: &str =
 pub(crate) const DRIVERS: &str = "Does the steps by K threads, 1 to 64; without it by one";
 
 pub(crate) const REPORT: &str =
-    "Prints the history as text, or as json a report in one line: the events, who finished each step, and how many workers there were; without it as text";
+    "Prints the history as text, or as json a report in one line: the events, who finished each step, and the workers' number. Without it as text";
 
 pub(crate) const MOVES: &str =
     "Prints a line for each slot that moves, in place of one for each step";
@@ -112,24 +112,24 @@ pub(crate) const LAYOUT: &str =
     "What is known of nodes and partitions, as a text: racks, weights, sizes, aliases and dead nodes; docs/FORMATS.md has its lines";
 
 pub(crate) const RACKS: &str =
-    "The racks of nodes: what follows the last C of a node's name, or none, or auto; without it auto: as the layout or the names show them";
+    "The racks of nodes: what follows the last C of a node's name, or none, or auto. Without it auto: as the layout or the names show them";
 
 pub(crate) const RATE: &str =
     "Says when the plan can end at the earliest, if one transfer copies N of a size in a second, 1 to 4294967295; wants --layout";
 
 pub(crate) const DEAD: &str =
-    "A node that is dead for good: no step of the plan needs it, and it leaves; what is shown counts it as dead; write a name that begins with - as --dead=-NAME";
+    "A node that is dead for good: no step of the plan needs it, and it leaves. What is shown counts it as dead. Write a name that begins with - as --dead=-NAME";
 
 pub(crate) const GONE: &str =
-    "A node that is dead from here on: no later step needs it; write a name that begins with - as --dead=-NAME";
+    "A node that is dead from here on: no later step needs it. Write a name that begins with - as --dead=-NAME";
 
 pub(crate) const BACK: &str =
-    "Undoes mirrors that no copy can fill any more: the store must let go of them, as docs/STORES.md says; with --rest also those whose copies have no chunk";
+    "Undoes mirrors that no copy can fill any more. The store must let go of them, as docs/STORES.md says. With --rest also those whose copies have no chunk";
 
 pub(crate) const REST: &str = "Ends the moves that have begun, and begins no others";
 
 pub(crate) const LEAVE: &str =
-    "A slot that stays with its owner, by its partition and its index; its mirror is undone; may stand several times";
+    "A slot that stays with its owner, by its partition and index. A mirror of the slot is undone. May stand several times";
 
 pub(crate) const ALL_SLOTS: &str =
     "Says in a line for each slot what becomes of it; without it only how many slots there are at each node";
