@@ -8,11 +8,6 @@ use Rattle.plan_runs.specs.Words.{is_seen}
 use Rattle.history_parts.proofs.Numbers.{numbers_ascend, of_all}
 use Rattle.history_parts.specs.Parts.{is_of_part, part_size, number_in, renumbered, all_renumbered, numbered}
 
-pub numbered_map : (n : ℕ) (bs : List Bool) → map is_some (numbered n bs) ≡ bs
-numbered_map n [] = refl
-numbered_map n (true ∷ bs) = ap (λ z. true ∷ z) (numbered_map (suc n) bs)
-numbered_map n (false ∷ bs) = ap (λ z. false ∷ z) (numbered_map n bs)
-
 pub size_most : (bs : List Bool) → part_size bs ≤ length bs
 size_most [] = omega arith
 size_most (true ∷ bs) = (let l = size_most bs in omega arith)

@@ -130,12 +130,6 @@ module _ (ring : RingValue) (marks : List Bool) (front : Begun) (es : List Entry
 
 -- ---- after entries
 
-pub many_none : (k : Kept) (ring : RingValue) (writers : List (List ℕ)) → CutsMany k k ring writers []
-many_none k ring writers = record {
-  counts = omega arith;
-  cuts = λ marks front before known so. subst (λ (es : List Entry). IsKept ring marks front es writers k) (sym (append-nil before)) so;
-}
-
 -- what entries do to the counts of puts and gets
 one_counts : (old new : Kept) (ring : RingValue) (writers : List (List ℕ)) (x : Entry) → CutsOne old new ring writers x
     → length new.cut.puts + length new.cut.gets ≡ length old.cut.puts + length old.cut.gets + cond {A = ℕ} (is_start x.event) 1 0

@@ -1,15 +1,9 @@
 -- What reads in turn do to the bytes that are told.
-use Rattle.std.proofs.Common.{◌≡◌, ℕ, zero, suc, ◌+◌, ◌≤◌, true, false, List, [], ◌∷◌, ◌++◌, length, take, Option, refl, sym, ap, ◌∙◌, subst, arith, append-nil, length-append}
+use Rattle.std.proofs.Common.{◌≡◌, ℕ, ◌+◌, ◌≤◌, true, false, List, [], ◌∷◌, ◌++◌, length, Option, refl, sym, ap, ◌∙◌, subst, arith, append-nil, length-append}
 use Rattle.std.specs.Io.KnownBytes.{Consumes}
 use Rattle.std.proofs.KnownBytes.{Consumes-trans}
 use Rattle.history_stream.specs.declared.input.Head.{Head}
 use Rattle.history_stream.specs.Input.{IsNext, IsHead}
-
-take_length : (n : ℕ) (xs : List ℕ) → n ≤ length xs → length (take n xs) ≡ n
-take_length zero [] le = refl
-take_length zero (x ∷ xs) le = refl
-take_length (suc n) [] le = absurd (omega arith)
-take_length (suc n) (x ∷ xs) le = ap suc (take_length n xs (omega arith))
 
 nothing_is : (xs : List ℕ) → length xs ≡ 0 → xs ≡ []
 nothing_is [] e = refl

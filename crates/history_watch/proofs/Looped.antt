@@ -30,23 +30,9 @@ pub on_inside : (r : Result (Unit {0}) Refusal) (P : Refusal → Type 0) → IfE
 on_inside (Ok u) P h = tt
 on_inside (Err e) P h = λ inside. h (λ o. inside (inl o))
 
--- one line more, or none
-pub shows_more : (every before count after : ℕ) (a b c : Option (List ℕ)) → after ≡ count + 1 → Shows every before count a b → Appends b c (shown_at every after) → Shows every before after a c
-shows_more every before count after a b c is shows one = λ start h. (
-    let all = Appends-trans start b c (so_far every count) (shown_at every after) (shows start h) one in
-    let next : after ≡ suc count = omega arith in
-    let text : so_far every count ++ shown_at every after ≡ so_far every after = ap (λ (n : ℕ). so_far every count ++ shown_at every n) next ∙ sym (ap (so_far every) next) in
-    subst (Appends start c) text all)
-
-pub shows_none : (every before : ℕ) (a : Option (List ℕ)) → Shows every before before a a
-shows_none every before a = λ start h. h
-
 -- what was appended is a first part of it
 whole_part : (a b : Option (List ℕ)) (bs : List ℕ) → Appends a b bs → AppendsPart a b bs
 whole_part a b bs h = (bs, [], sym (append-nil bs), h)
-
-pub shows_whole : (every before after : ℕ) (a b : Option (List ℕ)) → Shows every before after a b → ShowsPart every before after a b
-shows_whole every before after a b shows = λ start h. whole_part start b (so_far every after) (shows start h)
 
 -- what a first part is of is a first part of more
 part_more : (a b : Option (List ℕ)) (bs cs : List ℕ) → AppendsPart a b bs → AppendsPart a b (bs ++ cs)

@@ -1,6 +1,5 @@
 -- What is proved of plans around the dead.
 pub mod Comparing
-pub mod Marks
 pub mod Refusing
 pub mod Again
 pub mod Asking

@@ -1,6 +1,5 @@
 -- Keepers whose versions do not cover a clock, one after the other.
-use Rattle.std.proofs.Common.{◌≡◌, ℕ, true, false, List, ◌∷◌}
-use Rattle.std.specs.Prelude.{◌==◌}
+use Rattle.std.proofs.Common.{◌≡◌, ℕ, true, false, List}
 use Rattle.ring_names.specs.declared.ids.NodeId.{NodeId}
 use Rattle.ring_names.specs.declared.ids.Slot.{Slot}
 use Rattle.ring_clock.specs.declared.entry.Entry.{Entry}

@@ -1,6 +1,6 @@
 -- Whether a node stores a put for a slot, by the versions that are kept.
 use Rattle.std.proofs.Common.{◌≡◌, inl, inr, ◌∙◌, ℕ, ◌<◌, Bool, true, false, List, [], ◌∷◌, length, refl, sym, ap, subst}
-use Rattle.std.specs.Prelude.{◌↔◌, ◌&&◌, ◌||◌, IsTrue, Option, Some, None, option_map, slice_get}
+use Rattle.std.specs.Prelude.{◌↔◌, ◌&&◌, IsTrue, Option, Some, None, option_map, slice_get}
 use Rattle.std.proofs.lemmas.Bool.{and_parts, and_from, or_cases, or_left, or_right}
 use Rattle.std.proofs.lemmas.Option.{slice_get_within}
 use Rattle.std.proofs.lemmas.Slice.Eq.{bytes_eq-Decides}
@@ -49,7 +49,7 @@ is_stored_from w x slot v u s h = elim (same_or_put w u v s) [
 ]
 
 module _ (ring : RingValue) (plan : List Planned) (k : Kept) (w : World) (m : Tells ring plan k w) where
-  -- versions that show the puts of a key that a node stores cover the clock of one exactly if the node stores it, or one that succeeds it
+  -- if versions show a node's puts of a key, they cover a put's clock exactly if the node stores the put or a successor
   covers_told : (x v : ℕ) (slot : Slot) → v < length w.puts → (is_stored w x slot v ≡ true) ↔ Covers (k.stored x slot (key_of_put w v)) (clock_at k.puts v)
   covers_told x v slot exists = (
     λ h. (
@@ -93,7 +93,7 @@ module _ (ring : RingValue) (plan : List Planned) (k : Kept) (w : World) (m : Te
   slot_told v i put key place at keyed lies =
       ap (λ (p : ℕ). slot_at p i) (ap (λ (z : Place). z.partition) lies ∙ ap (λ (bs : List ℕ). (place_of ring.q bs).partition) (key_told v put key at keyed))
 
-  -- the same by the number of the key alone
+  -- the same by only the key's number
   pub place_told : (v i : ℕ) (put : PutNow) (place : Place) → slice_get k.puts v ≡ Some put → option_map (place_of ring.q) (slice_get k.keys put.key) ≡ Some place
       → record { partition = place.partition; index = i } ≡ put_slot ring w v i
   place_told v i put place at lies =

@@ -1,5 +1,5 @@
 -- One map changed: that of a seat in a row.
-use Rattle.std.proofs.Common.{◌≡◌, ◌≢◌, ◌∙◌, ◌<◌, ℕ, zero, suc, List, [], ◌∷◌, ◌++◌, length, get_or, set, refl, sym, ap, subst, Option, Some, None, inl, inr, arith}
+use Rattle.std.proofs.Common.{◌≡◌, ◌≢◌, ◌∙◌, ◌<◌, ℕ, zero, suc, List, [], ◌∷◌, length, get_or, set, refl, sym, ap, subst, Option, Some, None, inl, inr, arith}
 use Rattle.std.specs.Prelude.{slice_get}
 use Rattle.std.proofs.Math.Path.{fun_ext}
 use Rattle.std.proofs.lemmas.Bool.{cases_eq}
@@ -32,15 +32,6 @@ get_other (y ∷ ys) (suc i) (suc j) x ne = get_other ys i j x (λ e. ne (ap suc
 -- no row has a map
 abbrev pub AreEmpty : List Row → Type 0
 AreEmpty rows = (i : ℕ) (t : Seat) → map_of (slice_get rows i) t ≡ None
-
-pub empty_none : (rows : List Row) → rows ≡ [] → AreEmpty rows
-empty_none rows e i t = rw e refl
-
-pub empty_more : (rows : List Row) (w : Row) → w.maps.items ≡ [] → AreEmpty rows → AreEmpty (rows ++ w ∷ [])
-empty_more [] w e are zero t = ap (λ maps. map_at maps t) e
-empty_more [] w e are (suc i) t = refl
-empty_more (row ∷ rows) w e are zero t = are 0 t
-empty_more (row ∷ rows) w e are (suc i) t = empty_more rows w e (λ j. are (suc j)) i t
 
 -- ---- row i of the stores a becomes w
 

@@ -29,9 +29,7 @@ use Rattle.ringplan_job.specs.declared.job.Job.{Job}
 use Rattle.ringplan_job.specs.declared.job.Job.TheVariants.{Check, Migrate, Plan, Play, Replay}
 use Rattle.ringplan_command.specs.Command.{Answers, Asked, IsMistaken, IsRefused, AsksGuide, AsksWord, IsInFormat, IsOfGuide, IsOfWord, IsTurnedAway, MeansFormat, TakesValues, WantsHelp}
 use Rattle.ringplan_command.specs.Command.{Task, asked, asked_by, by_drive, by_workers, format_named, in_json, only, option_named, part_texts, rows_named, json_named, task_named, to_describe, to_do, to_drive, to_make, to_part, to_watch, word_of_making, asks_just}
-use Rattle.ringplan_job.specs.declared.making.Color.{Color}
-use Rattle.ringplan_job.specs.declared.making.Color.TheVariants.{Auto, Always, Never}
-use Rattle.ringplan_command.specs.Makings.{MeansColor, but_text}
+use Rattle.ringplan_command.specs.Makings.{but_text}
 use Rattle.ringplan_command.specs.Parts.{IsShare, MeansChoice, PartTexts, texts_in}
 use Rattle.ring_names.specs.declared.choice.Choice.{Choice}
 use Rattle.ring_names.specs.declared.choice.Choice.TheVariants.{Range, Share}
@@ -242,13 +240,6 @@ word_asked sub w rows is = rw is refl
 pub rows_there : (sub : Option (List ℕ × List Row)) (rows : List Row) → Some rows ≡ option_map (λ p. p.1) sub → rows_named sub ≡ rows
 rows_there None rows e = absurd cc
 rows_there (Some x) rows e = let same : rows ≡ x.1 = cc in sym same
-
--- a colour that the screen decides on is as its text means
-pub color_stays : (o : Option (List ℕ)) (c d : Color) → (c ≢ Auto → d ≡ c) → MeansColor o c → MeansColor o d
-color_stays None c d same means = tt
-color_stays (Some text) c d same (inl auto) = inl auto
-color_stays (Some text) c d same (inr (inl (e, is))) = inr (inl (e, same (λ bad. let worse : Always ≡ Auto = sym is ∙ bad in cc) ∙ is))
-color_stays (Some text) c d same (inr (inr (e, is))) = inr (inr (e, same (λ bad. let worse : Never ≡ Auto = sym is ∙ bad in cc) ∙ is))
 
 -- a text about the program answers a line that asks for it, and so does its refusal
 pub of_guide : {E : Type 0} (asked : Asked) (guide : Guide) (r : Result Request E) → AsksGuide asked guide → IfOk r (IsOfGuide guide) → IfOk r (Answers asked)

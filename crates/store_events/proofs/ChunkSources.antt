@@ -64,10 +64,6 @@ module _ (q : ℕ) (w : World) (clock : ℕ → List Entry) (c : ℕ) where
       other_test clock (value_of w) (held k) (λ v. (f v && is_of_key w k v) || (g v && is_of_key w k v)) (λ v. (f v || g v) && is_of_key w k v) (λ v. either_of (f v) (g v) (is_of_key w k v))
       (merge clock (value_of w) (held k) [] (held k) (λ v. f v && is_of_key w k v) (λ v. g v && is_of_key w k v) (shows k e) (brings k e) (with_none (held k) (shows k e).apart))
 
-  -- what reads the same for the chunk's keys shows the same
-  pub read_as : (read versions : List ℕ → List Version) (f : ℕ → Bool) → ((k : List ℕ) → chunk_of q k ≡ c → versions k ≡ read k) → ShowsChunk q w clock c read f → ShowsChunk q w clock c versions f
-  read_as read versions f same shows k e = subst (λ (vs : List Version). Shows clock (value_of w) vs (λ v. f v && is_of_key w k v)) (sym (same k e)) (shows k e)
-
   -- no versions show no puts
   pub none_shown : (held : List ℕ → List Version) → ((k : List ℕ) → held k ≡ []) → ShowsChunk q w clock c held (λ v. false)
   none_shown held empty k e = subst (λ (vs : List Version). Shows clock (value_of w) vs (λ v. false)) (sym (empty k)) (none clock (value_of w))

@@ -9,11 +9,9 @@ use Rattle.ring_names.specs.declared.ids.Slot.{Slot}
 use Rattle.ring_names.proofs.Logic.{or_false, bool_same}
 use Rattle.ring_table.specs.Value.{RingValue}
 use Rattle.ring_hints.specs.Views.{in_keepers}
-use Rattle.ring_versions.specs.declared.version.Version.{Version}
 use Rattle.store_maps.specs.declared.key_id.KeyId.{KeyId}
 use Rattle.store_maps.specs.Ids.{id}
 use Rattle.store_tables.specs.KeyTable.{chunk_of}
-use Rattle.store_tells.specs.Numbers.{ArePlaced}
 use Rattle.store_tells.proofs.Numbers.{none, none_in_chunk}
 use Rattle.ring_hints.specs.Hints.{hinted_at}
 use Rattle.plan_text.specs.declared.step.Planned.{Planned}

@@ -1,5 +1,5 @@
 -- What is known of a store that is in some world.
-use Rattle.std.proofs.Common.{◌≡◌, ◌∙◌, ℕ, ◌<◌, true, false, List, [], ◌∷◌, ◌++◌, length, refl, sym, ap, subst}
+use Rattle.std.proofs.Common.{◌≡◌, ◌∙◌, ℕ, true, false, List, [], ◌∷◌, ◌++◌, refl, sym, ap, subst}
 use Rattle.std.specs.Prelude.{◌≢◌, ◌==◌, Option, Some, Ok}
 use Rattle.std.proofs.Math.Logic.{∥∥₁_elim}
 use Rattle.ring_names.specs.declared.ids.NodeId.{NodeId}
@@ -24,7 +24,7 @@ use Rattle.store_tables.specs.declared.slots.SlotNow.{SlotNow}
 use Rattle.store_tables.specs.Slots.{slot_now}
 use Rattle.store_tells.specs.Slots.{IsNow}
 use Rattle.store_tells.proofs.StageCounts.{count_within}
-use Rattle.store_tells.proofs.SlotsFit.{kept_within, kept_is, owner_kept, mirror_kept}
+use Rattle.store_tells.proofs.SlotsFit.{kept_within, kept_is}
 use Rattle.store_tells.specs.declared.parts.Parts.{Parts}
 use Rattle.store_tells.specs.Kept.{Kept, Tells}
 use Rattle.store_tells.specs.Parts.{Meets, IsSound}
@@ -54,14 +54,6 @@ module _ (ring : RingValue) (plan : List Planned) (k : Kept) (w : World) (m : Te
   -- each slot of the ring is kept
   pub slot_there : (s : Slot) → is_ring_slot ring s ≡ true → (x : SlotNow) × (slot_now k.rows s ≡ Some x) × IsNow ring plan w s x
   slot_there = m.slots.each
-
-  -- its owner is declared
-  pub owner_within : (s : Slot) (x : SlotNow) → slot_now k.rows s ≡ Some x → x.owner.0 < length ring.nodes
-  owner_within s x e = owner_kept ring plan k.rows w s x m.is_ring suits_of m.slots e
-
-  -- its mirror is
-  pub mirror_within : (s : Slot) (x : SlotNow) (y : NodeId) → slot_now k.rows s ≡ Some x → x.mirror ≡ Some y → y.0 < length ring.nodes
-  mirror_within s x y e = mirror_kept ring plan k.rows w s x y m.is_ring suits_of m.slots e
 
   -- and is another node than the owner
   pub mirror_apart : (s : Slot) (x : SlotNow) (y : NodeId) → slot_now k.rows s ≡ Some x → x.mirror ≡ Some y → y.0 ≢ x.owner.0
