@@ -37,7 +37,7 @@ runs_on xs ys a b = appended (λ b. eqb b 10 ≡ false) xs ys a b
 run_line : (xs : List ℕ) → IsRun xs → lines_of xs ≡ fields_of xs ∷ []
 run_line xs r = ap (map fields_of) (slice_split_none (λ b. eqb b 10) xs (All-from_recursion (λ b. eqb b 10 ≡ false) xs r))
 
--- what is left is no line
+-- what is left is not a line
 module _ (ring : RingValue) (said : List SaidEntry) (k : ℕ) (fields : List (List ℕ)) where
   pub unended_first : resume_at ring First said (at k (fields ∷ [])) ≡ Err (BadLine k)
   unended_first = refl

@@ -106,7 +106,7 @@ abbrev pub begun_text : Choice → Front → List SaidEntry → List ℕ
 begun_text choice front said = front_text front
     ++ (codes "history 1\n" ++ flat_map (entry_line (names_of front.ring) (writers_behind [] said)) (chosen choice front said))
 
--- the bytes are a bundle, and the bundle of its part is returned or is more than a replay takes; or they are none, and this is the first fault
+-- either the bytes are a bundle, and its part is returned or is too large for a replay; or this is their first fault
 abbrev pub IsCutOf : Choice → ℕ → List ℕ → List ℕ → Result Part NoPart → Type 0
 IsCutOf choice wanted head bytes (Ok part) = (front : Front) × (said : List SaidEntry) × (long_reading head bytes ≡ Ok (front, said))
     × IsPartOf (part_text choice front said) (length (chosen choice front said)) (Ok part)

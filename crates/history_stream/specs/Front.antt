@@ -9,7 +9,7 @@ use Rattle.bundle_text.specs.declared.front.Front.{Front}
 use Rattle.bundle_text.specs.Front.{front_at}
 use Rattle.history_stream.specs.declared.front.FrontText.{FrontText}
 
--- the texts of a ring, of a plan of it, and of a certificate
+-- a ring's text, its plan's, and a certificate's
 abbrev pub front_text : Front → List ℕ
 front_text x = ring_text x.ring ++ (plan_text x.ring x.plan ++ cert_text x.ring x.cert)
 

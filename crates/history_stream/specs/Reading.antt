@@ -37,7 +37,7 @@ goes_on field = not (is_word (codes "end") field)
 unfoldable pub rest_at : RingValue → List SaidEntry → Left → Result (List SaidEntry) Refusal
 rest_at ring seen s = many_from goes_on (next_at ring) seen s.line s.lines >>= λ x. one_line end_line_at x.1 >>= λ y. over_at y.1 >>= λ _. Ok x.0
 
--- the same, where a line of that stage comes next
+-- the same, if a line of that stage comes next
 abbrev pub resume_at : RingValue → Stage → List SaidEntry → Left → Result (List SaidEntry) Refusal
 resume_at ring First seen s = one_line (header_at (codes "history") (codes "1")) s >>= λ x. rest_at ring seen x.1
 resume_at ring Entries seen s = rest_at ring seen s

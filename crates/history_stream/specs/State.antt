@@ -136,7 +136,7 @@ RefusesEntry old k fields e = (ring : RingValue) (taken : List Entry) (said : Li
     → (said_at ring [] old.writers k fields ≡ Err e)
     ⊎ ((x : SaidEntry) × (said_at ring [] old.writers k fields ≡ Ok x) × (e ≡ TooLarge k) × IsTooMany said x)
 
--- where a reader is, after lines that say this
+-- the state of a reader after lines that say this
 abbrev pub point_of : Reader → List SaidEntry → Point
 point_of r said = record { stage = r.stage; said = said; line = r.line }
 

@@ -1,4 +1,4 @@
--- An entry's line is read only if it is spelled so, what it says can be the next entry, and its faults are the line's.
+-- An entry's line is read only if it is spelled so. The entry can be the next one, and each fault is the line's.
 use Rattle.std.proofs.Common.{◌≡◌, ℕ, ◌<◌, Bool, true, false, cond, List, [], ◌∷◌, ◌++◌, length, map, codes, Option, Some, None, Result, Ok, refl, sym, ap, ◌∙◌, append_assoc, arith, rules, Err, IfOk, decimal, option_map}
 use Rattle.std.specs.List.{AllByRecursion, join_with_byte}
 use Rattle.std.specs.Str.{bytes_eq, all_ascii_digits}

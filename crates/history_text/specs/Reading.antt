@@ -42,11 +42,11 @@ reply_at k (word ∷ fields) =
     else if bytes_eq word (codes "reply") then map_item Answer (numbers_at k) fields
     else (Err (BadLine k), fields)
 
--- the event that the fields in front say, where there is room for an entry
+-- the event that the first fields say, if there is room for an entry
 abbrev pub event_said : RingValue → List Entry → List (List ℕ) → ℕ → List (List ℕ) → Result SaidEvent Refusal
 event_said ring history names k fields = map_ok (λ x. x.1) (whole k (need_at k (nat_lt (length history) 1000000) ⊗ kind_at ring names k) fields)
 
--- the reply that the fields behind the sign say, where there is one
+-- the reply that the fields after the sign say, if the sign is there
 abbrev pub reply_said : ℕ → Option (List (List ℕ)) → Result Reply Refusal
 reply_said k None = Err (BadLine k)
 reply_said k (Some fields) = whole k (reply_at k) fields

@@ -17,7 +17,7 @@ reply_of (said.Get n) = reply.Get n
 reply_of (said.Found vs) = reply.Found vs
 reply_of (said.Answer vs) = reply.Answer vs
 
--- what a line says: its event, and its reply as it is kept
+-- what a line says: an event, and the reply as it is kept
 abbrev pub SaidEntry : Type 0
 SaidEntry = SaidEvent × Reply
 

@@ -20,7 +20,8 @@ pub record WatchesBy (bytes : List ℕ) (every : ℕ) (input left old new : Opti
   pub accepted : first_refusal bundle.ring bundle.plan bundle.cert ≡ None
   pub watches : Watches bundle.ring bundle.plan every input left old new r
 
--- a watch by the bytes answers so: their bundle is refused as by `check`, or memory ran out, and nothing was read or printed; or a history was watched
+-- a watch answers so: either `check` refuses the bundle, or memory ran out, and nothing was read or printed. Otherwise a
+-- history was watched
 abbrev pub WatchesBundle : List ℕ → ℕ → Option (List ℕ) → Option (List ℕ) → Option (List ℕ) → Option (List ℕ) → Result (Vec ℕ) Refusal → Type 0
 WatchesBundle bytes every input left old new (Ok text) = WatchesBy bytes every input left old new (Ok text)
 WatchesBundle bytes every input left old new (Err e) = (((IsOutside e → ⊥) → verdict bytes ≡ Err e) × (left ≡ input) × (new ≡ old)) ⊎ WatchesBy bytes every input left old new (Err e)

@@ -37,11 +37,11 @@ so_far every (suc count) = so_far every count ++ shown_at every (suc count)
 abbrev pub IsOutside : Refusal → Type 0
 IsOutside e = (e ≡ OutOfMemory) ⊎ ((e ≡ ReadFailed) ⊎ (e ≡ WriteFailed))
 
--- whatever was printed before: if it was the lines after so many entries, it is now those after as many as there are now
+-- if the lines after `before` entries had been printed, the lines after all entries now are
 abbrev pub Shows : ℕ → ℕ → ℕ → Option (List ℕ) → Option (List ℕ) → Type 0
 Shows every before after old new = (start : Option (List ℕ)) → Appends start old (so_far every before) → Appends start new (so_far every after)
 
--- whatever was printed before: if it was the lines after so many entries, it is now a first part of those after as many as there are now
+-- if the lines after `before` entries had been printed, a first part of the lines after all entries now is
 abbrev pub ShowsPart : ℕ → ℕ → ℕ → Option (List ℕ) → Option (List ℕ) → Type 0
 ShowsPart every before after old new = (start : Option (List ℕ)) → Appends start old (so_far every before) → AppendsPart start new (so_far every after)
 
@@ -65,7 +65,7 @@ pub record IsPrompt (ring : RingValue) (plan : List Planned) (bytes : List ℕ) 
 abbrev pub IsWhole : RingValue → List ℕ → List SaidEntry → Option (List ℕ) → Type 0
 IsWhole ring bytes said left = HasEnded ring bytes said ⊎ (IsAtEnd left × (history_at ring (bytes ++ codes "end\n") ≡ Ok said))
 
--- some first bytes of the input were read, and a first part of the lines was printed that these entries have, which are a run
+-- some first bytes of the input were read. Their entries are a run, and a first part of the lines for them was printed
 pub record PrintsPart (ring : RingValue) (plan : List Planned) (every : ℕ) (input old new : Option (List ℕ)) : Type 0 where
   pub bytes : List ℕ
   pub left : Option (List ℕ)

@@ -111,7 +111,7 @@ is_whole First left = false
 is_whole Entries left = length left == 0
 is_whole Over left = true
 
--- the text is what a replay of the entries so far prints, and if the last line has not come, they are a history with it
+-- the text is what a replay of the entries so far prints. If the last line has not come, they are a history with it
 pub record IsAnswer (ring : RingValue) (plan : List Planned) (bytes : List ℕ) (w : Watch) (said : List SaidEntry) (text : List ℕ) : Type 0 where
   pub replayed : IsReplayed ring plan (entries_of said) text
   pub ends : w.reader.stage ≢ Over → history_at ring (bytes ++ codes "end\n") ≡ Ok said

@@ -4,7 +4,7 @@ use Rattle.ring_table.specs.declared.allowance.NodeSide.{NodeSide}
 use Rattle.plan_cert.specs.declared.cert.Chain.{Chain}
 use Rattle.plan_cert.specs.declared.chains.Chains.TheInside.{Inside}
 
--- the chain of a side of a node, of these steps
+-- a node's chain on one side, with these steps
 abbrev pub chain_of : NodeSide → List ℕ → Chain
 chain_of x steps = record { node = x.node; side = x.side; steps = steps }
 

@@ -39,7 +39,7 @@ no_both false y e = refl
 pub neither : (x y : Bool) → x ≡ false → y ≡ false → (not x && not y) ≡ true
 neither x y e f = rw (e, f) refl
 
--- a plan that suits its ring, facts of it, and what is noted of the clauses of all partitions
+-- a plan that suits its ring, the plan's facts, and what is noted about all partitions' clauses
 module _ (ring : RingValue) (plan : List Planned) (facts : List Ends) (a : Missed) (suits : Suits ring plan) (are : AreFactsOf plan facts)
     (h : (p : ℕ) → p < ring.q → HoldsBut a ring plan (is_ordered plan facts) p) where
   abbrev O : Test

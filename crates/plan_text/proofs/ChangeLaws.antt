@@ -7,7 +7,7 @@ use Rattle.plan_text.proofs.Terms.{has, NodeId, Step, Join, Mirror, Copy, Switch
 use Rattle.ring_names.proofs.Logic.{and_true, and_false}
 use Rattle.plan_text.specs.Changes.{numbers, same_nodes, fulfils, step_names}
 
--- a node is one of these where its number is one of theirs
+-- a node is in the list exactly if its number is in the list of numbers
 pub among : (n : ℕ) (nodes : List NodeId) → list_any (λ (x : NodeId). n == x.0) nodes ≡ has n (numbers nodes)
 among n [] = refl
 among n (x ∷ xs) = ap (λ (b : Bool). (n == x.0) || b) (among n xs)
@@ -49,16 +49,16 @@ each_in ys nodes = list_all (λ x. has x.0 ys) nodes
 numbered : (ys : List ℕ) (nodes : List NodeId) → each_in ys nodes ≡ all_in ys (numbers nodes)
 numbered ys nodes = sym (list_all-map (λ (x : ℕ). has x ys) (λ (x : NodeId). x.0) nodes)
 
--- a node that shall join is not named
+-- a node that should join is not named
 pub lacks_a_join : (plan : List Planned) (js ls : List NodeId) → list_all (λ (x : NodeId). has x.0 (joined plan)) js ≡ false → false ≡ fulfils plan js ls
 lacks_a_join plan js ls e = rw (sym (numbered (joined plan) js) ∙ e, and_false (all_in (numbers js) (joined plan))) refl
 
--- a node that shall leave is not named
+-- a node that should leave is not named
 pub lacks_a_leave : (plan : List Planned) (js ls : List NodeId) → list_all (λ (x : NodeId). has x.0 (retired plan)) ls ≡ false → false ≡ fulfils plan js ls
 lacks_a_leave plan js ls e =
     rw (sym (numbered (retired plan) ls) ∙ e, and_false (all_in (numbers ls) (retired plan)), and_false (same_nodes (joined plan) (numbers js))) refl
 
--- all that the change names are named, so that it is fulfilled where no other is
+-- all that the change names are named, so the change is made if no other node is named
 pub lacks_none : (plan : List Planned) (js ls : List NodeId) → list_all (λ (x : NodeId). has x.0 (joined plan)) js ≡ true
     → list_all (λ (x : NodeId). has x.0 (retired plan)) ls ≡ true → list_all (λ (x : Planned). step_names js ls x.step) plan ≡ fulfils plan js ls
 lacks_none plan js ls e f =

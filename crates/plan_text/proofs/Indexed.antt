@@ -95,7 +95,7 @@ HoldsSteps-slot a b plan x slot number n on more h = record {
   retirements = holds-none retires is_retire_of a.retirements plan x on.2 h.retirements;
 }
 
--- a step that is no slot's
+-- a step without a slot
 off_slot : (a : SlotSteps) (plan : List Planned) (x : Planned) (t : Step) → x.step ≡ t → ((s : Slot) → is_on s t ≡ false) → ((s : Slot) → numbers_at a s ≡ steps_of plan s) → (s : Slot) → numbers_at a s ≡ steps_of (plan ++ x ∷ []) s
 off_slot a plan x t e off h s =
     h s ∙ sym (steps_of-push plan x s ∙ ap (λ (b : Bool). cond b (steps_of plan s ++ length plan ∷ []) (steps_of plan s)) (ap (is_on s) e ∙ off s))

@@ -51,7 +51,7 @@ module _ (ring : RingValue) where
   abbrev pub new_form : (NodeId → Bool) → Form (IsRing ring) Always NodeId
   new_form test = judged Always (λ k x. (test x, Repeated k) ∷ []) (λ k m x p. p) (λ x. x) (λ y. y) (λ x. refl) (λ y. refl) (node_form ring) (λ k x. (refl, tt))
 
-  -- ---- where a copy reads
+  -- ---- what a copy reads
 
   -- what listed slots must pass
   abbrev pub index_tests : ℕ → List ℕ → List (Bool × Refusal)
@@ -62,7 +62,7 @@ module _ (ring : RingValue) where
   SourceFits Owner = Unit {0}
   SourceFits (Slots xs) = Passes (index_tests 0 xs)
 
-  -- where a copy reads, after its word
+  -- what a copy reads, after its word
   abbrev SourceCase : Type 1
   SourceCase = Case (IsRing ring) Free Source source_fields SourceFits
 
@@ -89,7 +89,7 @@ module _ (ring : RingValue) where
   source-case Owner = record { case = owner_case; part = tt; is = refl; first = λ k fields. refl }
   source-case (Slots xs) = record { case = slots_case; part = xs; is = refl; first = λ k fields. refl }
 
-  -- where a copy reads
+  -- what a copy reads
   abbrev pub source_form : Form (IsRing ring) Free Source
   source_form = choice source_cases (source_at ring.n) source-same source-case
 

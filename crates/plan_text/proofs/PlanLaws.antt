@@ -1,4 +1,4 @@
--- A plan is read only from its one text, and what is read of it is a plan that suits the ring.
+-- A plan is read only from its one text, and the plan that is read suits the ring.
 use Rattle.std.proofs.Common.{◌≡◌, ℕ, suc, ◌+◌, ◌-◌, ◌<◌, ◌≤◌, true, not, nat_lt, List, [], ◌∷◌, ◌++◌, length, codes, Result, Ok, Err, refl, sym, ap, arith, add-zero, length-append, IfOk, append-nil}
 use Rattle.std.specs.List.{list_all, flat_map}
 use Rattle.std.proofs.lemmas.Bool.{lt-ltb, ltb-true, le-leb, leb-true, ne_eqb, eqb-false, and_parts, or_parts, or_from, not-true, not-false}

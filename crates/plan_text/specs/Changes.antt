@@ -1,4 +1,4 @@
--- Which plans make a change: the nodes that it joins, and those that it lets leave.
+-- Which plans make a change: which nodes join, and which leave.
 use Rattle.std.specs.Prelude.{ℕ, Bool, true, ◌&&◌, List, map}
 use Rattle.std.specs.List.{list_all}
 use Rattle.ring_names.specs.declared.ids.NodeId.{NodeId}
@@ -20,7 +20,7 @@ same_nodes xs ys = list_all (λ x. has x ys) xs && list_all (λ y. has y xs) ys
 abbrev pub fulfils : List Planned → List NodeId → List NodeId → Bool
 fulfils plan joins leaves = same_nodes (joined plan) (numbers joins) && same_nodes (retired plan) (numbers leaves)
 
--- the node that the step joins is one that joins, and the node that it retires one that leaves
+-- a node that the step joins is to join, and one that the step retires is to leave
 abbrev pub step_names : List NodeId → List NodeId → Step → Bool
 step_names joins leaves (Join x) = has x.0 (numbers joins)
 step_names joins leaves (Mirror s x) = true

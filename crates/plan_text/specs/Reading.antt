@@ -33,7 +33,7 @@ slot_at ring k = map_item (λ x. record { partition = x.0; index = x.1 }) (field
 unfoldable pub slot_node_at : RingValue → ℕ → Item (Slot × NodeId)
 slot_node_at ring k = slot_at ring k ⊗ declared_at ring k
 
--- a node that was no member, and is not joined yet
+-- a node that was not a member, and has not joined yet
 unfoldable pub joining_at : RingValue → List Planned → ℕ → Item NodeId
 joining_at ring plan k fields = (
   ((declared_at ring k fields).0 >>= λ x. unless ((is_member ring.nodes x || has x.0 (joined plan), Repeated k) ∷ []) x),

@@ -16,7 +16,7 @@ use Rattle.plan_text.specs.declared.step.Planned.{Planned}
 abbrev pub slot_fields : Slot → List (List ℕ)
 slot_fields s = decimal s.partition ∷ decimal s.index ∷ []
 
--- where a copy reads
+-- what a copy reads
 abbrev pub source_fields : Source → List (List ℕ)
 source_fields Owner = codes "owner" ∷ []
 source_fields (Slots from) = codes "slots" ∷ map decimal from

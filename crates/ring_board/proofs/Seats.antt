@@ -91,7 +91,7 @@ on a s b v k seen seat kept board same below =
     }
 
 module _ (a : Inside) (s : SeatView) (b : board.Inside) (v : BoardView) (k : ℕ) (h : On a s b v k) where
-  -- what a step asks of its caller: both have one table, the word is in it, and the seat's view meets the rule
+  -- what a step asks its caller: board and seat have one table, the word is there, and the seat's view meets the rule
   asked : (f : ℕ → ℕ) (then : Knower → ℕ → Knower → Type 0) → Allows (Kept b.table.shared.key) b.table.shared.table_id.slots a.seat.id (view_of s, []) (k + 1) f (then (view_of s, []))
       → (a.seat.table_id ≡ b.table.shared.table_id) × (k + 1 < b.table.shared.table_id.words) × Allows (Kept b.table.shared.key) b.table.shared.table_id.slots a.seat.id a.seat.me (k + 1) f (then a.seat.me)
   asked f then allows = (h.table, h.place, subst (λ (m : Knower). Allows (Kept b.table.shared.key) b.table.shared.table_id.slots a.seat.id m (k + 1) f (then m)) (sym h.own) allows)

@@ -27,8 +27,8 @@ Matches list says words views = (k w : ℕ) → w < 65 → sum_by (λ v. marked 
 abbrev pub amount : ℕ → List ℕ → ℕ
 amount d es = sum_by (λ e. parts d e) es
 
--- The rule. No slot of the table is used: it has one for each worker, so that which table it is tells how many there are. All views
--- together have the board at most once, and one that has no part of it has no step
+-- The rule. No slot of the table is used: there is one for each worker, so the table's identity fixes their number. All
+-- views together have the board at most once, and one that has no part of it has no step
 pub record Kept (size : Size) (s : State (Option (Unit {0})) View) : Type 0 where
   pub spare : slice_index s.words 0 ≡ 0
   pub count : length s.words ≡ size.steps + 1
@@ -53,8 +53,7 @@ Knower = Me (Option (Unit {0})) View
 abbrev pub Turn : Type 0
 Turn = Step (Option (Unit {0}))
 
--- what a claim of step k by worker w finds: it wins if the step is free, and otherwise it changes nothing but
--- that the word was seen
+-- what a claim of step k by worker w finds: the claim wins if the step is free. Otherwise only the word was seen
 pub record Claims (slots : ℕ) (m : Knower) (k w word : ℕ) (after : Knower) : Type 0 where
   pub proper : IsWord slots word
   pub sees : Sees m.0 k word

@@ -5,15 +5,15 @@ use Rattle.ring_names.specs.Lists.{has}
 use Rattle.ring_board.specs.declared.view.Sight.{Sight}
 use Rattle.ring_board.specs.Words.{free, claimed, finished_word}
 
--- a board: which one it is, how many steps it has, and how many workers
+-- a board: its identity, and how many steps and workers there are
 pub record BoardView : Type 0 where
   pub id : TableId
   pub steps : ℕ
   pub workers : ℕ
 
--- a seat: the board that it belongs to, its worker if it is one's, the steps that it holds, that it finished and that it knows done, and
--- the steps whose claims it lost, each with the word that the claim read, the last one first. Of 2 ^ share equal parts of the board it has one:
--- the first seat has all, and a seat that is made takes half of what its maker has
+-- a seat: a board, perhaps a worker, and the steps held, finished and known to be done. The lost claims, last
+-- first, have the step and the word that was read. A seat has one of 2 ^ share equal parts of the board. The first seat
+-- has all, and a new seat takes half of its maker's part
 pub record SeatView : Type 0 where
   pub board : TableId
   pub worker : Option ℕ
@@ -31,8 +31,8 @@ sight k word = record { step = k; word = word }
 abbrev pub fresh : TableId → Option ℕ → ℕ → SeatView
 fresh id worker share = record { board = id; worker = worker; held = []; finished = []; known = []; seen = []; share = share }
 
--- the word of step k fits what the seat says of it: its worker claimed a step that it holds, and finished one that it finished, and a
--- step that it knows done is finished
+-- the word of step k fits the seat. Steps held are claimed by the seat's worker, steps finished are finished by that
+-- worker, and steps known to be done are finished
 pub record Fits (s : SeatView) (k word : ℕ) : Type 0 where
   pub held : has k s.held ≡ true → (w : ℕ) → s.worker ≡ Some w → word ≡ claimed w
   pub finished : has k s.finished ≡ true → (w : ℕ) → s.worker ≡ Some w → word ≡ finished_word w
@@ -55,7 +55,7 @@ held_times k seats = sum_by (λ s. times k s.held) seats
 abbrev pub finished_times : ℕ → List SeatView → ℕ
 finished_times k seats = sum_by (λ s. times k s.finished) seats
 
--- how many of 2 ^ d equal parts are one of 2 ^ e equal parts: 2 ^ (d - e), and none where e is more
+-- how many of 2 ^ d parts make one of 2 ^ e: 2 ^ (d - e), or 0 if e > d
 abbrev pub parts : ℕ → ℕ → ℕ
 parts zero zero = 1
 parts zero (suc e) = 0
@@ -66,7 +66,7 @@ parts (suc d) (suc e) = parts d e
 abbrev pub AreAll : List SeatView → Type 0
 AreAll seats = (d : ℕ) × (parts d 0 ≤ sum_by (λ s. parts d s.share) seats)
 
--- the seat tells the word of step k: its worker claimed the step and the seat holds it, or finished it and the seat knows
+-- the seat gives the word of step k, as a step that the worker claimed and the seat holds, or that the worker finished
 abbrev pub Tells : ℕ → ℕ → SeatView → Type 0
 Tells k word s = (w : ℕ) × (s.worker ≡ Some w) × (((has k s.held ≡ true) × (word ≡ claimed w)) ⊎ ((has k s.finished ≡ true) × (word ≡ finished_word w)))
 

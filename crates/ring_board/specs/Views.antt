@@ -75,7 +75,7 @@ abbrev pub joined : List SeatView → View
 joined [] = nothing
 joined (s ∷ ss) = together (joined ss) (view_of s)
 
--- what holds of every seat: one of no worker has no steps, and a worker is one of the board's, which has a slot for each
+-- what holds for every seat: a seat without a worker has no steps, and a worker is one of the board's workers
 pub record IsSeat (s : SeatView) : Type 0 where
   pub idle : s.worker ≡ None → (s.held ≡ []) × (s.finished ≡ [])
   pub worker : (w : ℕ) → s.worker ≡ Some w → (w < s.board.slots) × (w < 65)

@@ -1,4 +1,4 @@
--- One clock more behind those of the puts before it.
+-- One more clock after those of the earlier puts.
 use Rattle.std.proofs.Common.{◌≡◌, ◌≢◌, inl, inr, ◌∙◌, ℕ, zero, suc, ◌+◌, ◌<◌, ◌≤◌, true, List, [], ◌∷◌, ◌++◌, length, get_or, refl, sym, ap, subst, arith}
 use Rattle.std.specs.Prelude.{◌==◌, Option, Some, None, if◌then◌else◌}
 use Rattle.std.proofs.lemmas.Bool.Decides.{eqb_tells}
@@ -48,7 +48,7 @@ reach_last causes clock n v w cause (Some u) made last writer d one = elim (eqb_
   | inr t ↦ (u, inr refl, (facts causes clock u (made u last.0)).above v (omega (arith, last.0, d.0), grind (arith, t.1, last.2 v d.1 (one ∙ writer)), inr (one ∙ writer ∙ sym last.1)))
 ]
 
--- a direct predecessor is an input, or its writer's last put is one and is not below it
+-- a direct predecessor is an input, or its writer's last put is an input and not below the predecessor
 reach : (causes : List Cause) (clock : ℕ → List Entry) (n v w : ℕ) (cause : Cause) (o : Option ℕ) → ((k : ℕ) → k < n → IsClockOf causes clock k) → IsLast causes n w o → writer_of causes n ≡ w → seen_by causes n ≡ cause.seen.items → IsDirect causes n v → (u : ℕ) × IsInput cause o u × IsAtMost (clock v) (clock u)
 reach causes clock n v w cause o made last writer seen d = elim d.2 [
   | inl saw ↦ (v, inl (subst (λ xs. has v xs ≡ true) seen saw), λ x. omega arith)

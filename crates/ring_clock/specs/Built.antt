@@ -21,7 +21,7 @@ Bumps writer d c = (w : ℕ) → counter c w ≡ (if w == writer then counter d 
 abbrev pub IsNext : (ℕ → List Entry) → (ℕ → Type 0) → ℕ → List Entry → Type 0
 IsNext clock In writer c = (d : List Entry) × IsJoinOf clock In d × Bumps writer d c
 
--- the clock of put k joins the clocks of all puts that it directly succeeds, with one more for its writer
+-- the clock of put k joins the clocks of all direct predecessors, with one more for the put's writer
 abbrev pub IsClockOf : List Cause → (ℕ → List Entry) → ℕ → Type 0
 IsClockOf causes clock k = IsNext clock (IsDirect causes k) (writer_of causes k) (clock k)
 

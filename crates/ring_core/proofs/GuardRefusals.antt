@@ -85,7 +85,7 @@ all_spare ring plan w (Read g i) = numbers_spare w.up (passing_below (length rin
 all_spare ring plan w (Handoff x s) = mirror_spare w.up (stage_now ring plan w s).mirror
 all_spare ring plan w e = refl
 
--- whoever is refused by a guard is not out of memory
+-- a refusal by a guard is not out of memory
 pub never_memory : (ring : RingValue) (plan : List Planned) (w : World) (e : Event) (refusal : Refusal) → first_failing (guards ring plan w e) ≡ Some refusal → refusal ≢ OutOfMemory
 unfolding is_other
 never_memory ring plan w e refusal h is = absurd (let o = first_spared (guards ring plan w e) refusal (all_spare ring plan w e) h in let f = ap is_other is in cc)

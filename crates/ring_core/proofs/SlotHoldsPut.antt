@@ -64,7 +64,7 @@ module _ (ring : RingValue) (plan : List Planned) (k : Kept) (w : World) (m : Te
   pub one_version : (v : ℕ) (put : PutNow) → slice_get k.puts v ≡ Some put → length put.version ≡ 1
   one_version v put at = (let t = put_told v put at in ap (λ (vs : List Version). length vs) t.2.version)
 
-  -- whoever keeps versions that cover a clock is declared
+  -- a keeper of versions that cover a clock is declared
   within : (x : ℕ) (slot : Slot) (key : List ℕ) (clock : List Entry) → Covers (k.hinted x slot key) clock → x < length ring.nodes
   within x slot key clock c =
       let d = (m.hinted x slot key).drawn c.0 c.1 in

@@ -21,7 +21,7 @@ pub sound_still : (old new : Parts) (e : Event) (result : Result Reply Refusal) 
 sound_still old new e (Ok r) s f answers stays = record { met = ∥∥₁_map s.met (λ m. ((answers m.0 m.1).0, (answers m.0 m.1).2)); sized = f.sized }
 sound_still old new e (Err refusal) s f answers stays = record { met = ∥∥₁_map s.met (λ m. (m.0, stays m.0 m.1)); sized = f.sized }
 
--- there is one put more where one starts, and one get more where one starts
+-- there is one more put if a put starts, and one more get if a get starts
 counted : (old new : Parts) (e : Event) (result : Result Reply Refusal) → IsSound old → IfOk result (λ r. Answers old e r new) → OnErr result (Stays old new)
     → (length new.puts ≤ length old.puts + (if starts_put e then 1 else 0)) × (length new.gets ≤ length old.gets + (if starts_get e then 1 else 0))
 counted old new e (Ok r) s answers stays = holds old s (hlevel props) (λ w m. (
@@ -70,7 +70,7 @@ counts_grow old new e result s answers stays =
     let one_get = at_most_one (starts_get e) in
     (omega arith, omega arith)
 
--- where there are few puts and gets every event has a number
+-- if there are few puts and gets, every event has a number
 pub has_number : (a : Parts) (e : Event) → length a.puts < 4294967295 → length a.gets < 4294967295 → HasNumber a e
 has_number a (StartPut writer key value seen) p g = p
 has_number a (StartGet key) p g = g

@@ -1,4 +1,4 @@
--- How many open copies a running store says of a node's side: so many as in its world, and at most as the allowance is.
+-- How many open copies a store counts on a node's side: as many as in its world, and at most the allowance.
 use Rattle.std.proofs.Common.{◌≡◌, ◌∙◌, ℕ, ◌≤◌, length, sym, subst}
 use Rattle.std.specs.Prelude.{Some}
 use Rattle.std.proofs.Props.{props}

@@ -22,7 +22,7 @@ abbrev pub MeetsEveryRead : RingValue → ℕ → Type 0
 MeetsEveryRead ring mask = (slots : List ℕ) → all_different slots ≡ true → list_all (λ i. nat_lt i ring.n) slots ≡ true → length slots ≡ ring.r
     → (i : ℕ) × (has i slots ≡ true) × (bit_at mask i ≡ 1)
 
--- whatever run led here in which the get started, what it is answered has each put of its key that was acknowledged when it started, or one that succeeds it
+-- in every run that led here, the get's answer has each put of the key acknowledged at the get's start, or a successor
 abbrev pub SeesAcknowledged : World → ℕ → List ℕ → Type 0
 SeesAcknowledged a g found = (before between : List Entry) (start mid u : TheWorld) (key : Key)
     → IsRun (ring_of a) (plan_of a) before start → Leads (ring_of a) (plan_of a) start (record { event = StartGet key; reply = reply.Get g } ∷ between) mid

@@ -16,7 +16,7 @@ Replays ring plan a history = ∥ ((w : TheWorld) × Meets a w × IsRun ring pla
 abbrev pub IsHistory : RingValue → List Planned → List Entry → Type 0
 IsHistory ring plan history = ∥ ((w : TheWorld) × IsRun ring plan history w) ∥₁
 
--- the entries led the store on: from whatever world it was in they lead to one that it is in now
+-- the entries lead from each world in which the store was to a world in which the store is now
 pub record Follows (old : World) (entries : List Entry) (new : World) : Type 0 where
   pub ring : ring_of new ≡ ring_of old
   pub plan : plan_of new ≡ plan_of old

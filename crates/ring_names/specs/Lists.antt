@@ -12,7 +12,7 @@ abbrev pub all_different : List ℕ → Bool
 all_different [] = true
 all_different (x ∷ xs) = not (has x xs) && all_different xs
 
--- each name is new: neither among those seen nor among those in front of it
+-- each name is new: neither seen before nor earlier in the list
 abbrev pub AllNew : List (List ℕ) → List (List ℕ) → Type 0
 AllNew seen [] = Unit {0}
 AllNew seen (x ∷ xs) = (place seen x ≡ None) × AllNew (seen ++ x ∷ []) xs

@@ -7,7 +7,7 @@ use Rattle.ringplan_jobs.specs.Answers.{output_of, status_of}
 use Rattle.ringplan_jobs.specs.Outcomes.{Outcome}
 use Rattle.ringplan_job.specs.declared.job.Job.{Job}
 
--- what comes of an input as of the program's, or want of memory
+-- what the program makes of an input, or out of memory
 abbrev pub Comes : Job → List ℕ → Result (List ℕ) Refusal → Type 0
 Comes job bytes r = Outcome job bytes r ⊎ (r ≡ Err OutOfMemory)
 

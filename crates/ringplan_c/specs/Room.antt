@@ -5,7 +5,8 @@ use Rattle.std.specs.Prelude.{◌≡◌, ◌⊎◌, ℕ, ◌<◌, ◌≤◌, Lis
 abbrev pub more_room : ℕ
 more_room = 4
 
--- the length of a text is told; and where it fits into the room it stands at its front, and the result is its status; else the room stays as it was
+-- the text's length is told. If the text fits, the room begins with the text, and the result is the status. If not, the
+-- room is unchanged
 abbrev pub Fills : List ℕ → ℕ → List ℕ → List ℕ → ℕ → ℕ → Type 0
 Fills text status old new told result = (told ≡ length text)
     × (((length text ≤ length old) × (new ≡ text ++ drop (length text) old) × (result ≡ status))

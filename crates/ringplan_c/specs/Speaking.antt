@@ -23,17 +23,18 @@ NamesNone files options = (files ≡ no_files) × (options.layout_file ≡ None)
 abbrev pub IsTurnedAway : List ℕ → ℕ → Type 0
 IsTurnedAway text status = (text ≡ []) × (status ≡ 2)
 
--- what is printed of the bytes, and the status: their report; or none of too many bytes, or where a file is named
+-- what is printed for the bytes, and the status: the report, or none if the bytes are too many or a file is named
 pub data Reports (files : Names) (making : Making) (options : Options) (bytes text : List ℕ) (status : ℕ) : Type 0 where
   read : NamesNone files options → length bytes ≤ max_input → IsReport making options bytes text status → Reports files making options bytes text status
   too_large : NamesNone files options → max_input < length bytes → IsTurnedAway text status → Reports files making options bytes text status
   filed : (NamesNone files options → ⊥) → IsTurnedAway text status → Reports files making options bytes text status
 
--- a request for something else than a making, help or a refusal: for a job, a part, a drive, or a text about the program
+-- a request for a job, a part, a drive, or a text about the program: not for a making, help or a refusal
 abbrev pub IsForOthers : Request → Type 0
 IsForOthers r = ((making : Making) (options : Options) → r ≢ request.Make making options) × ((text : Vec ℕ) → r ≢ request.Help text) × ((text : Vec ℕ) → r ≢ request.Mistaken text) × (r ≢ request.OutOfMemory)
 
--- what a call prints, and its status: what its line makes of the bytes, or help; nothing if the line is refused, is for others or is not text
+-- what a call prints, and its status: what the line makes of the bytes, or help. Nothing if the line is refused, for
+-- other calls, or not text
 pub data Says (command options bytes text : List ℕ) (status : ℕ) : Type 0 where
   reported : (making : Making) (known : Options) → AsksMaking (asked (line_of command options)) making known → Reports (files_of (line_of command options)) making known bytes text status → Says command options bytes text status
   helped : WantsHelp (asked (line_of command options)).faults → status ≡ 0 → Says command options bytes text status
@@ -46,7 +47,8 @@ pub data Says (command options bytes text : List ℕ) (status : ℕ) : Type 0 wh
 abbrev pub IsSaid : List ℕ → List ℕ → List ℕ → List ℕ → ℕ → ℕ → Type 0
 IsSaid command options bytes both tail status = (text errors : List ℕ) × Says command options bytes text status × (both ≡ text ++ errors) × (tail ≡ length errors)
 
--- the room is filled with what is printed on standard output and then on standard error, how long the second is is told, and the result is the status
+-- the room is filled with standard output and then standard error. The length of the second is told, and the result is
+-- the status
 abbrev pub Speaks : List ℕ → List ℕ → List ℕ → List ℕ → List ℕ → ℕ → ℕ → ℕ → Type 0
 Speaks command options bytes old new told tail result = (both : List ℕ) × (status : ℕ)
     × IsSaid command options bytes both tail status × Fills both status old new told result

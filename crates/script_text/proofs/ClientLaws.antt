@@ -1,4 +1,4 @@
--- A client's script has events of clients alone.
+-- A client's script has only events of clients.
 use Rattle.std.proofs.Common.{◌≡◌, ℕ, true, List, ◌∷◌, codes, Ok, ap, subst}
 use Rattle.std.specs.List.{list_all}
 use Rattle.texts.proofs.Forms.{Left, header_at, one_line, BadLine, then_part, end_line_at, ok_is, bind_ok}

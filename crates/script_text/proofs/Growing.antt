@@ -1,4 +1,4 @@
--- Lines up to one that begins with `end`, each read in the state that the lines before it made, as one section; and some forms of fields.
+-- One section: lines up to `end`, each read in the state that the lines before made. Also some forms of fields.
 use Rattle.std.proofs.Common.{◌≡◌, ℕ, ◌+◌, ◌<◌, ◌≤◌, Bool, true, false, cond, List, [], ◌∷◌, ◌++◌, length, map, codes, Result, Ok, Err, refl, sym, ap, subst, ◌∙◌, append_assoc, append-nil, length-append, arith}
 use Rattle.std.specs.List.{AllByRecursion, list_all}
 use Rattle.std.proofs.lemmas.Bool.{and_from, cond_both}

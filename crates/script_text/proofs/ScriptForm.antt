@@ -23,7 +23,7 @@ use Rattle.script_text.specs.Shapes.{words, shape_of}
 use Rattle.script_text.proofs.Growing.{form_as, passed, Growth}
 use Rattle.script_text.proofs.ValueLaws.{value-plain, text-is, value-given}
 
--- the words of frames and of gets, and those of events
+-- the words for frames, gets and events
 pub words-plain : IsPlain (codes "script") × IsPlain (codes "1") × IsPlain (codes "seen")
 words-plain = (search rules)
 
@@ -54,7 +54,7 @@ value_form = field_of judge_value value_text IsBytes (λ _ k f v e. let h = pass
 pub writer_at-is : (names : List (List ℕ)) (w : WriterId) (name : List ℕ) → slice_get names w.0 ≡ Some name → writer_at names w ≡ name
 writer_at-is names w name e = rw (e, writer_at) refl
 
--- what is at the number is a name, and that is where it is found
+-- the number has a name, and the name is found there
 abbrev pub IsPlaced : List (List ℕ) → ℕ → Type 0
 IsPlaced names n = (is_name (writer_at names (record { 0 = n })) ≡ true) × (place names (writer_at names (record { 0 = n })) ≡ Some n)
 

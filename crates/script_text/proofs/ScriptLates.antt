@@ -1,4 +1,5 @@
--- Reading a script does not go back, and each of its faults is at a line that was reached; what a line says can be the next event.
+-- Reading a script does not go back, and each fault is at a line that was reached. What a line says can be the next
+-- event.
 use Rattle.std.proofs.Common.{◌≡◌, ℕ, List, [], codes, Result, Ok, Err, IfOk, refl, sym}
 use Rattle.texts.proofs.Forms.{Left, header_at, one_line, ReadsTo, Advances, header, ending, to-first, to-after, Refusal, then_part, advances-then, advances-map, end_line_at}
 use Rattle.script_text.proofs.Terms.{RingValue, Event, FitsWriter, Fits, SaidWriter, Known, New, SaidEvent, Speaker, events_from}

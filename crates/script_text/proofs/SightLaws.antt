@@ -17,7 +17,7 @@ use Rattle.script_text.proofs.WriterLaws.{named-at, writer-placed, node-placed, 
 abbrev Puts : Event → ℕ → Type 0
 Puts e w = WritesAt (e ∷ []) 0 w
 
--- the writers after an event: those before it, and the one that it names first
+-- the writers after an event: the earlier ones, and the writer that the event names first
 record Grows (names next : List (List ℕ)) (e : Event) : Type 0 where
   pub grown : (more : List (List ℕ)) × (next ≡ names ++ more)
   pub first : (w : ℕ) → length names ≤ w → w < length next → Puts e w
@@ -93,7 +93,7 @@ module _ (ring : RingValue) where
 
   -- ---- lines are a script
 
-  -- names that grow are no fewer
+  -- names that grow do not get fewer
   longer : (names next : List (List ℕ)) → (more : List (List ℕ)) × (next ≡ names ++ more) → length names ≤ length next
   longer names next g =
       let same = ap (λ (xs : List (List ℕ)). length xs) g.1 in

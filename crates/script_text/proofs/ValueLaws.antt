@@ -11,7 +11,7 @@ use Rattle.script_text.proofs.DigitLaws.{few_bytes}
 
 -- ---- a digit
 
--- what is written of a number below 16 is a digit that counts it, and is no space
+-- a number below 16 is written as the digit that counts it, which is not a space
 digit-is : (d : ℕ) → d < 16 → (is_digit (digit_text d) ≡ true) × (digit_value (digit_text d) ≡ d) × (32 < digit_text d)
 digit-is d lt = (
   agree_below_at (λ x. is_digit (digit_text x)) (λ x. true) 16 d refl lt,
@@ -26,7 +26,7 @@ few-digit c e = elim (or_cases (nat_le 48 c && nat_le c 57) (nat_le 97 c && nat_
   | inr h ↦ omega (arith, leb-true c 102 (and_parts (nat_le 97 c) (nat_le c 102) h).1)
 ]
 
--- where one of two tests is false or the other is true, and the one is true, the other is
+-- if the first test is false or the second is true, and the first is true, the second is
 either-of : (a b : Bool) → a ≡ true → (not a || b) ≡ true → b ≡ true
 either-of true b e f = f
 either-of false b e f = absurd cc

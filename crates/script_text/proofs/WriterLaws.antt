@@ -38,7 +38,7 @@ place-step true o p n on e = e
 place-step false None p n on e = absurd cc
 place-step false (Some m) p n on e = (let same : suc m ≡ n = cc in rw (on m refl same) e)
 
--- a name that is known stays where it is, and a place among the first names is one without the others
+-- a known name stays in its place, and a place among the first names needs no later name
 place-both : (names more : List (List ℕ)) (name : List ℕ) (n : ℕ) → (place names name ≡ Some n → place (names ++ more) name ≡ Some n) × (n < length names → place (names ++ more) name ≡ Some n → place names name ≡ Some n)
 place-both [] more name n = (λ e. absurd cc, λ lt e. absurd (omega arith))
 place-both (x ∷ xs) more name n = (

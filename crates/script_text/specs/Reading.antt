@@ -37,7 +37,7 @@ count_at k = number_at k 4294967295
 unfoldable pub pair_at : ℕ → Item (ℕ × ℕ)
 pair_at k = count_at k ⊗ count_at k
 
--- a new writer, where there is room
+-- a new writer, if there is room
 abbrev pub new_writer : List (List ℕ) → ℕ → List ℕ → Result SaidWriter Refusal
 new_writer names k field = if nat_lt (length names) 1024 then Ok (New field) else Err (TooLarge k)
 

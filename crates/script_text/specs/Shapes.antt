@@ -26,7 +26,7 @@ words = (codes "do", word.Do)
     ∷ (codes "lose", word.Lose)
     ∷ []
 
--- what stands behind a word, and the event of a number, of two and of a node
+-- what follows a word, and events with one number, two numbers, or a node
 pub data Shape : Type 0 where
   Number : (ℕ → Event) → Shape
   Pair : (ℕ → ℕ → Event) → Shape

@@ -35,8 +35,8 @@ pub record AreGets (gets : List ℕ) : Type 0 where
   pub ascend : is_seen gets ≡ true
   pub counts : are_small gets ≡ true
 
--- what an event says keeps the limits of a script: its numbers are of 32 bits, its key has 1 to 64 bytes of a name's bytes, its value at most
--- 1,024 bytes, and a put names at most 16 gets, their numbers strictly ascending
+-- an event keeps the limits of a script. Numbers have 32 bits, a key has 1 to 64 bytes that names may have, a value at
+-- most 1,024 bytes. A put names at most 16 gets, their numbers strictly ascending
 abbrev pub IsEvent : Event → Type 0
 IsEvent (event.Do s) = IsCount s
 IsEvent (event.OpenCopy s) = IsCount s
@@ -61,7 +61,7 @@ IsSmall (event.StartPut w k v g) = ⊥
 IsSmall (event.StartGet k) = ⊥
 IsSmall e = Unit {0}
 
--- the event's writer is one of so many writers, and its node one of so many nodes
+-- the event's writer is one of the known writers, and the node is declared
 abbrev pub IsKnown : ℕ → ℕ → Event → Type 0
 IsKnown nodes writers (event.StartPut w k v g) = w.0 < writers
 IsKnown nodes writers (event.Hint u i x) = x.0 < nodes

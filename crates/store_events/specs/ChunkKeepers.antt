@@ -14,8 +14,7 @@ use Rattle.store_tells.specs.declared.parts.Parts.{Parts}
 abbrev pub keeps_part : RingValue → World → Slot → ℕ → ℕ → Bool
 keeps_part ring w slot c x = some_below (length w.puts) (λ v. is_in_chunk ring w slot c v && w.hinted x slot v)
 
--- in each world of the store: if the old node is the least down of some, the new one is the least of these and
--- those that pass
+-- in each world: if the old node is the least of some down nodes, the new one is the least with the passing nodes
 abbrev pub Lessens : Parts → Option NodeId → Option NodeId → (World → ℕ → Bool) → Type 0
 Lessens a old new test = (w : World) → Meets a w → (nodes : ℕ → Bool)
     → IsLeastDown (is_up_at a.nodes) nodes old → IsLeastDown (is_up_at a.nodes) (λ x. nodes x || test w x) new

@@ -168,7 +168,7 @@ module _ {W : Type 0} (tests : ℕ → List ℕ → List (Bool × Refusal)) (sam
           let n = numbers-given v rest (small w v p) free in
           rw (n.0, n.1) (ap (λ (r : Result (List ℕ) Refusal). (r, rest)) (unless_ok (tests k v) v (same 0 k v p)))
 
-  -- where no number may follow
+  -- if no number may follow
   abbrev pub free_row : ((k : ℕ) (xs : List ℕ) → AllAt k (tests k xs)) → Form W Free (List ℕ)
   free_row at = record {
     item = row_at tests;
@@ -179,7 +179,7 @@ module _ {W : Type 0} (tests : ℕ → List ℕ → List (Bool × Refusal)) (sam
     plain = λ w v p. numbers-plain v (small w v p);
   }
 
-  -- where no field may follow
+  -- if no field may follow
   abbrev pub row : ((k : ℕ) (xs : List ℕ) → AllAt k (tests k xs)) → Form W Last (List ℕ)
   row at = narrow Free Last (λ rest last. rw last (refl, refl)) (free_row at)
 
@@ -221,7 +221,7 @@ module _ {W A B : Type 0} (C : List (List ℕ) → Type 0) (tests : ℕ → A �
 
 -- ---- a choice by the first word
 
--- one case: its word, what is after it, and the value that this makes
+-- one case: a word, what follows, and the value that both make
 pub record Case (W : Type 0) (C : List (List ℕ) → Type 0) (S : Type 0) (spell : S → List (List ℕ)) (allowed : S → Type 0) : Type 1 where
   pub kind : Type 0
   pub word : List ℕ
@@ -496,7 +496,7 @@ pub turned : {A : Type 0} (b : Bool) (x y : A) → cond b x y ≡ cond (not b) y
 turned true x y = refl
 turned false x y = refl
 
--- one section, and after it another, which may depend on it
+-- one section, and then another, which may depend on the first
 abbrev pub then : {W A B : Type 0} (C D : List (List ℕ) → Type 0) (a : Section W C A) (b : A → Section W D B)
     → (W → (x : A) (y : B) (l : List (List ℕ)) (ls : List (List (List ℕ))) → a.allowed x → (b x).allowed y → D l → C (some_lines ((b x).spell y) l ls).0) → Section W D (A × B)
 then C D a b meet = record {
@@ -552,7 +552,7 @@ text-found f w text v e = whole-takes f.read f.spell f.allowed (f.exact w) text 
 pub text-given : {W A : Type 0} (f : Section W Any A) → W → (text : List ℕ) (v : A) → f.allowed v → text ≡ text_of (f.spell v) → whole_text f.read text ≡ Ok v
 text-given f w text v p e = whole-gives f.read f.spell f.allowed (f.exact w) text v p (f.plain w v p) e
 
--- what begins with a line that must come is read only where some line is
+-- a text that must begin with a line is read only if there is a line
 pub some-first : {A B E : Type 0} (f : A × B → E) (read : ℕ → List (List ℕ) → Result A Refusal) (again : A → Left → Result (B × Left) Refusal) (s t : Left) (v : E) → map_part f (then_part (one_line read) again) s ≡ Ok (v, t) → SomeLeft s
 some-first f read again s t v e = by s.lines e
   where

@@ -55,7 +55,7 @@ pub end_is : (k : ℕ) (fields rest : List (List ℕ)) → end_at k fields ≡ (
 end_is k [] rest e = refl
 end_is k (f ∷ fs) rest e = let bad : Err (BadLine k) ≡ Ok tt = ap (λ p. p.0) e in absurd cc
 
--- the item alone makes the line
+-- only the item makes the line
 pub IsLine-whole : {A : Type 0} (k : ℕ) (a : Item A) (s : A → List (List ℕ)) (P : A → Type 0) → IsItem a s P → IsLine (whole k a) s P
 unfolding both_of
 IsLine-whole {A} k a s P ia = record { takes = take; gives = give }
@@ -165,7 +165,7 @@ abbrev pub some_lines : (ls : List (List (List ℕ))) (x : List (List ℕ)) (xs 
 some_lines [] x xs = (x, xs, refl)
 some_lines (l ∷ ls) x xs = (l, ls ++ x ∷ xs, refl)
 
--- one part, and behind it another, which may depend on it
+-- one part, and then another, which may depend on the first
 pub IsPart-then : {A B : Type 0} (C D : List (List ℕ) → Type 0) (read : Left → Result (A × Left) Refusal) (again : A → Left → Result (B × Left) Refusal) (s : A → List (List (List ℕ))) (t : A → B → List (List (List ℕ))) (P : A → Type 0) (Q : A → B → Type 0)
     → IsPart C read s P → ((a : A) → P a → IsPart D (again a) (t a) (Q a))
     → ((a : A) (b : B) (x : List (List ℕ)) (xs : List (List (List ℕ))) → P a → Q a b → D x → C (some_lines (t a b) x xs).0)

@@ -161,7 +161,7 @@ advances-map f read p = record { on = λ s. to-map f read s.line s (p.on s) }
 pub to-after : {A B E : Type 0} (f : A × B → E) (read : Left → Result (A × Left) Refusal) (again : A → Left → Result (B × Left) Refusal) (k : ℕ) (s t : Left) (x : A) → read s ≡ Ok (x, t) → ReadsTo k (again x t) → ReadsTo k (map_part f (then_part read again) s)
 to-after f read again k s t x e p = to-map f (then_part read again) k s (to-second read again k s t x e p)
 
--- a part does not end before it begins, and what is after the line after it is after its first
+-- a part does not end before it begins. What follows the next line also follows the part's first line
 pub past : {A : Type 0} (read : Left → Result (A × Left) Refusal) → Advances read → (s t : Left) (v : A) → read s ≡ Ok (v, t) → s.line ≤ t.line
 past read on s t v e = (let here = on.on s in rw e at here)
 
@@ -193,7 +193,7 @@ module _ {S A : Type 0} (goes : List (List (List ℕ)) → Bool) (read : S → �
       by true later = judged (read seen k line) (at seen k line) later
       by false later = omega arith
 
-  -- memory that is asked for after a line that was taken: what was read from the start on reads to where it is now
+  -- memory that is asked for after a line was taken: reading from the start leads to the present line
   pub loop-late : ((seen : S) (k : ℕ) → goes [] ≡ true → loop seen k [] ≡ Err (BadLine k))
       → (seen : S) (start s t : Left) (fields : List (List ℕ)) (x : A) (total : Result (S × Left) Refusal) → goes s.lines ≡ true → next_line s ≡ Ok (fields, t)
       → read seen s.line fields ≡ Ok x → start.line ≤ s.line → loop seen s.line s.lines ≡ total → (next_number start.line ≤ t.line) × ReadsTo t.line total

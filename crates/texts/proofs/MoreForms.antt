@@ -37,7 +37,7 @@ unsaid x a P known is to from b = record {
 -- an optional item: read where the format has it and the fields begin so
 module _ {W A : Type 0} (may : Bool) (test : Fields → Bool) (a : Form W Always A)
     (begins : (v : A) (rest : Fields) → a.allowed v → test (a.spell v ++ rest) ≡ true) where
-  -- what is read: the value where the fields begin so, else nothing
+  -- what is read: the value if the fields begin so, and otherwise nothing
   abbrev pub maybe_item : ℕ → Item (Option A)
   maybe_item k fields = cond (may && test fields) (map_item Some (a.item k) fields) (Ok None, fields)
 
@@ -96,7 +96,7 @@ judged_line tests f g P a gf fg some at to from = record {
 
 -- ---- sections of any format
 
--- a section with something in it, else the line after it is at fault
+-- a section that is not empty. If it is empty, the next line is at fault
 module _ {W A : Type 0} (C : Fields → Type 0) (a : Section W C (List A)) where
   -- reads the section, and refuses an empty list
   abbrev pub some_read : Left → Result (List A × Left) Refusal

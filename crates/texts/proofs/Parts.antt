@@ -1,4 +1,4 @@
--- Where memory ran out, and which fault was read, in a text of parts.
+-- When memory ran out, and which fault was read, in a text of parts.
 use Rattle.std.proofs.Common.{◌≡◌, ◌≢◌, ℕ, zero, suc, ◌≤◌, Bool, true, false, cond, Result, Ok, Err, IsErrAnd, IfErr, refl, sym, ◌∙◌, arith}
 use Rattle.ring_names.specs.declared.refusal.Refusal.{Refusal}
 use Rattle.ring_names.specs.declared.refusal.Refusal.TheVariants.{BadLine, OutOfMemory}

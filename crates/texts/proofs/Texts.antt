@@ -15,7 +15,7 @@ weaker : (P Q : ℕ → Type 0) → ((b : ℕ) → P b → Q b) → (bs : List �
 weaker P Q h [] a = tt
 weaker P Q h (b ∷ bs) a = (h b a.0, weaker P Q h bs a.1)
 
--- what holds of each of some and of each of others
+-- what holds for each of some and for each of others
 pub appended : {A : Type 0} (P : A → Type 0) (xs ys : List A) → AllByRecursion P xs → AllByRecursion P ys → AllByRecursion P (xs ++ ys)
 appended P [] ys a b = b
 appended P (x ∷ xs) ys a b = (a.0, appended P xs ys a.1 b)

@@ -7,7 +7,7 @@ abbrev pub front_of : List ℕ → List (List ℕ) → List (List ℕ)
 front_of word [] = []
 front_of word (f ∷ fs) = if bytes_eq f word then [] else f ∷ front_of word fs
 
--- the fields behind it, where there is one
+-- the fields after the sign, if there is one
 abbrev pub behind_of : List ℕ → List (List ℕ) → Option (List (List ℕ))
 behind_of word [] = None
 behind_of word (f ∷ fs) = if bytes_eq f word then Some fs else behind_of word fs

@@ -71,7 +71,7 @@ map_item f item fields = (map_ok f (item fields).0, (item fields).1)
 abbrev pub whole : {A : Type 0} → ℕ → Item A → List (List ℕ) → Result A Refusal
 whole k item fields = map_ok (λ x. x.0) ((item ⊗ end_at k) fields).0
 
--- the value, unless one of these is so: each a test, and the refusal where it is true, the first one deciding
+-- the value, unless a test is true: then the refusal of the first such test
 abbrev pub unless : {A : Type 0} → List (Bool × Refusal) → A → Result A Refusal
 unless [] x = Ok x
 unless (t ∷ ts) x = if t.0 then Err t.1 else unless ts x

@@ -1,4 +1,4 @@
--- Where memory may run out: behind lines in which reading finds no fault.
+-- When memory may run out: after lines in which reading finds no fault.
 use Rattle.std.specs.Prelude.{◌≡◌, ℕ, ◌≤◌, List, [], ◌∷◌, Result, Ok, Err, IfErr}
 use Rattle.ring_names.specs.declared.refusal.Refusal.{Refusal}
 use Rattle.ring_names.specs.declared.refusal.Refusal.TheVariants.{OutOfMemory}

@@ -5,7 +5,7 @@ use Rattle.ring_names.specs.declared.refusal.Refusal.{Refusal}
 use Rattle.texts.specs.Judging.{Item}
 use Rattle.texts.specs.Left.{Left, begins_so}
 
--- of the fields of a line the item takes the spelling of an allowed value from the front, and nothing else
+-- the item takes the spelling of an allowed value from the front of a line's fields, and nothing else
 pub record IsItem {A : Type 0} (item : Item A) (spell : A → List (List ℕ)) (P : A → Type 0) : Type 0 where
   pub takes : (fields rest : List (List ℕ)) (v : A) → item fields ≡ (Ok v, rest) → (fields ≡ spell v ++ rest) × P v
   pub gives : (v : A) (rest : List (List ℕ)) → P v → item (spell v ++ rest) ≡ (Ok v, rest)
@@ -24,7 +24,7 @@ pub record IsLine {A : Type 0} (read : List (List ℕ) → Result A Refusal) (sp
 abbrev pub SomeLeft : Left → Type 0
 SomeLeft s = (x : List (List ℕ)) × (xs : List (List (List ℕ))) × (s.lines ≡ x ∷ xs)
 
--- of the lines of a text those of an allowed value are taken from the front, and nothing else, where C holds of the line behind them
+-- the lines of an allowed value are taken from the front of a text, and nothing else, if C holds for the next line
 pub record IsPart {A : Type 0} (C : List (List ℕ) → Type 0) (read : Left → Result (A × Left) Refusal) (spell : A → List (List (List ℕ))) (P : A → Type 0)
     : Type 0 where
   pub takes : (s t : Left) (v : A) → SomeLeft s → read s ≡ Ok (v, t) → (s.lines ≡ spell v ++ t.lines) × P v × SomeLeft t

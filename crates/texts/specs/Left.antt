@@ -83,7 +83,7 @@ abbrev pub Answers : {A : Type 0} → Result A Refusal → Left → Result (A ×
 Answers (Ok x) new read = read ≡ Ok (x, new)
 Answers (Err e) new read = read ≡ Err e
 
--- one part of a text, and behind it another, which may depend on it
+-- one part of a text, and then another part, which may depend on the first
 abbrev pub then_part : {A B : Type 0} → (Left → Result (A × Left) Refusal) → (A → Left → Result (B × Left) Refusal) → Left → Result ((A × B) × Left) Refusal
 then_part read again s = do
   x ← read s

@@ -8,12 +8,12 @@ abbrev pub first_value : List (List ℕ) → Option ℕ
 first_value [] = None
 first_value (field ∷ fields) = decimal_value field
 
--- what the fields in front spell, up to the first that is no number
+-- what the first fields spell, up to the first that is not a number
 abbrev pub numbers_of : List (List ℕ) → List ℕ
 numbers_of [] = []
 numbers_of (field ∷ fields) = if is_number field then value_from 0 field ∷ numbers_of fields else []
 
--- the fields from the first that is no number on
+-- the fields from the first that is not a number
 abbrev pub beyond : List (List ℕ) → List (List ℕ)
 beyond [] = []
 beyond (field ∷ fields) = if is_number field then beyond fields else field ∷ fields
