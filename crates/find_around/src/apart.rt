@@ -1,4 +1,4 @@
-//! Keeps retargeted slots out of the racks of their partition's other slots.
+//! Keeps a partition's slots in different racks.
 
 use crate::around::Search;
 use crate::told::SlotOutcome;

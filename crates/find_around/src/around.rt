@@ -21,50 +21,50 @@ use ringplan_job::{Extent, Shape};
 use std::alloc::Global;
 use std::collections::{BTreeMap, BTreeSet};
 
-/// A plan that has begun, and what is to change.
+/// A begun plan, and what changes.
 #[derive(Clone, Copy)]
 pub struct AroundTask<'a> {
     pub alloc: Global,
     pub ring: &'a Ring,
     pub plan: &'a Plan,
-    /// Its chains say which copies share an allowance.
+    /// Its chains show shared allowances.
     pub cert: &'a Cert,
     /// A run of the plan.
     pub history: &'a [Entry],
-    /// How much is still to be done.
+    /// How much remains.
     pub extent: Extent,
-    /// Slots that stay with their owners.
+    /// Slots that keep their owners.
     pub left: &'a [Slot],
-    /// Nodes that are dead from now on.
+    /// Nodes dead from now on.
     pub dead: &'a [NodeId],
-    /// Slots whose mirrors hold puts that their owners lack. Their copies must not start over.
+    /// Slots whose mirrors hold puts that owners lack: their copies must not start over.
     pub ahead: &'a [Slot],
-    /// The racks of nodes, if known.
+    /// The nodes' racks, if known.
     pub racks: Option<&'a Labels>,
-    /// Whether mirrors may be undone. Mirrors of slots that stay always are.
+    /// Whether mirrors may be undone. Staying slots' mirrors always are.
     pub back: Back,
-    /// Whether to report each slot, or only sums by node.
+    /// Reports each slot, or only sums by node.
     pub shape: Shape,
 }
 
-/// How far a search goes: less far after each refused plan.
+/// How far a search goes: less after each refused plan.
 #[derive(Clone, Copy, Debug, PartialEq, Eq)]
 pub enum Reach {
-    /// Keeps all moves that can still be done.
+    /// Keeps all possible moves.
     Far,
-    /// Like `Far`. In partitions with a dead node or a slot that stays, keeps only begun moves.
+    /// Like `Far`, but only begun moves in partitions with a dead node or a staying slot.
     Near,
-    /// Keeps only moves whose copies are done or have all chunks.
+    /// Keeps only moves whose copies have all chunks.
     Full,
 }
 
-/// The new plan, and what became of the old steps.
+/// The new plan, and the old steps' fates.
 #[derive(Drop)]
 pub struct Around {
     pub plan: Plan,
     /// By new step, its old number.
     pub olds: Vec<u32>,
-    /// By old step, its new number. None if its entries go, or if it has not begun.
+    /// By old step, its new number. None if it has not begun or its entries go.
     pub numbers: Vec<Option<u32>>,
     pub is_same: bool,
     /// What becomes of slots and nodes, one line each.
@@ -92,14 +92,14 @@ pub(crate) struct Search<'a> {
     pub(crate) taken: Vec<bool>,
     /// By step, whether another move's begun step depends on this mirror.
     pub(crate) awaited: Vec<bool>,
-    /// Dependencies that the old plan lacks.
+    /// New dependencies.
     pub(crate) more: Needs,
     /// By copy, its new sources.
     pub(crate) listings: BTreeMap<u32, CopyListing>,
-    /// By node, copies newly read from it; then slots owned in the end.
+    /// By node, copies newly read from it; then its final slots.
     pub(crate) load: Vec<u32>,
     pub(crate) owned: Vec<u32>,
-    /// By node, 1 plus the last partition in which it was busy. Then 1 plus the last partition searched.
+    /// By node, 1 plus its last busy partition. Then 1 plus the last partition searched.
     pub(crate) busy: Vec<u32>,
     pub(crate) looked_at: u32,
     /// By node, the last slot that it cannot take, by place plus 1. It keeps another slot's hint.
@@ -204,7 +204,7 @@ impl<'a> Search<'a> {
     }
 }
 
-/// Finds another plan. The history, without undone and restarted steps, is a run of it.
+/// Finds another plan. The history, without undone and restarted steps, is its run.
 ///
 /// If nothing changes, returns the old plan. Named slots stay; no remaining step involves a dead node.
 ///

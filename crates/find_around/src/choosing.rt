@@ -1,4 +1,4 @@
-//! Maps steps to those of the plan chosen instead.
+//! Steps in the chosen plan.
 
 use crate::around::AroundTask;
 use crate::entries::BegunSteps;
@@ -9,12 +9,12 @@ use ring_names::{Refusal, Slot};
 use std::alloc::Global;
 use std::collections::{BTreeMap, BTreeSet};
 
-/// The numbers of steps in both plans.
+/// The steps' numbers in both plans.
 #[derive(Drop)]
 pub struct Kept {
     /// By step of the chosen plan, its number in the task's.
     pub olds: Vec<u32>,
-    /// By step of the task's plan, its number in the chosen one. None if its entries go, or if it has not begun.
+    /// By step of the task's plan, its number in the chosen one. None if it has not begun or its entries go.
     pub numbers: Vec<Option<u32>>,
 }
 
@@ -51,7 +51,7 @@ fn key_of(step: &Step) -> Key {
     }
 }
 
-// A plan's steps by key, the last one first.
+// A plan's steps by key, the last first.
 #[derive(Drop)]
 struct ByKey {
     alloc: Global,
@@ -101,7 +101,7 @@ fn slots_ahead(task: &AroundTask) -> Result<BTreeSet<Slot>, Refusal> {
     Ok(ahead)
 }
 
-// Drops the numbers of mirrors ahead of their owners, if their begun copies are new in the chosen plan.
+// Drops numbers of mirrors ahead of owners, if their begun copies are new in the chosen plan.
 fn take_back(
     task: &AroundTask,
     chosen: &Plan,
@@ -160,7 +160,7 @@ impl Kept {
         false
     }
 
-    // Drops the numbers, and so the entries, of unfinished copies that must now wait.
+    // Drops numbers and entries of unfinished copies that must wait.
     fn forget_waiting(&mut self, task: &AroundTask, chosen: &Plan, done: &[bool]) {
         for step in 0..task.plan.len() {
             let is_copy = matches!(task.plan.step(step), Step::Copy(_, _));
@@ -190,7 +190,7 @@ impl Kept {
 #[derive(Drop)]
 struct Keeping {
     left: ByKey,
-    // By slot, whether its latest mirror has a number.
+    // By slot, whether its latest mirror is numbered.
     mirrors: BTreeMap<Slot, bool>,
     kept: Kept,
 }
@@ -222,8 +222,8 @@ impl Keeping {
 /// Maps begun steps to the first free equal steps of `chosen`. Costs a pass over both plans and the history, and
 /// sorting.
 ///
-/// Unfinished copies that must wait get no number. If mirrors may be undone, neither do mirrors ahead of their owners
-/// whose copies change.
+/// Unfinished copies that must wait get no number. If mirrors may be undone, neither do mirrors ahead of owners with
+/// changed copies.
 pub fn find_kept(task: &AroundTask, chosen: &Plan) -> Result<Kept, Refusal> {
     let BegunSteps { begun, done, .. } = BegunSteps::of(task)?;
     let mut it = Keeping {

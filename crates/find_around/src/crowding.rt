@@ -1,4 +1,4 @@
-//! Leaves out moves to nodes that keep another slot of the partition.
+//! Nodes that keep another slot of the partition.
 
 use crate::around::{AroundTask, Search};
 use crate::moving::{Moves, PlannedMove};
@@ -14,7 +14,7 @@ pub(crate) struct Crowd {
     arrivals: Vec<(u32, u32, u32)>,
     // mirrors of moves left out, the first on top
     staying: BinaryHeap<u32>,
-    // by slot, the mirror from which on its moves are left out
+    // by slot, the mirror of its first left-out move
     cuts: Vec<u32>,
 }
 
@@ -57,7 +57,7 @@ impl Crowd {
         }
     }
 
-    /// Notes that the slot stays: this mirror's move is left out.
+    /// Notes a left-out move: its slot stays.
     pub(crate) fn stay(&mut self, mirror: Option<u32>) -> Result<(), Refusal> {
         if let Some(mirror) = mirror {
             self.staying.push(u32::MAX.saturating_sub(mirror))?;
@@ -79,7 +79,6 @@ impl Search<'_> {
         self.remove(it.drop);
     }
 
-    /// Leaves out this move and the slot's later ones.
     pub(crate) fn leave_out_from(&mut self, from: Option<usize>) -> Result<(), Refusal> {
         let Some(first) = self.moves.at(from) else {
             return Ok(());
@@ -107,7 +106,7 @@ impl Search<'_> {
         Ok(())
     }
 
-    /// Leaves out moves to nodes that keep another slot of the partition. Their slots' later moves go too.
+    /// Leaves out moves to nodes that keep another slot of the partition, and their slots' later moves.
     pub(crate) fn make_way(&mut self) -> Result<(), Refusal> {
         for turn in 0..u32::MAX {
             let Some(mirror) = self.crowd.pop() else {
@@ -134,7 +133,7 @@ impl Search<'_> {
         None
     }
 
-    // Leaves out moves that would reach the owner before its next kept switch.
+    // Leaves out moves to the owner before its next kept switch.
     fn make_way_for(&mut self, it: &PlannedMove, mirror: u32) -> Result<(), Refusal> {
         let until = self.next_switch(it);
         let (partition, node) = (it.slot.partition, it.source);

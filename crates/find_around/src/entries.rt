@@ -1,4 +1,4 @@
-//! What a history has begun, and the hints that remain.
+//! Begun steps, and remaining hints.
 
 use crate::around::AroundTask;
 use helpers::put;

@@ -10,7 +10,7 @@ use std::collections::BTreeSet;
 pub(crate) struct HintTable {
     // ascending
     all: Vec<(Slot, u32)>,
-    // by partition, where its hints begin; then their count
+    // by partition, the place of its first hint; then their count
     firsts: Vec<u32>,
 }
 

@@ -1,4 +1,4 @@
-//! Slots that stay with their owners on request.
+//! Slots that stay on request.
 
 use crate::around::{AroundTask, Search};
 use crate::moving::{Moves, PlannedMove};
@@ -18,7 +18,7 @@ fn has_done(progress: &Progress, step: Option<u32>) -> bool {
     }
 }
 
-// The slot's first move with a switch to come, or that ends as a mirror that can be undone.
+// The slot's first move with a switch to come, or ending as a mirror that can be undone.
 fn first_open(moves: &Moves, progress: &Progress, slot: Slot) -> Option<usize> {
     let mut next = moves.first(slot);
     for turn in 0..moves.len() {
@@ -34,7 +34,7 @@ fn first_open(moves: &Moves, progress: &Progress, slot: Slot) -> Option<usize> {
     None
 }
 
-/// Returns the slots asked to stay that stay anyway. No remaining step moves them, and no node mirrors them.
+/// Returns slots asked to stay that stay anyway. No remaining step moves them, and no node mirrors them.
 ///
 /// Costs a pass over plan and history.
 pub fn find_unmoved(task: &AroundTask) -> Result<Vec<Slot>, Refusal> {
@@ -63,7 +63,7 @@ impl Search<'_> {
         self.make_way()
     }
 
-    // A move whose copy has all chunks is finished instead.
+    // A move with all chunks is finished instead.
     fn leave_slot(&mut self, slot: Slot) -> Result<(), Refusal> {
         let place = first_open(&self.moves, &self.progress, slot);
         let Some(it) = self.moves.at(place) else {
@@ -85,7 +85,7 @@ impl Search<'_> {
         Ok(())
     }
 
-    /// Undoes the mirror, so that the move has not begun.
+    /// Undoes the mirror, and so the move.
     pub(crate) fn take_back(&mut self, it: &PlannedMove) -> Result<(), Refusal> {
         self.note_taken(it.slot, it.target)?;
         if let Some(mirror) = it.mirror {

@@ -1,6 +1,6 @@
-//! Searches for another plan during a change: around dead nodes, with slots that stay, or only to finish what has
-//! begun. Done steps stay, and so do open copies that need no dead node. The rest is planned again, in the old order if
-//! possible. Nothing is proved: the checker and the replay judge the plan.
+//! Searches for another plan during a change: around dead nodes, with staying slots, or only to finish begun moves.
+//! Done steps stay, as do open copies that need no dead node. The rest is planned again, in the old order if possible.
+//! Nothing is proved: checker and replay judge the plan.
 #![tactic(auto)]
 
 mod apart;

@@ -11,26 +11,25 @@ use ring_names::{NodeId, Refusal, Slot};
 use ring_table::{Allowance, Side};
 use std::alloc::Global;
 
-// How many left-out steps may be passed through.
+// The most left-out steps to pass through.
 const LOOKS: u32 = 100_000_000;
 
-// The last copy of each chain, by transfer group. A node has one or two groups.
+// The chains' last copies, by transfer group. A node has one or two groups.
 #[derive(Drop)]
 struct Tails {
-    // by group; no more than may be open
+    // by group; at most its allowance
     copies: Vec<Vec<u32>>,
     // by step: 1 plus its place in the order, and the length of the chain that it ends
     places: Vec<u32>,
     depths: Vec<u32>,
 }
 
-// The groups of a copy: at most 8 nodes take part.
+// A copy's groups: at most 8 nodes take part.
 #[derive(Drop)]
 struct Parties {
     groups: Vec<usize>,
 }
 
-/// Returns the dependencies of each remaining step.
 pub(crate) fn link(search: &mut Search) -> Result<Needs, Refusal> {
     let mut needs = Needs::of(search.task.alloc, search.task.plan.len() as usize)?;
     search.keep_needs(&mut needs)?;
@@ -43,7 +42,7 @@ pub(crate) fn link(search: &mut Search) -> Result<Needs, Refusal> {
 }
 
 impl Search<'_> {
-    // Keeps dependencies. A left-out step is replaced by its own.
+    // Keeps dependencies, through left-out steps.
     fn keep_needs(&self, needs: &mut Needs) -> Result<(), Refusal> {
         let count = self.task.plan.len();
         let mut seen = vec![in self.task.alloc; 0u32; count as usize]?;
@@ -56,7 +55,7 @@ impl Search<'_> {
         Ok(())
     }
 
-    // Returns how many looks are left.
+    // Returns the looks left.
     fn keep_of(
         &self,
         needs: &mut Needs,
@@ -86,12 +85,12 @@ impl Search<'_> {
         Err(Refusal::NoPlan)
     }
 
-    // An undone mirror must not precede a step that is done or begun.
+    // An undone mirror must not precede a fixed step.
     fn stays_before(&self, step: u32, other: u32) -> bool {
         !self.is_gone(other) && !(self.is_fixed(step) && is_set(self.taken.as_slice(), other))
     }
 
-    // Adds new dependencies only if the step is not done and has not begun.
+    // Only unfixed steps get new dependencies.
     fn push_waits(&self, stack: &mut Vec<u32>, step: u32, other: u32) -> Result<(), Refusal> {
         if other < self.task.plan.len() {
             stack.extend_from_slice(self.task.plan.deps(other))?;
@@ -168,7 +167,7 @@ impl Search<'_> {
         Ok(order)
     }
 
-    // Links each copy that has not begun into a chain of each of its nodes, within allowances.
+    // Links each unfixed copy into chains of its nodes, within allowances.
     fn link_copies(&self, needs: &mut Needs) -> Result<(), Refusal> {
         let order = self.line_up(needs)?;
         let mut tails = Tails::of(self.task.alloc, self, order.as_slice())?;
@@ -229,7 +228,6 @@ impl Search<'_> {
         }
     }
 
-    // The group's allowance.
     fn most(&self, group: usize) -> u32 {
         match self.task.ring.nodes().get(group / 2) {
             Some(declared) => match declared.allowance {
@@ -365,7 +363,6 @@ impl Tails {
         at(self.places.as_slice(), step as usize) < at(self.places.as_slice(), other as usize)
     }
 
-    // Sets the length of the chain that the step ends.
     fn sink(&mut self, needs: &Needs, step: u32, is_copy: bool) {
         let mut depth = 0u32;
         for other in needs.row(step) {

@@ -1,4 +1,4 @@
-//! The moves of a plan, by slot.
+//! Moves by slot.
 
 use helpers::{at, place_of, set, small};
 use plan_text::{Plan, Step};
@@ -7,7 +7,6 @@ use ring_table::Ring;
 use std::alloc::Global;
 use std::collections::BTreeMap;
 
-/// A slot goes from its owner to another node.
 #[derive(Clone, Copy, Debug)]
 pub(crate) struct PlannedMove {
     pub(crate) slot: Slot,
@@ -17,16 +16,15 @@ pub(crate) struct PlannedMove {
     pub(crate) copy: Option<u32>,
     pub(crate) switch: Option<u32>,
     pub(crate) drop: Option<u32>,
-    /// The slot's next and previous move.
     pub(crate) next: Option<usize>,
     pub(crate) before: Option<usize>,
 }
 
-/// The moves of a plan, in the order of their mirrors.
+/// A plan's moves, in their mirrors' order.
 #[derive(Drop)]
 pub(crate) struct Moves {
     all: Vec<PlannedMove>,
-    // by slot, 1 plus the places of its first and its last move; 0 for none
+    // by slot, 1 plus the places of its first and last move; 0 for none
     firsts: Vec<u32>,
     lasts: Vec<u32>,
     // by step, 1 plus the place of its move

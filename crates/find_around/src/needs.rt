@@ -21,7 +21,7 @@ impl Needs {
         Ok(Needs { lists, count: 0 })
     }
 
-    /// Adds a dependency. Fails with `NoPlan` if there are too many for any plan.
+    /// Adds a dependency. Fails with `NoPlan` if too many for any plan.
     pub(crate) fn add(&mut self, step: u32, other: u32) -> Result<(), Refusal> {
         if self.count >= MOST {
             return Err(Refusal::NoPlan);
@@ -33,7 +33,7 @@ impl Needs {
         Ok(())
     }
 
-    /// Returns the step's dependencies, in the order added.
+    /// The step's dependencies, as added.
     pub(crate) fn row(&self, step: u32) -> &[u32] {
         match self.lists.get(step as usize) {
             Some(list) => list.as_slice(),

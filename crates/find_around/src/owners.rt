@@ -1,4 +1,4 @@
-//! Who owns a slot after the kept steps.
+//! Owners after the kept steps.
 
 use crate::around::Search;
 use crate::moving::{PlannedMove, first_owner};
@@ -17,7 +17,7 @@ pub(crate) enum Way {
 }
 
 impl Search<'_> {
-    /// Returns the owner after the done steps and those before the line. Line 0 means now.
+    /// The owner after done steps and those before the line; 0 means now.
     pub(crate) fn owner_at(&self, slot: Slot, line: u32) -> u32 {
         let mut owner = first_owner(self.task.ring, slot);
         let mut next = self.moves.first(slot);
@@ -35,7 +35,6 @@ impl Search<'_> {
         owner
     }
 
-    /// Returns the slot's last move with a kept switch.
     pub(crate) fn last_left(&self, slot: Slot) -> Option<usize> {
         let mut next = self.moves.last(slot);
         for turn in 0..self.moves.len() {
@@ -64,7 +63,7 @@ impl Search<'_> {
         false
     }
 
-    /// Returns how, and from which owner, a copy can read the slot.
+    /// How, and from which owner, a copy can read the slot.
     pub(crate) fn readable(&self, slot: Slot, line: u32) -> Option<(Way, u32)> {
         if self.has_dead_hint(slot) {
             return None;

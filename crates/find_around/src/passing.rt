@@ -1,4 +1,4 @@
-//! Copies that now precede a switch that they used to follow, since it leads to a dead node.
+//! Copies that must now precede a switch to a dead node.
 
 use crate::around::Search;
 use crate::moving::PlannedMove;
@@ -38,7 +38,7 @@ impl Search<'_> {
                 .any(|other| is_set(passed, *other))
     }
 
-    // The switches that the copy now precedes, ascending.
+    // Ascending.
     fn switches_after(&self, it: &PlannedMove) -> Result<Vec<u32>, Refusal> {
         let mut switches = Vec::new(self.task.alloc);
         let Some(copy) = it.copy else {

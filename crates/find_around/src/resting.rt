@@ -1,4 +1,4 @@
-//! Partitions in which no more moves begin.
+//! Partitions without new moves.
 
 use crate::around::{Reach, Search};
 use crate::moving::PlannedMove;
@@ -9,7 +9,7 @@ use ring_names::{NodeId, Refusal, Slot};
 use ringplan_job::Extent;
 
 impl Search<'_> {
-    /// Leaves out moves that have not begun in resting partitions.
+    /// Lets no more moves begin in resting partitions.
     pub(crate) fn rest(&mut self) -> Result<(), Refusal> {
         self.mark_resting();
         if self.task.extent == Extent::Begun {
@@ -95,7 +95,7 @@ impl Search<'_> {
         }
     }
 
-    // Whether the move has begun and is to end. With `--back`, a mirror without chunks is undone instead.
+    // Whether the begun move is to end. With `--back`, a mirror without chunks is undone instead.
     fn is_to_end(&self, it: &PlannedMove) -> bool {
         let has_chunks = match it.copy {
             Some(copy) => self.is_done(copy) || self.progress.chunks(copy) > 0,

@@ -1,4 +1,4 @@
-//! Nodes that do not retire, and dead ones that do not join.
+//! Nodes that do not retire or join.
 
 use crate::around::Search;
 use crate::moving::first_owner;
@@ -60,7 +60,7 @@ impl Search<'_> {
         }
     }
 
-    // Finds, by node, a slot that it serves in the end or does not drop.
+    // Finds, by node, a slot that it finally serves or does not drop.
     fn find_held(&self, held: &mut [Option<Slot>]) {
         for partition in 0..self.task.ring.q() {
             for index in 0..self.task.ring.n() {

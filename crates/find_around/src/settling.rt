@@ -1,4 +1,4 @@
-//! What becomes of each move.
+//! The fate of moves.
 
 use crate::around::{Reach, Search};
 use crate::moving::{PlannedMove, first_owner};
@@ -11,7 +11,7 @@ use ring_names::{NodeId, Refusal, Slot};
 enum Fate {
     Goes,
     Stays,
-    // The slot stays mirrored, and none of its later moves is done.
+    // The slot stays mirrored, without later moves.
     Stuck,
 }
 
@@ -139,7 +139,7 @@ impl Search<'_> {
         Ok(Fate::Stays)
     }
 
-    // Returns whether the move is kept.
+    // Whether the move is kept.
     fn retarget(&mut self, place: usize, it: &PlannedMove, owner: u32) -> Result<bool, Refusal> {
         if it.target == owner {
             self.leave_out(it);
@@ -163,7 +163,7 @@ impl Search<'_> {
         Ok(true)
     }
 
-    /// Sends the move to `other`, from the slot's owner by then.
+    /// Sends the move to `other`.
     pub(crate) fn redirect(
         &mut self,
         place: usize,
@@ -185,7 +185,7 @@ impl Search<'_> {
         Ok(())
     }
 
-    /// Keeps the slot mirrored for good: both nodes stay.
+    /// Keeps the slot mirrored for good.
     pub(crate) fn stick(&mut self, it: &PlannedMove) -> Result<(), Refusal> {
         if !self.has_done(it.copy) {
             self.remove(it.copy);

@@ -1,4 +1,4 @@
-//! Other sources for a copy than a dead owner.
+//! Sources for copies with a dead owner.
 
 use crate::around::Search;
 use crate::moving::PlannedMove;
@@ -14,12 +14,12 @@ pub(crate) struct CopyListing {
     pub(crate) ways: [Option<Way>; 7],
 }
 
-// A slot that can be listed, ordered by preference.
+// A listable slot, ordered by preference.
 #[derive(Clone, Copy, Debug, PartialEq, Eq, PartialOrd, Ord)]
 struct ListableSlot {
     // its switches to come
     switches: u32,
-    // copies that read from its owner, scaled by the owner's allowance
+    // copies that read from its owner, by allowance
     load: u64,
     index: u32,
     owner: u32,
@@ -71,7 +71,6 @@ impl Search<'_> {
         Ok(found)
     }
 
-    // Orders the copy and a listed slot's switches.
     fn order(&mut self, slot: Slot, copy: u32, way: Way) -> Result<(), Refusal> {
         let mut next = self.moves.first(slot);
         for turn in 0..self.moves.len() {
@@ -112,7 +111,7 @@ impl Search<'_> {
         Ok(())
     }
 
-    /// Gives the copy R other slots to read. Returns whether R were found.
+    /// Gives the copy R other slots to read, if there are R.
     pub(crate) fn relist(&mut self, it: &PlannedMove, copy: u32) -> Result<bool, Refusal> {
         let found = self.candidates(it, copy)?;
         let reads = self.task.ring.r() as usize;
@@ -129,7 +128,6 @@ impl Search<'_> {
         Ok(true)
     }
 
-    /// Whether the copy reads an unreadable slot.
     pub(crate) fn reads_dead(&self, it: &PlannedMove) -> bool {
         let Some(copy) = it.copy else {
             return false;

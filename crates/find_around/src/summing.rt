@@ -1,17 +1,15 @@
-//! The report on slots, summed by node.
+//! Sums by node.
 
 use crate::around::Search;
 use crate::told::SlotOutcome;
 use helpers::{at, raise, small};
 use ring_names::{Refusal, Slot};
 
-// The most nodes that a sum names.
 const MOST: usize = 16;
 
-// The kinds of fates, in report order.
 const KINDS: u32 = 16;
 
-// A sum's words: for one slot, for several, before other nodes, and at the end.
+// A sum's words for one slot, for several, before other nodes, and at the end.
 #[derive(Clone, Copy)]
 struct Phrase {
     one: &'static [u8],

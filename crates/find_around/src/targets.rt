@@ -1,4 +1,4 @@
-//! Another node for a slot whose target is dead.
+//! Targets instead of dead ones.
 
 use crate::around::Search;
 use crate::moving::{PlannedMove, first_owner};
@@ -6,7 +6,7 @@ use helpers::{at, place_of, raise, set, small};
 use ring_names::{NodeId, Slot};
 
 impl Search<'_> {
-    // Marks nodes that serve the partition at any time. Looks at each move once.
+    // Marks nodes that ever serve the partition. Looks at each move once.
     fn mark_busy(&mut self, partition: u32) {
         let stamp = partition.saturating_add(1);
         if self.looked_at == stamp {
@@ -62,7 +62,7 @@ impl Search<'_> {
         count
     }
 
-    /// Returns the final owners of the partition's other slots.
+    /// The final owners of the partition's other slots.
     pub(crate) fn others(&self, it: &PlannedMove) -> [u32; 7] {
         let mut owners = [u32::MAX; 7];
         let partition = it.slot.partition;
@@ -75,7 +75,7 @@ impl Search<'_> {
         owners
     }
 
-    /// Returns the best other target. It has the fewest of the partition's slots in its rack, then the fewest slots.
+    /// Returns the best other target: fewest of the partition's slots in its rack, then fewest slots.
     ///
     /// None if the owner may stay and is as good.
     pub(crate) fn other_target(&mut self, it: &PlannedMove, owner: u32) -> Option<u32> {

@@ -1,10 +1,10 @@
-//! The report on slots and nodes.
+//! Reports.
 
 use crate::around::{Reach, Search};
 use ring_names::{Refusal, Slot};
 use ringplan_job::Shape;
 
-/// What becomes of a slot, if not as planned. `say_outcome` has the words.
+/// A slot's fate, if not as planned. `say_outcome` has the words.
 #[derive(Clone, Copy, Debug, PartialEq, Eq)]
 pub(crate) enum SlotOutcome {
     /// Goes to the first node instead of the second.
@@ -60,7 +60,7 @@ impl Search<'_> {
         Ok(())
     }
 
-    /// Notes that a move is done as planned, maybe after another outcome.
+    /// Notes a move as planned, maybe after another outcome.
     pub(crate) fn note_planned(&mut self, slot: Slot) -> Result<(), Refusal> {
         let Saying { taken, outcome } = self.saying_of(slot);
         if let Some(SlotOutcome::Filled(_) | SlotOutcome::Untaken(_)) = outcome {
@@ -175,7 +175,7 @@ impl Search<'_> {
         }
     }
 
-    /// Returns the final report, also for a dead owner.
+    /// The final report, also for a dead owner.
     pub(crate) fn last_saying(&self, slot: Slot) -> Saying {
         let Saying { taken, outcome } = self.saying_of(slot);
         let owner = self.last_owner(slot);

@@ -1,4 +1,4 @@
-//! Writes the kept steps, in the old order as far as dependencies allow.
+//! Writes kept steps, in the old order if dependencies allow.
 
 use crate::around::Search;
 use crate::needs::Needs;
@@ -17,7 +17,7 @@ pub(crate) struct Written {
     pub(crate) numbers: Vec<Option<u32>>,
 }
 
-// Steps without open dependencies, the old plan's first on top.
+// Ready steps, the old plan's first on top.
 #[derive(Drop)]
 struct Ready {
     heap: BinaryHeap<u32>,
@@ -75,7 +75,6 @@ fn listed(alloc: Global, slot: Slot, listing: &CopyListing) -> Result<Step, Refu
 }
 
 impl Search<'_> {
-    // Returns how many steps are kept.
     fn begin_sorting(
         &self,
         needs: &Needs,
@@ -99,7 +98,7 @@ impl Search<'_> {
         Ok(kept)
     }
 
-    /// Sorts the kept steps by dependencies, then by the old order. Fails with `NoPlan` on a cycle.
+    /// Sorts kept steps by dependencies, then by the old order. Fails with `NoPlan` on a cycle.
     pub(crate) fn sorted(&self, needs: &Needs) -> Result<Vec<u32>, Refusal> {
         let count = self.task.plan.len();
         let mut waits = vec![in self.task.alloc; 0u32; count as usize]?;

@@ -1,4 +1,4 @@
-//! Nodes with more open transfers than allowed.
+//! Overloaded nodes.
 
 use crate::order::Order;
 use crate::sides::{Sides, sides_of};
@@ -7,7 +7,7 @@ use ring_names::{NodeId, Refusal};
 use ring_table::{Ring, Side};
 use std::alloc::Global;
 
-/// A side of a node that some order of the plan overloads.
+/// A node's side that some order overloads.
 #[derive(Clone, Copy, Debug)]
 pub struct Excess {
     pub side: Side,

@@ -1,4 +1,4 @@
-//! Finds a certificate for a plan.
+//! Finds certificates.
 
 ghost use Rattle.std.specs.Prelude.{◌≡◌, [], IfErr, IfOk};
 ghost use Rattle.ring_names.specs.declared.refusal.Refusal.TheVariants.{OutOfMemory};
@@ -18,14 +18,14 @@ use std::alloc::Global;
 #[derive(Drop)]
 pub struct FoundCert {
     pub cert: Cert,
-    /// The first node with too many chains under every certificate.
+    /// The first node with too many chains in every certificate.
     pub excess: Option<NodeId>,
     /// Whether looks ran out before some node's fewest chains were known.
     pub is_given_up: bool,
 }
 
 impl FoundCert {
-    /// Returns what to refuse if the checker refuses this certificate.
+    /// Returns what to refuse if the checker refuses the certificate.
     ///
     /// `TooManyChains` names only a node known to need them. If the search was given up and none is known, it becomes
     /// `NoPlan`.
@@ -40,13 +40,13 @@ impl FoundCert {
     }
 }
 
-/// Finds a certificate: the needed paths, and chains for each node's copies. The checker must judge it.
+/// Finds a certificate for the checker to judge: needed paths, and chains of each node's copies.
 ///
-/// Chains are a first fit along direct dependencies. If that is too many, they are runs of a slot's steps, then the
-/// fewest possible. The search for the fewest ends after 100,000,000 looks for all nodes.
+/// Chains are a first fit along direct dependencies. If too many, they are runs of a slot's steps, then the fewest
+/// possible. This search ends after 100,000,000 looks for all nodes.
 ///
-/// Paths are shortest ones. Those over 1,024 steps, or not found in 100,000,000 looks, are left out. A certificate too
-/// large for its text is left empty.
+/// Paths are shortest. Those over 1,024 steps, or not found in 100,000,000 looks, are left out. A certificate too large
+/// for its text is left empty.
 ///
 /// If steps depend directly on what they need, this costs about as much as reading the plan.
 pub fn certificate(alloc: Global, ring: &Ring, plan: &Plan) -> Result<FoundCert, Refusal>

@@ -1,5 +1,5 @@
-//! Makes certificates: the fewest chains that a plan's order allows, and the paths that the checker needs. The checker
-//! judges them. `Stays` lists each slot's nodes.
+//! Makes certificates: the fewest chains that a plan's order allows, and the needed paths. The checker judges them.
+//! `Stays` lists each slot's nodes.
 #![tactic(auto)]
 
 mod excess;

@@ -1,4 +1,4 @@
-//! Which copy follows which in a chain.
+//! Chains of copies.
 
 use helpers::{at, set, small};
 use ring_names::{Refusal, Rows};
@@ -51,7 +51,7 @@ impl Links {
         count
     }
 
-    /// Returns the chains as step numbers, ordered by first copy.
+    /// Chains as step numbers, ordered by first copy.
     pub(crate) fn chains(&self, alloc: Global, copies: &[u32]) -> Result<Rows, Refusal> {
         let mut rows = Rows::new(alloc);
         let mut chain = Vec::new(alloc);

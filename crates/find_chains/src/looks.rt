@@ -1,6 +1,6 @@
 //! The work left.
 
-/// How many looks at steps, dependencies and the like are left.
+/// The looks left at steps, dependencies and the like.
 #[derive(Clone, Copy, Debug)]
 pub(crate) struct Looks {
     left: u64,

@@ -1,4 +1,4 @@
-//! Makes as many links as the order of copies allows.
+//! Links as many copies as possible.
 
 use crate::links::Links;
 use helpers::{at, set, set_word, small, word};
@@ -17,7 +17,7 @@ pub(crate) struct EarlierCopies<'a> {
 #[derive(Drop)]
 pub(crate) struct Matching {
     pub(crate) links: Links,
-    // of a search: the copies seen, by copy 1 plus the asking copy, and the copies to ask
+    // of a search: copies seen, by copy 1 plus the asking copy, and copies to ask
     seen: Vec<u64>,
     asked_by: Vec<u32>,
     queue: Vec<u32>,
@@ -41,7 +41,7 @@ impl Matching {
         })
     }
 
-    /// Lets the copy follow an earlier one, if possible by relinking others.
+    /// Lets the copy follow an earlier one, maybe by relinking others.
     pub(crate) fn link(&mut self, before: &EarlierCopies, copy: usize) -> Result<(), Refusal> {
         self.spent = 0;
         self.queue.clear();
@@ -65,7 +65,7 @@ impl Matching {
         Ok(())
     }
 
-    // Asks a word's unseen earlier copies. Returns the first that is free.
+    // Asks a word's unseen earlier copies. Returns the first free one.
     fn ask(
         &mut self,
         before: &EarlierCopies,
@@ -95,7 +95,7 @@ impl Matching {
         Ok(None)
     }
 
-    // Links each asking copy to the one asked, back to the first.
+    // Links each asker to the asked copy, back to the first.
     fn turn_over(&mut self, free: u32) {
         let mut copy = free;
         for turn in 0..self.asked_by.len() {

@@ -1,4 +1,4 @@
-//! Which steps of a plan must come before which.
+//! The order that the checker needs.
 
 use crate::paths::Paths;
 use crate::stays::{Stay, Stays};
@@ -8,7 +8,7 @@ use ring_names::{NodeId, Refusal, Slot};
 use ring_table::Ring;
 use std::alloc::Global;
 
-/// Asks for the paths that the checker's clauses need.
+/// Asks for the paths that the checker needs.
 #[derive(Drop)]
 pub(crate) struct ClauseNeeds<'a> {
     ring: &'a Ring,
@@ -69,7 +69,7 @@ impl<'a> ClauseNeeds<'a> {
         paths.need(last.saturating_sub(1), number)
     }
 
-    // A mirror follows its node's join, and the node's switches away from other slots of the partition.
+    // A mirror follows its node's join and switches away from the partition's other slots.
     fn mirror(
         &self,
         paths: &mut Paths,

@@ -1,4 +1,4 @@
-//! The fewest chains that a plan's order allows.
+//! The fewest chains.
 
 use crate::links::Links;
 use crate::looks::Looks;
@@ -9,19 +9,19 @@ use plan_text::Plan;
 use ring_names::{Refusal, Rows};
 use std::alloc::Global;
 
-// The most words of all bit sets, 200 MB. Accepted plans need no more if the looks suffice.
+// The most words of all bit sets, 200 MB. Accepted plans need no more if looks suffice.
 const MOST_WORDS: usize = 25_000_000;
 
-/// A plan's order, and the looks that are left.
+/// A plan's order, and the looks left.
 #[derive(Drop)]
 pub struct Order<'a> {
     plan: &'a Plan,
     looks: Looks,
     // by step, a word's copies that come before it or are it
     masks: Vec<u64>,
-    // by 64 steps, those whose dependencies are not yet followed
+    // by 64 steps, those with dependencies still to follow
     marks: Vec<u64>,
-    // by step, 1 plus its place among the copies if it ends a chain, or 0
+    // by step, 1 plus its place among copies if it ends a chain, or 0
     lasts: Vec<u32>,
     // by step, its run's first step
     runs: Vec<u32>,
@@ -47,18 +47,18 @@ impl<'a> Order<'a> {
         })
     }
 
-    /// Returns the fewest chains of ascending copies. None if the looks do not suffice.
+    /// The fewest chains of ascending copies. None if looks do not suffice.
     ///
-    /// It equals the most transfers that any order of the plan opens at once (Dilworth 1950).
+    /// Equals the most transfers that any order of the plan opens at once (Dilworth 1950).
     pub fn fewest(&mut self, alloc: Global, copies: &[u32]) -> Result<Option<u32>, Refusal> {
         let links = self.links(alloc, copies, 1)?;
         Ok(links.map(|links| links.count()))
     }
 
-    /// Returns one chain for each run of a slot's copies, if at most `enough`.
+    /// Returns a chain for each run of a slot's copies, if at most `enough`.
     ///
-    /// Otherwise returns the fewest, by a matching of copies with later ones (Fulkerson 1956). None if the looks do not
-    /// suffice. Chains are ordered by first copy.
+    /// Otherwise the fewest, by matching copies with later ones (Fulkerson 1956). None if looks do not suffice. Chains
+    /// are ordered by first copy.
     pub fn chains(
         &mut self,
         alloc: Global,
@@ -72,7 +72,7 @@ impl<'a> Order<'a> {
         })
     }
 
-    /// Returns chains by a first fit along direct dependencies. Costs a look at each dependency of a copy.
+    /// Chains by a first fit along direct dependencies. Costs a look at each dependency of a copy.
     pub fn direct(&mut self, alloc: Global, copies: &[u32]) -> Result<Rows, Refusal> {
         self.fit(alloc, copies, LinkRule::Direct)?
             .chains(alloc, copies)
@@ -160,7 +160,7 @@ impl<'a> Order<'a> {
         copies.len().saturating_mul(words) <= MOST_WORDS && self.looks.spend(looks)
     }
 
-    // The copies and all their dependencies from the first copy on, the last first.
+    // The copies and their dependencies from the first copy on, the last first.
     fn awaited_steps(&mut self, alloc: Global, copies: &[u32]) -> Result<Vec<u32>, Refusal> {
         let mut steps = Vec::new(alloc);
         let (first, last) = (at(copies, 0), copies.last().copied().unwrap_or(0));
@@ -194,7 +194,7 @@ impl<'a> Order<'a> {
         Some(small(number).saturating_mul(64).saturating_add(bit))
     }
 
-    // Finds, in one pass, a word's copies that come before each copy.
+    // Finds, in one pass, a word's copies before each copy.
     fn pass(&mut self, before: &mut EarlierCopies, steps: &[u32], number: usize) {
         let first = at(before.copies, 0);
         let (mut place, mut bit) = (0usize, 1u64);

@@ -8,12 +8,12 @@ use ring_names::{Refusal, Rows};
 use std::alloc::Global;
 use std::collections::BTreeSet;
 
-// The most facts of a certificate, and the most steps of a fact.
+// The most facts of a certificate, and steps of a fact.
 const MOST_FACTS: usize = 262_144;
 
 const MOST_STEPS: usize = 1024;
 
-// The looks for a search, and for each step of a kept path. They bound what is kept.
+// The looks for a search, and for a kept path's steps. They bound what is kept.
 const SEARCH: u64 = 64;
 
 const STEP: u64 = 4;
@@ -52,7 +52,7 @@ impl<'a> Paths<'a> {
         self.looks.spend(1)
     }
 
-    /// Finds a path to a later step, if needed and new. Paths over 1,024 steps, or beyond the looks, are left out.
+    /// Finds a path to a later step, if needed and new. Leaves out paths over 1,024 steps, or beyond the looks.
     pub(crate) fn need(&mut self, first: u32, last: u32) -> Result<(), Refusal> {
         let plan = self.plan;
         if first >= last || last >= plan.len() || plan.depends(first, last) {
@@ -84,7 +84,6 @@ impl<'a> Paths<'a> {
         Ok(false)
     }
 
-    // Returns whether the first step is a dependency.
     fn ask(&mut self, step: u32, first: u32) -> Result<bool, Refusal> {
         let plan = self.plan;
         if step >= plan.len() {

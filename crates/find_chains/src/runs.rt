@@ -1,4 +1,4 @@
-//! Steps of one slot, in a row by direct dependencies.
+//! Runs of steps.
 
 ghost use Rattle.std.specs.Prelude.{◌<◌, length};
 
@@ -7,7 +7,7 @@ use plan_text::{Plan, Step};
 use ring_names::{Refusal, Slot};
 use std::alloc::Global;
 
-/// Returns, by step, its run's first step. Costs two binary searches for each step.
+/// By step, its run's first step. Costs two binary searches a step.
 ///
 /// In a run, each step depends directly on the slot's previous step.
 pub(crate) fn runs_of(alloc: Global, plan: &Plan) -> Result<Vec<u32>, Refusal> {
@@ -34,7 +34,7 @@ fn awaited_of_slot(plan: &Plan, number: u32) -> Option<u32>
     }
 }
 
-/// Returns the step's slot, if it has one.
+/// The step's slot, if any.
 pub fn slot_of(step: &Step) -> Option<Slot> {
     match step {
         Step::Mirror(slot, _) | Step::Copy(slot, _) | Step::Switch(slot) | Step::Drop(slot, _) =>

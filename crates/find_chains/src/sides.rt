@@ -1,4 +1,4 @@
-//! The copies of each side of each node.
+//! Sides of nodes.
 
 use crate::stays::Stays;
 use helpers::{at, set, small};
@@ -10,7 +10,7 @@ use std::alloc::Global;
 /// The copies of each side, ascending.
 #[derive(Drop)]
 pub struct Sides {
-    // at twice the node's number, copies to it, or all if joint; at the next place, copies from a split node
+    // at twice the node's number, copies to it, or all if joint; next, copies from a split node
     lists: Vec<Vec<u32>>,
     // by node, whether its allowance has two numbers
     split: Vec<bool>,
@@ -45,7 +45,7 @@ impl Sides {
         Ok(sides)
     }
 
-    // The slot's mirror takes, and the owners of the slots read give.
+    // The slot's mirror takes; owners of read slots give.
     fn copy(
         &mut self,
         stays: &Stays,
@@ -95,7 +95,7 @@ impl Sides {
         Ok(())
     }
 
-    /// Returns the copies of the node's side.
+    /// The copies of the node's side.
     pub fn copies(&self, of: NodeSide) -> &[u32] {
         match self.lists.get(self.place(of.node.0, of.side)) {
             Some(list) => list.as_slice(),
@@ -104,7 +104,7 @@ impl Sides {
     }
 }
 
-/// Returns the node's sides, each with its most open transfers.
+/// The node's sides, each with its most open transfers.
 pub fn sides_of(ring: &Ring, number: usize) -> [Option<(NodeSide, u32)>; 2] {
     let node = NodeId(small(number));
     match ring.nodes().get(number) {

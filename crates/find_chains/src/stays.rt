@@ -1,4 +1,4 @@
-//! Which nodes serve each slot during a plan.
+//! Which nodes serve slots.
 
 use helpers::{at, place_of, set, small};
 use plan_text::Step;
@@ -12,21 +12,21 @@ use std::collections::BTreeMap;
 pub struct Stay {
     pub slot: Slot,
     pub node: u32,
-    /// The mirror that began it. None if the node owned the slot at first.
+    /// The mirror that began it. None for a first owner.
     pub begun: Option<u32>,
     /// The switch that ended it.
     pub left: Option<u32>,
-    /// The node's first drop at the slot after the beginning.
+    /// The node's first drop at the slot after that.
     pub dropped: Option<u32>,
-    /// The node's previous stay at the slot, by place.
+    /// By place, the node's previous stay there.
     pub same_before: Option<usize>,
-    /// The node's previous stay at any slot, by place.
+    /// By place, the node's previous stay anywhere.
     pub node_before: Option<usize>,
 }
 
-/// All stays: those of the ring's owners by slot, then the mirrors'.
+/// All stays: first owners' by slot, then the mirrors'.
 ///
-/// A step costs a look-up among the nodes that mirrored its slot.
+/// A step costs a look-up among its slot's mirrors so far.
 #[derive(Drop)]
 pub struct Stays {
     all: Vec<Stay>,
@@ -157,12 +157,12 @@ impl Stays {
         self.all.len()
     }
 
-    /// Returns the stay at the place.
+    /// The stay at the place.
     pub fn stay(&self, place: Option<usize>) -> Option<Stay> {
         self.all.get(place?).copied()
     }
 
-    /// Returns the node's latest stay at the slot, by place.
+    /// The place of the node's latest stay there.
     pub fn latest_at(&self, slot: Slot, node: u32) -> Option<usize> {
         let latest = self.latest.get(&(slot, node)).copied();
         latest.or(self.first_at(slot, node))
@@ -177,23 +177,23 @@ impl Stays {
         }
     }
 
-    /// Returns the place of the node's latest stay.
+    /// The place of the node's latest stay.
     pub fn latest_of(&self, node: u32) -> Option<usize> {
         place(at(self.by_node.as_slice(), node as usize))
     }
 
-    /// Returns the mirror's stay, by place.
+    /// The mirror's stay, by place.
     pub fn mirror_at(&self, slot: Slot) -> Option<usize> {
         place(at(self.mirrors.as_slice(), place_of(slot)))
     }
 
-    /// Returns the slot's owner.
+    /// The slot's owner.
     pub fn owner(&self, slot: Slot) -> Option<u32> {
         let place = place(at(self.owners.as_slice(), place_of(slot)));
         Some(self.stay(place)?.node)
     }
 
-    /// Returns the slot's mirror.
+    /// The slot's mirror.
     pub fn mirror(&self, slot: Slot) -> Option<u32> {
         Some(self.stay(self.mirror_at(slot))?.node)
     }

@@ -5,16 +5,16 @@ use ring_names::Refusal;
 use ring_table::{Allowance, Ring};
 use std::alloc::Global;
 
-/// Each node's copies from it and to it. With one allowance, the first count has both.
+/// Each node's copies from it and to it. If joint, the first count has both.
 #[derive(Drop)]
 pub struct Copies {
-    // by count, the allowance; 0 for an unused second count
+    // by count, the allowance; 0 if unused
     most: Vec<u32>,
     counts: Vec<u32>,
 }
 
 impl Copies {
-    /// Starts without nodes.
+    /// Starts empty.
     pub fn new(alloc: Global) -> Copies {
         Copies {
             most: Vec::new(alloc),
@@ -22,7 +22,7 @@ impl Copies {
         }
     }
 
-    /// Adds the ring's nodes, without copies.
+    /// Adds the ring's nodes.
     pub fn fill(&mut self, ring: &Ring) -> Result<(), Refusal> {
         for node in ring.nodes() {
             let (give, take) = match node.allowance {
@@ -83,12 +83,12 @@ impl Copies {
         }
     }
 
-    /// Returns the allowance's use with one more copy to the node, in 64ths.
+    /// The allowance's use with one more copy to the node, in 64ths.
     pub fn taking(&self, node: u32) -> u32 {
         self.crowd(self.taker(node))
     }
 
-    /// Returns the allowance's use with one more copy from the node, in 64ths.
+    /// The allowance's use with one more copy from the node, in 64ths.
     pub fn giving(&self, node: u32) -> u32 {
         self.crowd(self.giver(node))
     }

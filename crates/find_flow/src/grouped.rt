@@ -4,7 +4,7 @@ use helpers::{at, raise, set, small, swap};
 use ring_names::Refusal;
 use std::alloc::Global;
 
-/// Numbers in groups: count them first, then make room, then put each.
+/// Numbers in groups: count all, make room, then put each.
 #[derive(Drop)]
 pub struct Grouped {
     // each group's start, and the last one's end
@@ -15,7 +15,7 @@ pub struct Grouped {
 }
 
 impl Grouped {
-    /// Starts without groups.
+    /// Starts empty.
     pub fn new(alloc: Global) -> Grouped {
         Grouped {
             starts: Vec::new(alloc),
@@ -30,7 +30,7 @@ impl Grouped {
         Ok(())
     }
 
-    /// Counts one more number of the group.
+    /// Counts a number of the group.
     pub fn count(&mut self, group: usize) {
         raise(&mut self.starts, group.saturating_add(1));
     }
@@ -54,17 +54,17 @@ impl Grouped {
         raise(&mut self.ends, group);
     }
 
-    /// Returns the group's first place.
+    /// The group's first place.
     pub fn start(&self, group: usize) -> usize {
         at(&self.starts, group) as usize
     }
 
-    /// Returns the place after the group.
+    /// The place after the group.
     pub fn end(&self, group: usize) -> usize {
         at(&self.ends, group) as usize
     }
 
-    /// Returns the number at the place.
+    /// The number at the place.
     pub fn item(&self, place: usize) -> u32 {
         at(&self.items, place)
     }
@@ -79,7 +79,7 @@ impl Grouped {
         set(&mut self.ends, group, small(end));
     }
 
-    /// Undoes all cuts of a full group.
+    /// Undoes a full group's cuts.
     pub fn restore(&mut self, group: usize) {
         let end = at(&self.starts, group.saturating_add(1));
         set(&mut self.ends, group, end);

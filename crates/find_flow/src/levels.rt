@@ -44,7 +44,7 @@ fn find_level(
     Ok(())
 }
 
-/// Finds the levels of all joining members.
+/// Finds all joining members' levels.
 pub fn find_levels(alloc: Global, seats: &Seats, search: &mut PathSearch) -> Result<(), Refusal> {
     let mut levels = vec![in alloc; 0u32; seats.members.count() as usize]?;
     for node in 0..seats.members.count() {

@@ -1,4 +1,4 @@
-//! Searches owners for slots by handing slots on along paths. Only that it returns is proved.
+//! Hands slots on along paths to find owners. Only that it returns is proved.
 #![tactic(auto)]
 
 mod copies;

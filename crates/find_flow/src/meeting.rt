@@ -1,8 +1,8 @@
 //! The members that a search meets.
 //!
-//! A search goes backwards: from a member that needs a slot, to members that could hand one over, and so on. A
-//! hand-over is free if both nodes would own a slot of the partition by a move, or both owned one before. A path stays
-//! within one level. A slot that did not move is on level 1, another on its owner's level.
+//! A search goes backwards, from a member that needs a slot to members that could hand one over. A hand-over is free if
+//! both nodes would own a slot of the partition by a move, or both owned one before. A path stays within one level. An
+//! unmoved slot is on level 1, another on its owner's level.
 
 use crate::members::Role;
 use crate::seats::Seats;
@@ -10,15 +10,15 @@ use helpers::{NONE, at, set, small};
 use ring_names::Refusal;
 use std::alloc::Global;
 
-// How many slots and partitions all searches may look at.
+// The looks of all searches at slots and partitions.
 const LOOKS: u32 = 80_000_000;
 
-/// The purpose of a search.
+/// A search's purpose.
 #[derive(Clone, Copy, PartialEq, Eq)]
 pub enum SearchAim {
     /// Gives a joining member its part.
     Part,
-    /// Improves the balance, without further moves or smaller parts.
+    /// Balances without further moves or smaller parts.
     Balance,
 }
 
@@ -29,11 +29,11 @@ pub struct Link {
     pub partition: usize,
 }
 
-/// The members met, and what stays between searches.
+/// The members met, and what searches share.
 #[derive(Drop)]
 pub struct Meeting {
     aim: SearchAim,
-    /// The member that needs a slot.
+    /// The member in need.
     pub first: u32,
     /// The first giver met.
     pub found: Option<u32>,
@@ -64,7 +64,7 @@ impl Meeting {
         }
     }
 
-    /// Sets the level of joining nodes, and 0 for others. Freezes none.
+    /// Sets joining nodes' level; others have 0. Freezes none.
     pub fn set_levels(&mut self, alloc: Global, seats: &Seats, level: u32) -> Result<(), Refusal> {
         let count = seats.members.count() as usize;
         self.levels = vec![in alloc; 0u32; count]?;
@@ -84,7 +84,7 @@ impl Meeting {
         Ok(())
     }
 
-    /// Returns the node's level.
+    /// The node's level.
     pub fn level(&self, node: u32) -> u32 {
         at(&self.levels, node as usize)
     }
@@ -94,7 +94,7 @@ impl Meeting {
         set(&mut self.levels, node as usize, level);
     }
 
-    /// Returns a slot's level.
+    /// A slot's level.
     pub fn level_at(&self, seats: &Seats, place: usize) -> u32 {
         let node = seats.now(place);
         if node == seats.first(place) {
@@ -133,7 +133,7 @@ impl Meeting {
         self.looks = self.looks.saturating_sub(looks);
     }
 
-    /// Spends a look. Returns whether the search goes on.
+    /// Spends a look. Returns whether to go on.
     pub fn look(&mut self) -> bool {
         self.spend(1);
         !self.is_over()
@@ -158,7 +158,7 @@ impl Meeting {
             && seats.give_price(node) > seats.take_price(self.first)
     }
 
-    /// Meets a new member that can hand over a slot.
+    /// Meets a new member that can give a slot.
     pub fn meet(&mut self, seats: &Seats, node: u32, link: Link) -> Result<(), Refusal> {
         let place = node as usize;
         let is_known = node == self.first || at(&self.to, place) != NONE;
@@ -174,7 +174,7 @@ impl Meeting {
         Ok(())
     }
 
-    /// Meets owners on the level that could hand the link's node a slot.
+    /// Meets the level's owners that could give the link's node a slot.
     pub fn meet_all(&mut self, seats: &Seats, link: Link, level: u32) -> Result<(), Refusal> {
         let rack = seats.members.racks.of(link.to);
         let has_room = seats.has_room(link.partition, rack);
@@ -193,7 +193,7 @@ impl Meeting {
         Ok(())
     }
 
-    /// Returns the node's receiver and partition.
+    /// The node's receiver and partition.
     pub fn link(&self, node: u32) -> Link {
         Link {
             to: at(&self.to, node as usize),

@@ -1,4 +1,4 @@
-//! What a wish means for each node.
+//! The roles of nodes.
 
 use crate::racks::Racks;
 use crate::wish::WishedChange;
@@ -12,29 +12,29 @@ use std::alloc::Global;
 pub enum Role {
     /// Neither a member nor joining.
     Absent,
-    /// A member that stays.
+    /// A staying member.
     Stays,
     Joins,
-    /// A member that leaves.
+    /// A leaving member.
     Leaves,
 }
 
-/// The roles, weights and racks of all nodes.
+/// The roles, weights and racks of nodes.
 #[derive(Drop)]
 pub struct Members {
     roles: Vec<Role>,
     weights: Vec<u32>,
     // by joining node, its due slots, rounded down
     parts: Vec<u32>,
-    // the number of members in the end
+    // the final number of members
     after: u32,
-    /// The total weight of the members in the end.
+    /// The final members' total weight.
     pub weight: u32,
     pub racks: Racks,
 }
 
 impl Members {
-    /// Starts without nodes.
+    /// Starts empty.
     pub fn new(alloc: Global) -> Members {
         Members {
             roles: Vec::new(alloc),
@@ -46,8 +46,8 @@ impl Members {
         }
     }
 
-    /// Sets the roles. Fails with `NoPlan` if a joining node is a member or undeclared, a leaving one is not a member,
-    /// or too few members remain.
+    /// Sets the roles. Fails with `NoPlan` if a joining node is a member or undeclared, a leaving node is not a member,
+    /// or too few remain.
     pub fn begin(
         &mut self,
         alloc: Global,
@@ -98,7 +98,7 @@ impl Members {
         Ok(())
     }
 
-    /// Returns the node's role.
+    /// The node's role.
     pub fn role(&self, node: u32) -> Role {
         match self.roles.get(node as usize) {
             Some(role) => *role,
@@ -106,18 +106,18 @@ impl Members {
         }
     }
 
-    /// Whether the node is a member in the end.
+    /// Whether the node is a final member.
     pub fn is_after(&self, node: u32) -> bool {
         let role = self.role(node);
         role == Role::Stays || role == Role::Joins
     }
 
-    /// Returns the node's weight.
+    /// The node's weight.
     pub fn weight(&self, node: u32) -> u32 {
         at(&self.weights, node as usize)
     }
 
-    /// Returns a joining node's due slots; 0 for others.
+    /// A joining node's due slots; 0 for others.
     pub fn part(&self, node: u32) -> u32 {
         at(&self.parts, node as usize)
     }

@@ -1,7 +1,7 @@
 //! Mends owners along paths: joining members get their parts with the fewest moves, then the balance is optimized.
 //!
-//! This is a flow of least cost: each move is a cost, and the balance is a convex cost of each member. A cheapest path
-//! keeps the cost minimal. When no path is left, the balance is optimal.
+//! This is a least-cost flow: moves cost, and the balance is a convex cost of each member. A cheapest path keeps the
+//! cost minimal. When no path is left, the balance is optimal.
 
 use crate::levels::find_levels;
 use crate::meeting::SearchAim;
@@ -11,7 +11,7 @@ use helpers::{set_word, word};
 use ring_names::Refusal;
 use std::alloc::Global;
 
-// Gives the node its missing slots while paths lead there.
+// Gives the node missing slots while paths lead there.
 fn raise(
     alloc: Global,
     seats: &mut Seats,
@@ -30,7 +30,7 @@ fn raise(
     Ok(())
 }
 
-/// Gives joining members their parts by paths of the level. Level 0 needs no further move, level 1 needs one.
+/// Gives joining members their parts by the level's paths. Level 0 needs no further move, level 1 one.
 pub fn raise_all(
     alloc: Global,
     seats: &mut Seats,
@@ -61,7 +61,6 @@ fn gains(alloc: Global, seats: &Seats, search: &PathSearch) -> Result<Vec<u64>, 
     Ok(gains)
 }
 
-// Whether one slot more may improve the balance.
 fn takes_part(seats: &Seats, search: &PathSearch, node: u32) -> bool {
     if !seats.members.is_after(node) || search.meeting.is_frozen(node) {
         return false;
@@ -70,7 +69,7 @@ fn takes_part(seats: &Seats, search: &PathSearch, node: u32) -> bool {
     level == 0 || (level == 2 && seats.wants(node))
 }
 
-// The emptiest member by weight that a fuller one could give a slot.
+// The emptiest member by weight that can get a fuller member's slot.
 fn poorest(seats: &Seats, search: &PathSearch, gains: &[u64]) -> Option<u32> {
     let mut found: Option<u32> = None;
     for node in 0..seats.members.count() {

@@ -1,4 +1,4 @@
-//! Slots that a search may still use.
+//! Slots that a search may use.
 
 use crate::grouped::Grouped;
 use crate::meeting::{Link, Meeting};
@@ -7,17 +7,17 @@ use helpers::{at, set, small, swap};
 use ring_names::Refusal;
 use std::alloc::Global;
 
-/// The slots of one level, by rack and by partition. A search uses each once: further visits would meet no new member.
+/// One level's slots, by rack and by partition. A search uses each once: later visits would meet no new member.
 #[derive(Drop)]
 pub struct Offers {
     level: u32,
     // whether the lists are current
     is_known: bool,
-    // slots, without those of frozen owners
+    // slots, but not frozen owners'
     places: Vec<u32>,
-    // the same slots by rack; a rack's group ends before the used ones
+    // these slots by rack; a rack's group ends before the used ones
     by_rack: Grouped,
-    // the slots' partitions, unused ones first
+    // their partitions, unused ones first
     partitions: Vec<u32>,
     unused: usize,
     // by rack, 1 if its partitions were searched
@@ -29,7 +29,7 @@ pub struct Offers {
 }
 
 impl Offers {
-    /// Starts without slots.
+    /// Starts empty.
     pub fn new(alloc: Global, level: u32) -> Offers {
         Offers {
             level,
@@ -49,7 +49,7 @@ impl Offers {
         self.is_known = false;
     }
 
-    /// Ends a search: all slots are unused again.
+    /// Makes all slots unused again.
     pub fn close(&mut self) {
         for rack in self.touched.iter() {
             self.by_rack.restore(*rack as usize);
@@ -102,7 +102,7 @@ impl Offers {
         Ok(())
     }
 
-    /// Makes the lists ready for a search.
+    /// Prepares the lists.
     pub fn open(
         &mut self,
         alloc: Global,
@@ -118,7 +118,7 @@ impl Offers {
         self.sort(alloc, seats)
     }
 
-    /// Removes the slots of frozen owners.
+    /// Removes frozen owners' slots.
     pub fn prune(
         &mut self,
         alloc: Global,

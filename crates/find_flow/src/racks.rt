@@ -1,29 +1,29 @@
 //! Racks, and how many slots of a partition each may have.
 //!
-//! An even spread has the fewest pairs in one rack: `level` slots in each, or as many as its members if these are
-//! fewer. Some racks have one slot more.
+//! An even spread has the fewest pairs in one rack: `level` slots in each, or one for each member if these are fewer.
+//! Some racks have one slot more.
 
 use helpers::{at, raise, set, small};
 use ring_names::Refusal;
 use std::alloc::Global;
 
-/// The racks of all nodes, numbered from 0.
+/// All nodes' racks, numbered from 0.
 #[derive(Drop)]
 pub struct Racks {
     of: Vec<u32>,
     /// The nodes, rack by rack.
     pub order: Vec<u32>,
-    // by node, its place in that order
+    // by node, its place there
     turns: Vec<u32>,
     // each rack's first place, and the last one's end
     firsts: Vec<u32>,
-    // by rack, its members in the end
+    // by rack, its final members
     counts: Vec<u32>,
-    /// The racks with members in the end. If the level is not 0, at most as many as a partition's slots.
+    /// The racks with final members. If the level is not 0, at most as many as a partition's slots.
     pub with_members: Vec<u32>,
-    /// The fewest slots of a partition in a rack with enough members.
+    /// A partition's fewest slots in a rack with enough members.
     pub level: u32,
-    /// How many racks have one slot more.
+    /// How many racks have one more.
     pub above: u32,
 }
 
@@ -41,7 +41,7 @@ fn keyed(alloc: Global, racks: &[u32], nodes: u32) -> Result<Vec<(u64, u32)>, Re
 }
 
 impl Racks {
-    /// Starts without nodes.
+    /// Starts empty.
     pub fn new(alloc: Global) -> Racks {
         Racks {
             of: Vec::new(alloc),
@@ -55,7 +55,7 @@ impl Racks {
         }
     }
 
-    /// Sets the racks of the nodes, without members yet.
+    /// Sets the nodes' racks, without members.
     pub fn fill(&mut self, alloc: Global, racks: &[u32], nodes: u32) -> Result<(), Refusal> {
         self.of = vec![in alloc; 0u32; nodes as usize]?;
         self.turns = vec![in alloc; 0u32; nodes as usize]?;
@@ -75,13 +75,12 @@ impl Racks {
         Ok(())
     }
 
-    /// Adds the node to the members in the end.
+    /// Adds the node to the final members.
     pub fn add(&mut self, node: u32) {
         let rack = self.of(node);
         raise(&mut self.counts, rack);
     }
 
-    // How many slots fit at the level.
     fn sum(&self, level: u32) -> u32 {
         let mut sum = 0u32;
         for count in self.counts.iter() {
@@ -111,28 +110,28 @@ impl Racks {
         self.counts.len()
     }
 
-    /// Returns the node's rack.
+    /// The node's rack.
     pub fn of(&self, node: u32) -> usize {
         at(&self.of, node as usize) as usize
     }
 
-    /// Returns the node's place by racks.
+    /// The node's place by racks.
     pub fn turn(&self, node: u32) -> u32 {
         at(&self.turns, node as usize)
     }
 
-    /// Returns the rack's first place and its end.
+    /// The rack's first place and its end.
     pub fn span(&self, rack: usize) -> (u32, u32) {
         let first = at(&self.firsts, rack);
         (first, at(&self.firsts, rack.saturating_add(1)))
     }
 
-    /// Returns the fewest slots of a partition in the rack in the end.
+    /// A partition's fewest final slots in the rack.
     pub fn least(&self, rack: usize) -> u32 {
         at(&self.counts, rack).min(self.level)
     }
 
-    /// Returns the most slots of a partition in the rack in the end.
+    /// A partition's most final slots in the rack.
     pub fn most(&self, rack: usize) -> u32 {
         at(&self.counts, rack).min(self.level.saturating_add(1))
     }

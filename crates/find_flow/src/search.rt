@@ -1,4 +1,4 @@
-//! Searches paths along which slots are handed on.
+//! Searches for paths.
 
 use crate::meeting::{Link, Meeting, SearchAim};
 use crate::members::Role;
@@ -7,7 +7,7 @@ use crate::seats::Seats;
 use ring_names::Refusal;
 use std::alloc::Global;
 
-/// The state of consecutive searches.
+/// The state of searches.
 #[derive(Drop)]
 pub struct PathSearch {
     pub meeting: Meeting,
@@ -15,7 +15,7 @@ pub struct PathSearch {
 }
 
 impl PathSearch {
-    /// Starts without levels.
+    /// Starts empty.
     pub fn new(alloc: Global) -> PathSearch {
         PathSearch {
             meeting: Meeting::new(alloc),
@@ -40,7 +40,7 @@ impl PathSearch {
         }
     }
 
-    /// Sets the level of joining nodes, and 0 for others. Freezes none.
+    /// Sets levels as `Meeting` does.
     pub fn set_levels(&mut self, alloc: Global, seats: &Seats, level: u32) -> Result<(), Refusal> {
         self.forget();
         self.meeting.set_levels(alloc, seats, level)

@@ -1,4 +1,4 @@
-//! The owner of each slot, before and after.
+//! Owners, before and after.
 
 use crate::copies::Copies;
 use crate::grouped::Grouped;
@@ -9,28 +9,28 @@ use ring_names::Refusal;
 use ring_table::Ring;
 use std::alloc::Global;
 
-/// The owner of each slot. Places go partition by partition, then by index.
+/// Each slot's owner. Places go by partition, then by index.
 #[derive(Drop)]
 pub struct Seats<'a> {
     pub members: &'a Members,
-    /// The number of partitions, and of slots in each.
+    /// The partitions, and the slots in each.
     pub partitions: usize,
     pub slots: usize,
     // by place, the owner before
     first: Vec<u32>,
-    // by place, the owner now, or `NONE`
+    // by place, the owner or `NONE`
     now: Vec<u32>,
-    // the places that each node owned before
+    // each node's former places
     owned: Grouped,
-    // by node, how many slots it owns now
+    // by node, its current slots
     load: Vec<u32>,
     copies: Copies,
-    /// The sizes of partitions, if known.
+    /// The partitions' sizes, if known.
     pub volumes: NodeVolumes,
 }
 
 impl<'a> Seats<'a> {
-    /// Starts without slots.
+    /// Starts empty.
     pub fn new(alloc: Global, ring: &Ring, members: &'a Members) -> Seats<'a> {
         Seats {
             members,
@@ -45,7 +45,7 @@ impl<'a> Seats<'a> {
         }
     }
 
-    /// Sets the sizes of partitions.
+    /// Sets the partitions' sizes.
     pub fn measure(&mut self, alloc: Global, sizes: &[u64]) -> Result<(), Refusal> {
         let nodes = self.members.count() as usize;
         self.volumes.fill(alloc, sizes, self.partitions, nodes)
@@ -92,12 +92,12 @@ impl<'a> Seats<'a> {
         self.first.len()
     }
 
-    /// Returns the slot's place.
+    /// The slot's place.
     pub fn place(&self, partition: usize, index: usize) -> usize {
         partition.saturating_mul(self.slots).saturating_add(index)
     }
 
-    /// Returns the place's partition.
+    /// The place's partition.
     pub fn partition(&self, place: usize) -> usize {
         match place.checked_div(self.slots) {
             Some(partition) => partition,
@@ -105,12 +105,12 @@ impl<'a> Seats<'a> {
         }
     }
 
-    /// Returns the owner before.
+    /// The former owner.
     pub fn first(&self, place: usize) -> u32 {
         at(&self.first, place)
     }
 
-    /// Returns the owner now.
+    /// The current owner.
     pub fn now(&self, place: usize) -> u32 {
         at(&self.now, place)
     }
@@ -121,7 +121,7 @@ impl<'a> Seats<'a> {
         self.owned.end(node).saturating_sub(self.owned.start(node))
     }
 
-    /// Returns the place of a former slot.
+    /// The place of a former slot.
     pub fn owned(&self, node: u32, turn: usize) -> usize {
         let start = self.owned.start(node as usize);
         self.owned.item(start.saturating_add(turn)) as usize
@@ -165,7 +165,7 @@ impl<'a> Seats<'a> {
         false
     }
 
-    /// Returns the rack of the slot's owner.
+    /// The owner's rack.
     pub fn rack_at(&self, place: usize) -> Option<usize> {
         match self.now(place) {
             NONE => None,
@@ -229,13 +229,13 @@ impl<'a> Seats<'a> {
         }
     }
 
-    /// Returns the node's place in the partition now.
+    /// The node's current place in the partition.
     pub fn place_now(&self, partition: usize, node: u32) -> Option<usize> {
         let (start, slots) = (self.place(partition, 0), self.slots);
         found(&self.now, start, slots, node)
     }
 
-    /// Returns the node's former place in the partition.
+    /// The node's former place in the partition.
     pub fn place_before(&self, partition: usize, node: u32) -> Option<usize> {
         let (start, slots) = (self.place(partition, 0), self.slots);
         found(&self.first, start, slots, node)
@@ -258,7 +258,7 @@ impl<'a> Seats<'a> {
             || (self.members.role(node) == Role::Joins && self.volumes.size(partition) > 0)
     }
 
-    // A former owner gets its own slot of the partition again.
+    // A former owner regains its own slot of the partition.
     fn replace(&mut self, place: usize, node: u32) {
         let own = self.place_before(self.partition(place), node);
         self.vacate(place);
@@ -285,7 +285,7 @@ impl<'a> Seats<'a> {
         true
     }
 
-    /// Swaps two slots' owners. Loads stay, but indexes may change.
+    /// Swaps two owners. Loads stay; indexes may change.
     pub fn exchange(&mut self, one: usize, other: usize) {
         swap(&mut self.now, one, other);
     }
@@ -299,7 +299,7 @@ impl<'a> Seats<'a> {
         }
     }
 
-    /// Puts each owner back at its former index.
+    /// Puts owners back at their former indexes.
     pub fn align_all(&mut self) {
         for partition in 0..self.partitions {
             self.align(partition);
@@ -311,24 +311,24 @@ impl<'a> Seats<'a> {
         at(&self.load, node as usize)
     }
 
-    /// Returns what one slot more costs the balance, in parts of 2^32. Equal only if the exact quotients are.
+    /// The balance's cost of one more slot, in parts of 2^32. Equal only if the exact quotients are.
     pub fn take_price(&self, node: u32) -> u64 {
         let twice = u64::from(self.load(node)).saturating_mul(2);
         price(twice.saturating_add(1), self.members.weight(node))
     }
 
-    /// Returns what one slot fewer gains the balance.
+    /// The balance's gain from one slot fewer.
     pub fn give_price(&self, node: u32) -> u64 {
         let twice = u64::from(self.load(node)).saturating_mul(2);
         price(twice.saturating_sub(1), self.members.weight(node))
     }
 
-    /// Returns the allowance's use with one more copy to the node.
+    /// The allowance's use with one more copy to the node.
     pub fn taking(&self, node: u32) -> u32 {
         self.copies.taking(node)
     }
 
-    /// Returns the allowance's use with one more copy from the node.
+    /// The allowance's use with one more copy from the node.
     pub fn giving(&self, node: u32) -> u32 {
         self.copies.giving(node)
     }

@@ -1,4 +1,4 @@
-//! Sizes of partitions, and what nodes store.
+//! Stored sizes.
 
 use crate::members::{Members, Role};
 use helpers::{at, set_word, word};
@@ -9,16 +9,16 @@ use std::alloc::Global;
 // parts.
 const PARTS: u64 = 64;
 
-// Above all differences of two loads by weight.
+// Above all differences of loads by weight.
 const MIDDLE: i64 = 4_611_686_018_427_387_904;
 
-/// What each node stores, and should store. Empty without sizes.
+/// Each node's stored and due size. Empty without sizes.
 #[derive(Drop)]
 pub struct NodeVolumes {
     are_asked: bool,
     // by partition, in units of a power of two
     sizes: Vec<u32>,
-    // how much rounding adds at most to one slot of each partition
+    // the most that rounding adds to one slot of each partition
     slack: u64,
     // by node, in parts
     loads: Vec<u64>,
@@ -89,7 +89,7 @@ impl<'a> Level<'a> {
         sum
     }
 
-    // Finds the least level at which staying members store that much.
+    // Finds the least level at which so much is stored.
     fn rise(&mut self, loads: &[u64], wanted: u64) {
         let mut step = 1u64 << 56;
         for _ in 0..57 {
@@ -105,7 +105,7 @@ impl<'a> Level<'a> {
 }
 
 impl NodeVolumes {
-    /// Starts without sizes.
+    /// Starts empty.
     pub fn new(alloc: Global) -> NodeVolumes {
         NodeVolumes {
             are_asked: false,
@@ -116,7 +116,7 @@ impl NodeVolumes {
         }
     }
 
-    /// Sets the sizes, before any slot is owned. If one exceeds 32 bits, all are rounded up to a greater unit.
+    /// Sets the sizes, before any owners. If one exceeds 32 bits, all are rounded up to a greater unit.
     pub fn fill(
         &mut self,
         alloc: Global,
@@ -146,17 +146,17 @@ impl NodeVolumes {
         self.are_asked
     }
 
-    /// Returns the partition's size.
+    /// The partition's size.
     pub fn size(&self, partition: usize) -> u32 {
         at(&self.sizes, partition)
     }
 
-    /// Returns the partition's size in parts.
+    /// The partition's size in parts.
     pub fn parts(&self, partition: usize) -> u64 {
         u64::from(self.size(partition)).saturating_mul(PARTS)
     }
 
-    /// Returns the greatest size in parts.
+    /// The greatest size in parts.
     pub fn most(&self) -> u64 {
         let mut most = 0u32;
         for size in self.sizes.iter() {
@@ -165,13 +165,13 @@ impl NodeVolumes {
         u64::from(most).saturating_mul(PARTS)
     }
 
-    /// Adds a slot of the partition to the node's load.
+    /// Adds a slot of the partition to the load.
     pub fn add(&mut self, partition: usize, node: usize) {
         let load = word(&self.loads, node).saturating_add(self.parts(partition));
         set_word(&mut self.loads, node, load);
     }
 
-    /// Removes a slot of the partition from the node's load.
+    /// Removes a slot of the partition from the load.
     pub fn remove(&mut self, partition: usize, node: usize) {
         let load = word(&self.loads, node).saturating_sub(self.parts(partition));
         set_word(&mut self.loads, node, load);
@@ -185,7 +185,7 @@ impl NodeVolumes {
         all
     }
 
-    /// Sets what each member should store.
+    /// Sets each member's due size.
     ///
     /// Joining members get their shares, with at most one slot of each partition. Staying ones are levelled by weight:
     /// they give what joiners lack, or take what leavers leave besides.
@@ -200,7 +200,7 @@ impl NodeVolumes {
             let place = node as usize;
             if members.role(node) == Role::Joins {
                 let share = share(total, members.weight(node), members.weight).min(one);
-                // Rounding may make the share too great by this much.
+                // Rounding may add this much to the share.
                 let aim = share.saturating_sub(self.slack.saturating_mul(slots as u64));
                 set_word(&mut self.aims, place, aim);
                 left = left.saturating_sub(aim);
@@ -226,7 +226,7 @@ impl NodeVolumes {
         }
     }
 
-    /// Returns how much too much the node stores, in parts.
+    /// The node's excess in parts.
     pub fn over(&self, node: u32) -> i64 {
         let (load, aim) = (
             word(&self.loads, node as usize),
@@ -235,12 +235,12 @@ impl NodeVolumes {
         signed(load).saturating_sub(signed(aim))
     }
 
-    /// Returns how much the node lacks, in parts.
+    /// The node's lack in parts.
     pub fn lack(&self, node: u32) -> u64 {
         word(&self.aims, node as usize).saturating_sub(word(&self.loads, node as usize))
     }
 
-    /// Returns the node's excess by weight. The smallest value lacks most.
+    /// The node's excess by weight. The smallest value lacks most.
     pub fn fullness(&self, node: u32, weight: u32) -> u64 {
         let over = self.over(node).saturating_mul(64);
         let by = match over.checked_div(i64::from(weight)) {
@@ -250,7 +250,7 @@ impl NodeVolumes {
         u64::try_from(by.saturating_add(MIDDLE)).unwrap_or(0)
     }
 
-    /// Returns the node's load by weight.
+    /// The node's load by weight.
     pub fn load_by(&self, node: u32, weight: u32) -> u64 {
         match word(&self.loads, node as usize).checked_div(u64::from(weight)) {
             Some(by) => by,

@@ -1,19 +1,19 @@
-//! A wished change of a ring.
+//! Wishes.
 
 use ring_names::NodeId;
 
 /// A wished change of a ring.
 #[derive(Clone, Copy)]
 pub struct WishedChange<'a> {
-    /// The nodes that join, declared `out`.
+    /// Nodes that join, declared `out`.
     pub joins: &'a [NodeId],
-    /// The members that own nothing in the end.
+    /// The members that leave.
     pub leaves: &'a [NodeId],
     /// By node, its weight from 1 to 1,000: 0 means 1, more means 1,000. Further nodes have 1.
     pub weights: &'a [u32],
-    /// By node, any number for its rack. Further nodes have racks of their own.
+    /// By node, any number for its rack. Further nodes have own racks.
     pub racks: &'a [u32],
-    /// By partition, how much it stores, below 2^48, for even sizes. Further partitions have 1.
+    /// By partition, its size below 2^48, for even sizes. Further ones have 1.
     pub sizes: Option<&'a [u64]>,
 }
 

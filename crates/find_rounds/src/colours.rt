@@ -1,4 +1,4 @@
-//! Assigns rounds within each group's allowance.
+//! Assigns rounds within groups' allowances.
 //!
 //! A group is split into seats with one copy a round each, so rounds are edge colours of a graph of seats. If giving
 //! and taking are counted apart, the graph has two sides. It then needs as many rounds as its fullest seat has copies
@@ -13,10 +13,9 @@ use helpers::{at, parts, set, small};
 use ring_names::Refusal;
 use std::alloc::Global;
 
-// A seat without a copy.
+// A seat's missing copy.
 const NONE: u32 = 4_294_967_295;
 
-// One end of a copy.
 #[derive(Clone, Copy)]
 struct End {
     group: usize,
@@ -36,16 +35,16 @@ pub struct Colours {
     pub rounds: usize,
     // each group's first seat, and the last one's end
     firsts: Vec<u32>,
-    // the copy of each seat in each round
+    // each seat's copy in each round
     table: Vec<u32>,
-    // by group, the rounds with a free seat
+    // by group, rounds with a free seat
     free: RoundSets,
     // by copy, its seats and round, if any
     seated: Vec<Option<Seated>>,
 }
 
 impl Colours {
-    /// Starts without seats.
+    /// Starts empty.
     pub fn new(alloc: Global) -> Colours {
         Colours {
             rounds: 0,
@@ -79,7 +78,7 @@ impl Colours {
         self.free.fill(groups.len(), self.rounds)
     }
 
-    /// Gives seats to as many copies as possible.
+    /// Seats as many copies as possible.
     pub fn colour_all(
         &mut self,
         alloc: Global,
@@ -149,7 +148,7 @@ impl Colours {
         }
     }
 
-    /// Returns the copy's round, if it has one.
+    /// The copy's round, if any.
     pub fn round(&self, copy: usize) -> Option<usize> {
         match self.seated(copy) {
             Some(seated) => Some(seated.round),
@@ -157,7 +156,7 @@ impl Colours {
         }
     }
 
-    // The copies along a path of alternating rounds, and the path's end.
+    // The copies along a path of alternating rounds, and its end.
     fn path(
         &self,
         alloc: Global,
@@ -216,8 +215,7 @@ impl Colours {
         }
     }
 
-    // Seats a copy in a round with both groups free. If there is none, tries to free one by swapping two rounds along a
-    // path.
+    // Seats a copy in a round with both groups free. Otherwise tries to free one by swapping two rounds along a path.
     fn colour(
         &mut self,
         alloc: Global,

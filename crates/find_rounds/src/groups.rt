@@ -1,4 +1,4 @@
-//! Groups of transfers that one number of an allowance counts.
+//! Groups of transfers.
 
 use helpers::{at, set};
 use ring_names::{NodeId, Refusal};
@@ -8,13 +8,13 @@ use std::alloc::Global;
 /// Two groups for each node: copies from it and to it. If one number counts both, the first has all.
 #[derive(Drop)]
 pub struct Groups {
-    // each group's most open transfers; 0 if it is unused or barred
+    // each group's most open transfers; 0 if unused or barred
     most: Vec<u32>,
     barred: u32,
 }
 
 impl Groups {
-    /// Makes the groups of a ring's nodes.
+    /// Makes the ring's groups.
     pub fn of(alloc: Global, ring: &Ring) -> Result<Groups, Refusal> {
         let mut most = Vec::new(alloc);
         for node in ring.nodes() {
@@ -51,17 +51,17 @@ impl Groups {
         self.most.len()
     }
 
-    /// Returns the group's most open transfers; 0 if unused.
+    /// The group's most open transfers; 0 if unused.
     pub fn most(&self, group: usize) -> u32 {
         at(&self.most, group)
     }
 
-    /// Returns the group of copies from the node.
+    /// The group of copies from the node.
     pub fn giver(&self, node: u32) -> usize {
         (node as usize).saturating_mul(2)
     }
 
-    /// Returns the group of copies to the node.
+    /// The group of copies to the node.
     pub fn taker(&self, node: u32) -> usize {
         let first = self.giver(node);
         let second = first.saturating_add(1);
@@ -72,7 +72,7 @@ impl Groups {
         }
     }
 
-    /// Returns the group as a side of its node.
+    /// The group as a side of its node.
     pub fn side(&self, group: u32) -> NodeSide {
         let node = NodeId(group / 2);
         if group % 2 == 1 {

@@ -1,4 +1,4 @@
-//! Plans the change of slots' owners.
+//! Plans new owners.
 
 use crate::groups::Groups;
 use crate::layout::Layout;
@@ -56,7 +56,7 @@ impl<'a> Handover<'a> {
         Ok(groups)
     }
 
-    // Adds a partition's moves: slots of lost owners go in order to the gained ones.
+    // Adds a partition's moves, from lost to gained owners in order.
     fn push_moves(
         &self,
         layout: &mut Layout,
@@ -88,7 +88,6 @@ impl<'a> Handover<'a> {
         Ok(())
     }
 
-    // Marks the slots that move.
     fn moves(&self, layout: &mut Layout) -> Result<Vec<SlotMove>, Refusal> {
         let mut out = Vec::new(self.alloc);
         for partition in 0..layout.partitions {
@@ -97,10 +96,9 @@ impl<'a> Handover<'a> {
         Ok(out)
     }
 
-    /// Returns the plan for these owners, and its certificate. Owners are compared as sets, so no slot moves
-    /// needlessly.
+    /// Plans these owners, with a certificate. Owners are compared as sets, so no slot moves needlessly.
     ///
-    /// Fails with `NoPlan` if a dead node's slot moves and fewer than R others can be read, or with `OutOfMemory`.
+    /// Fails with `OutOfMemory`, or with `NoPlan` if a dead node's slot moves and fewer than R others can be read.
     pub fn plan(&self) -> Result<(Plan, Cert), Refusal> {
         let groups = self.groups()?;
         let mut layout = Layout::of(self.alloc, self.ring)?;

@@ -1,4 +1,4 @@
-//! Rounds in turn: a copy takes the first round, from its groups' last ones on, in which they are all free.
+//! Rounds in turn: a copy takes the first round, from its groups' last ones on, in which all are free.
 
 use crate::groups::Groups;
 use helpers::{at, raise, set};
@@ -13,7 +13,7 @@ pub struct Later {
 }
 
 impl Later {
-    /// Starts with groups that are free from the round on.
+    /// Starts with groups free from the round on.
     pub fn of(alloc: Global, groups: usize, round: u32) -> Result<Later, Refusal> {
         Ok(Later {
             last: vec![in alloc; round; groups]?,
@@ -37,7 +37,7 @@ impl Later {
         raise(&mut self.taken, group);
     }
 
-    /// Returns the round of the groups' next copy.
+    /// The round of the groups' next copy.
     pub fn round(&mut self, groups: &Groups, parties: &[u32]) -> u32 {
         let mut round = 0u32;
         for group in parties {

@@ -5,10 +5,10 @@ use ring_names::{Refusal, Slot};
 use ring_table::Ring;
 use std::alloc::Global;
 
-/// Owners of slots, partition by partition, and which slots move.
+/// Slots' owners, partition by partition, and which slots move.
 #[derive(Drop)]
 pub struct Layout {
-    /// The number of partitions, and of slots in each.
+    /// The partitions, and the slots in each.
     pub partitions: usize,
     pub slots: usize,
     owners: Vec<u32>,
@@ -17,7 +17,7 @@ pub struct Layout {
 }
 
 impl Layout {
-    /// Reads the ring's owners, without moves.
+    /// Reads the ring's owners.
     pub fn of(alloc: Global, ring: &Ring) -> Result<Layout, Refusal> {
         let mut owners = Vec::new(alloc);
         for row in ring.rows() {
@@ -34,12 +34,12 @@ impl Layout {
         })
     }
 
-    /// Returns the slot's place.
+    /// The slot's place.
     pub fn place(&self, partition: usize, index: usize) -> usize {
         partition.saturating_mul(self.slots).saturating_add(index)
     }
 
-    /// Returns the slot's place.
+    /// The slot's place.
     pub fn place_of(&self, slot: Slot) -> usize {
         self.place(slot.partition as usize, slot.index as usize)
     }
@@ -49,7 +49,7 @@ impl Layout {
         self.owners.len()
     }
 
-    /// Returns the owner of the slot.
+    /// The slot's owner.
     pub fn owner(&self, place: usize) -> u32 {
         at(&self.owners, place)
     }

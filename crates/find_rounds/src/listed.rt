@@ -1,4 +1,4 @@
-//! Copies that read listed slots instead of the owner.
+//! Copies that read listed slots, not the owner.
 //!
 //! A leaving node gives all its slots at its own pace. A copy from R staying slots loads their owners a little each
 //! instead. This needs R + 1 parties instead of 2, so it must save at least half of the rounds.
@@ -10,12 +10,12 @@ use crate::task::Task;
 use helpers::{at, lower, parts, raise, small};
 use ring_names::{Refusal, Rows};
 
-// The slots that each copy lists, by index. None if it reads the owner.
+// The slots that each copy lists, by index. None for the owner.
 #[derive(Drop)]
 struct Listing {
     // by move, ascending
     slots: Rows,
-    // those of the current move
+    // the current move's
     row: Vec<u32>,
     // each group's copies
     counts: Vec<u32>,
@@ -110,7 +110,7 @@ impl Listing {
         true
     }
 
-    // Lists R slots for a copy with a barred owner, staying ones first. Returns whether there are R.
+    // Lists R slots for a barred owner's copy, staying ones first. Returns whether there are R.
     fn list_around(&mut self, task: &Task, step: &SlotMove, rounds: u32) -> Result<bool, Refusal> {
         self.row.clear();
         if task.groups.is_barred(step.from) {
@@ -130,7 +130,6 @@ impl Listing {
         Ok(true)
     }
 
-    // Returns whether there are enough slots and rounds.
     fn list_all_around(&mut self, task: &Task, rounds: u32) -> Result<bool, Refusal> {
         self.counts = counts(task.alloc, task.groups, task.moves)?;
         for step in task.moves {
@@ -186,7 +185,7 @@ fn search(task: &Task, owner: OwnerKind, most: u32) -> Result<Option<Rows>, Refu
     Ok(found)
 }
 
-/// Returns R listed slots for each copy with a barred owner, staying ones first. They give the fewest rounds.
+/// Returns R listed slots for each copy with a barred owner, staying ones first, for the fewest rounds.
 ///
 /// None if a partition has too few with live owners.
 pub fn around(task: &Task) -> Result<Option<Rows>, Refusal> {
@@ -195,7 +194,7 @@ pub fn around(task: &Task) -> Result<Option<Rows>, Refusal> {
     search(task, OwnerKind::Barred, most)
 }
 
-/// Returns the fewest rounds that allowances permit for copies from owners.
+/// The fewest rounds that allowances permit for copies from owners.
 pub fn fewest(groups: &Groups, counts: &[u32]) -> u32 {
     let mut most = 0u32;
     for group in 0..groups.len() {
@@ -209,7 +208,7 @@ pub fn is_worth(rounds: u32, from_owners: u32) -> bool {
     rounds.saturating_mul(2) <= from_owners && rounds.saturating_add(4) <= from_owners
 }
 
-/// Returns each copy's listed slots for the fewest rounds. None if it reads the owner.
+/// Returns each copy's listed slots for the fewest rounds. None for the owner.
 pub fn sources(task: &Task) -> Result<Option<Rows>, Refusal> {
     let groups = task.groups;
     let from_owners = fewest(groups, &counts(task.alloc, groups, task.moves)?);

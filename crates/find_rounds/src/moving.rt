@@ -2,7 +2,7 @@
 
 use ring_names::Slot;
 
-/// A slot that goes from its owner to another node.
+/// A slot's move from its owner to another node.
 #[derive(Clone, Copy, Drop)]
 pub struct SlotMove {
     pub slot: Slot,

@@ -1,4 +1,4 @@
-//! Copies that list moving slots, and those slots' moves.
+//! Copies that list moving slots.
 
 use crate::later::Later;
 use crate::task::Task;
@@ -7,7 +7,7 @@ use helpers::{at, row, set, small};
 use ring_names::{Refusal, Rows};
 use std::alloc::Global;
 
-// By slot, 1 plus the number of its move, or 0.
+// By slot, 1 plus its move's number, or 0.
 fn by_place(task: &Task) -> Result<Vec<u32>, Refusal> {
     let layout = task.layout;
     let mut numbers = vec![in task.alloc; 0u32; layout.total()]?;
@@ -19,7 +19,7 @@ fn by_place(task: &Task) -> Result<Vec<u32>, Refusal> {
     Ok(numbers)
 }
 
-/// Returns, by copy, the moves of its listed slots. Their copies come after it.
+/// By copy, the moves of its listed slots. Their copies come later.
 pub fn followers(task: &Task, listed: &Rows) -> Result<Rows, Refusal> {
     let (layout, numbers) = (task.layout, by_place(task)?);
     let mut behind = Rows::new(task.alloc);
@@ -38,7 +38,6 @@ pub fn followers(task: &Task, listed: &Rows) -> Result<Rows, Refusal> {
     Ok(behind)
 }
 
-// By copy, whether it follows others.
 fn are_late(task: &Task, behind: &Rows) -> Result<Vec<bool>, Refusal> {
     let mut marks = vec![in task.alloc; false; task.moves.len()]?;
     for copy in 0..behind.len() {
@@ -108,7 +107,7 @@ fn in_turn(task: &Task, parties: &Rows) -> Result<Vec<u32>, Refusal> {
     Ok(rounds)
 }
 
-/// Returns rounds in two phases: followers come after all other copies.
+/// Two phases of rounds: followers come after all other copies.
 pub fn in_phases(task: &Task, parties: &Rows, behind: &Rows) -> Result<Vec<u32>, Refusal> {
     let late = are_late(task, behind)?;
     let mut phases = Phases {

@@ -8,7 +8,7 @@ const WORD: usize = 64;
 /// A set of rounds for each group.
 #[derive(Drop)]
 pub struct RoundSets {
-    // the words of each set
+    // each set's words
     words: usize,
     // a bit for each round
     bits: Vec<u64>,
@@ -26,7 +26,7 @@ fn bit(round: usize) -> u64 {
 }
 
 impl RoundSets {
-    /// Starts without sets.
+    /// Starts empty.
     pub fn new(alloc: Global) -> RoundSets {
         RoundSets {
             words: 0,
@@ -57,7 +57,7 @@ impl RoundSets {
         }
     }
 
-    /// Adds the round to the group's set, or removes it.
+    /// Adds the group's round, or removes it.
     pub fn put(&mut self, group: usize, round: usize, is_in: bool) {
         let place = self.place(group, round / WORD);
         if let Some(bits) = self.bits.get_mut(place) {
@@ -69,7 +69,7 @@ impl RoundSets {
         }
     }
 
-    /// Returns the least round in both groups' sets. The groups may be the same.
+    /// The least round in both groups' sets. The groups may be the same.
     pub fn common(&self, first: usize, second: usize) -> Option<usize> {
         for word in 0..self.words {
             let both = self.word(first, word) & self.word(second, word);

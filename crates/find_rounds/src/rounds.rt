@@ -1,4 +1,4 @@
-//! Rounds and sources of copies.
+//! Rounds of copies.
 
 use crate::colours::Colours;
 use crate::groups::Groups;
@@ -26,12 +26,12 @@ pub fn counts(alloc: Global, groups: &Groups, moves: &[SlotMove]) -> Result<Vec<
 #[derive(Drop)]
 pub struct Schedule {
     pub parties: Rows,
-    /// By copy, its listed slots, ascending. None if it reads the owner.
+    /// By copy, its listed slots, ascending. None for the owner.
     pub listed: Rows,
     rounds: Vec<u32>,
 }
 
-// The groups that a copy reads from, and its receiver.
+// The groups that a copy reads, and its receiver.
 fn parties(task: &Task, step: &SlotMove, listed: &[u32]) -> Result<Vec<u32>, Refusal> {
     let (layout, groups) = (task.layout, task.groups);
     let mut parties = Vec::new(task.alloc);
@@ -46,7 +46,7 @@ fn parties(task: &Task, step: &SlotMove, listed: &[u32]) -> Result<Vec<u32>, Ref
     Ok(parties)
 }
 
-// The rounds of copies with seats; the other copies follow in turn.
+// Rounds of copies with seats; others follow in turn.
 fn seated(task: &Task, colours: &Colours, parties: &Rows) -> Result<Vec<u32>, Refusal> {
     let (alloc, groups) = (task.alloc, task.groups);
     let mut rounds = Vec::new(alloc);
@@ -61,7 +61,7 @@ fn seated(task: &Task, colours: &Colours, parties: &Rows) -> Result<Vec<u32>, Re
 }
 
 impl Schedule {
-    /// Starts without rounds.
+    /// Starts empty.
     pub fn new(alloc: Global) -> Schedule {
         Schedule {
             parties: Rows::new(alloc),
@@ -89,7 +89,7 @@ impl Schedule {
         Ok(())
     }
 
-    // Returns whether copies from listed slots save enough rounds.
+    // Returns whether listed slots save enough rounds.
     fn read_listed(&mut self, task: &Task) -> Result<bool, Refusal> {
         let (alloc, groups) = (task.alloc, task.groups);
         let Some(rounds) = by_urgency(alloc, groups, &self.parties, &Rows::new(alloc))? else {
@@ -124,7 +124,6 @@ impl Schedule {
         count
     }
 
-    // Takes rounds by urgency if they are fewer.
     fn try_urgency(&mut self, task: &Task, behind: &Rows) -> Result<(), Refusal> {
         if let Some(rounds) = by_urgency(task.alloc, task.groups, &self.parties, behind)? {
             if rounds.count < self.count() {
@@ -150,8 +149,8 @@ impl Schedule {
         Ok(())
     }
 
-    /// Gives the moves rounds within the allowances. Copies of barred owners list R slots. Fails with `NoPlan` if a
-    /// partition lacks them.
+    /// Gives moves rounds within allowances. Barred owners' copies list R slots. Fails with `NoPlan` if a partition
+    /// lacks them.
     pub fn fill(&mut self, task: &Task) -> Result<(), Refusal> {
         if task.groups.has_barred() {
             return self.read_around(task);
@@ -161,7 +160,7 @@ impl Schedule {
         self.try_urgency(task, &Rows::new(task.alloc))
     }
 
-    /// Returns pairs (round, index into moves), sorted by round, partition and slot index.
+    /// Pairs (round, index into moves), sorted by round, partition and slot index.
     pub fn order(&self, alloc: Global) -> Result<Vec<(u32, u32)>, Refusal> {
         let mut order = Vec::new(alloc);
         for round in self.rounds.iter() {

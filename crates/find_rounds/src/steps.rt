@@ -1,4 +1,4 @@
-//! Adds steps to a plan, within its limits.
+//! Adds steps within limits.
 
 ghost use Rattle.std.specs.Prelude.{◌≡◌, ◌≤◌, ◌<◌, ◌+◌, true, length, nat_lt};
 ghost use Rattle.std.specs.List.{list_all};
@@ -9,7 +9,7 @@ ghost use Rattle.plan_text.specs.Valid.{HasSources, IsPlanned};
 use plan_text::{Plan, Source, Step};
 use ring_names::Refusal;
 
-// The most steps of a plan, dependencies of a step, and dependencies in all.
+// A plan's most steps, dependencies of a step, and dependencies in all.
 const STEPS: u32 = 131_072;
 
 const AFTER: usize = 4_096;

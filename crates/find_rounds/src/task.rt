@@ -1,4 +1,4 @@
-//! What is put into rounds.
+//! The input.
 
 use crate::groups::Groups;
 use crate::layout::Layout;

@@ -1,9 +1,9 @@
-//! Rounds by urgency: the groups with most left come first. Copies can have any number of parties.
+//! Rounds by urgency: groups with most left come first. Copies can have any number of parties.
 //!
-//! A copy waits in the queue of its neediest group. Groups are served by need, until their allowance is used or some
-//! copies in turn found another group full. So a round looks at few copies in vain.
+//! A copy waits in its neediest group's queue. Groups are served by need, until their allowance is used or some copies
+//! in turn found another group full. So a round looks at few copies in vain.
 //!
-//! Copies that others follow are queued first, and their followers once these have rounds.
+//! Copies that others follow are queued first, and followers once these have rounds.
 
 use crate::groups::Groups;
 use helpers::{at, lower, raise, row, set, small};
@@ -12,10 +12,10 @@ use std::alloc::Global;
 use std::cmp::Reverse;
 use std::collections::VecDeque;
 
-// The most looks at groups and copies in all.
+// The most looks at groups and copies.
 const LOOKS: usize = 16_000_000;
 
-// How many copies may find no place before the next group is served.
+// The most misses before the next group is served.
 const MISSES: u32 = 16;
 
 #[derive(Drop)]
@@ -23,7 +23,7 @@ struct Waiting<'a> {
     groups: &'a Groups,
     // by copy, its groups
     parties: &'a Rows,
-    // by copy, the copies that follow it
+    // by copy, its followers
     behind: &'a Rows,
     // by copy, how many waiting copies it follows
     before: Vec<u32>,
@@ -60,7 +60,7 @@ impl<'a> Waiting<'a> {
         self.queue_all(false)
     }
 
-    // Queues the copies that follow none: those that others follow, or the rest.
+    // Queues copies that follow none: those with followers, or the rest.
     fn queue_all(&mut self, is_before: bool) -> Result<(), Refusal> {
         for copy in 0..self.count {
             let is_meant = row(self.behind, copy).is_empty() != is_before;
@@ -71,7 +71,7 @@ impl<'a> Waiting<'a> {
         Ok(())
     }
 
-    // The fewest rounds that a group needs, in 64ths.
+    // In 64ths.
     fn needs(&self, group: usize) -> u32 {
         let left = at(&self.left, group).saturating_mul(64);
         match left.checked_div(self.groups.most(group)) {
@@ -128,7 +128,7 @@ impl<'a> Waiting<'a> {
         true
     }
 
-    // Releases, after the round, the copies that wait only for this one.
+    // Releases, after the round, copies that wait only for this one.
     fn free(&mut self, copy: u32) -> Result<(), Refusal> {
         for later in row(self.behind, copy as usize) {
             lower(&mut self.before, *later as usize);
@@ -199,7 +199,7 @@ impl<'a> Waiting<'a> {
         self.end()
     }
 
-    // Returns the number of rounds. None if it takes too long.
+    // The number of rounds. None if it takes too long.
     fn all(&mut self, alloc: Global) -> Result<Option<u32>, Refusal> {
         self.begin(alloc)?;
         for round in 0..small(self.rounds.len()) {
@@ -218,7 +218,7 @@ impl<'a> Waiting<'a> {
     }
 }
 
-/// The rounds of copies, and their number.
+/// Copies' rounds, and their number.
 #[derive(Drop)]
 pub struct Rounds {
     pub count: u32,
@@ -246,7 +246,7 @@ fn all_wait<'a>(
     }
 }
 
-/// Returns rounds for copies with these groups and followers. None if it takes too long.
+/// Rounds for copies with these groups and followers. None if it takes too long.
 pub fn by_urgency<'a>(
     alloc: Global,
     groups: &'a Groups,

@@ -1,4 +1,4 @@
-//! Writes a plan's steps and chains.
+//! Writes a plan.
 
 use crate::moving::SlotMove;
 use crate::rounds::Schedule;
@@ -10,7 +10,7 @@ use plan_text::{Indexes, Plan, Source, Step};
 use ring_names::{Lists, NodeId, Refusal, Rows, Slot};
 use std::alloc::Global;
 
-/// The nodes that join, and those that retire.
+/// Nodes that join, and that retire.
 #[derive(Clone, Copy)]
 pub struct Turnover<'a> {
     pub joins: &'a [u32],
@@ -25,7 +25,7 @@ struct Writer<'a> {
     // by group, its copies; by node, its drops
     copies: Lists<u32, u32>,
     drops: Lists<u32, u32>,
-    // by place of a moving slot, the copies that list it
+    // by a moving slot's place, the copies that list it
     readers: Lists<u32, u32>,
 }
 
@@ -47,7 +47,7 @@ impl<'a> Writer<'a> {
         Ok(())
     }
 
-    // The copy that must end before the group can have one more open.
+    // The copy that must end before the group opens another.
     fn link(&self, group: u32) -> Option<u32> {
         let copies = self.copies.items(&group);
         let most = self.task.groups.most(group as usize) as usize;
@@ -70,7 +70,7 @@ impl<'a> Writer<'a> {
         Ok(links)
     }
 
-    // Adds the mirror after what its copy waits for, so that it does not open early.
+    // Adds the mirror after what its copy awaits, so that it does not open early.
     fn mirror(&mut self, step: &SlotMove, links: &[u32]) -> Result<u32, Refusal> {
         let node = NodeId(step.to);
         let mut after = Vec::new(self.task.alloc);
@@ -180,7 +180,7 @@ impl<'a> Writer<'a> {
     }
 }
 
-/// Returns the plan of moves by rounds, and its certificate. Barred nodes drop nothing.
+/// Returns the moves' plan by rounds, and its certificate. Barred nodes drop nothing.
 pub fn write<'a>(
     task: &'a Task<'a>,
     schedule: &Schedule,
