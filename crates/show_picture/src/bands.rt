@@ -1,14 +1,13 @@
-//! Rows for many nodes: the busiest have their own, the rest of each kind share one.
+//! Rows for many nodes.
 
 use crate::order::{KINDS, kind};
 use crate::sheet::Sheet;
 use helpers::{at, small};
 use ring_names::Refusal;
 
-// The most nodes with their own row.
 const NAMED: usize = 27;
 
-/// A row for one node, or for several nodes of one kind.
+/// A row for one node, or several of one kind.
 #[derive(Clone, Copy)]
 pub struct Band {
     pub node: Option<u32>,
@@ -47,7 +46,7 @@ fn rooms(sheet: &Sheet, nodes: &[u32]) -> [usize; KINDS] {
 }
 
 impl Bands {
-    /// Takes nodes by kind, the busiest of each first.
+    /// Takes nodes by kind, the busiest first.
     pub fn of(sheet: &Sheet, nodes: &[u32]) -> Result<Bands, Refusal> {
         let mut bands = Bands {
             bands: Vec::new(sheet.alloc),
@@ -99,7 +98,7 @@ impl Bands {
         false
     }
 
-    /// Returns the node's row.
+    /// The node's row.
     pub fn row(&self, node: u32) -> Option<usize> {
         match at(self.rows.as_slice(), node as usize) {
             0 => None,

@@ -1,4 +1,4 @@
-//! The bars of copies.
+//! Bars of copies.
 
 use crate::fitting::{TextLook, can_fit, push_fitting};
 use crate::sheet::Sheet;
@@ -8,14 +8,14 @@ use crate::svg::{Area, Point, push_area, push_titled};
 use helpers::{Words, small};
 use show_plan::ShownMove;
 
-// For words on a filled bar, and on a bare bar.
+// For words on filled and bare bars.
 const LIGHT: &[u8] = b"b on";
 
 const DARK: &[u8] = b"b";
 
 const ROUND: &[u8] = b" rx=\"3\"";
 
-// The pixels of a bar that words leave free.
+// A bar's pixels free of words.
 const RIM: u32 = 2;
 
 fn slot_word(sheet: &Sheet, shown: &ShownMove) -> Words {
@@ -67,7 +67,7 @@ pub fn have_room(sheet: &Sheet, wide: u32) -> bool {
     for shown in sheet.scene.shown.moves.as_slice() {
         most = most.max(shown.slot.partition);
     }
-    // All digits are as wide as this one.
+    // All digits are equally wide.
     let digits: &[u8] = match most {
         0..=9 => b"0",
         10..=99 => b"00",
@@ -92,9 +92,9 @@ fn title(sheet: &Sheet, shown: &ShownMove) -> Words {
     words
 }
 
-/// Writes the bar of a copy at one of its nodes.
+/// Writes a copy's bar at one of its nodes.
 ///
-/// A copy that is open or still to do is bare. An open bar has a part for the copied chunks.
+/// An open or remaining copy is bare. An open bar has a part for copied chunks.
 pub fn push_bar(sheet: &Sheet, out: &mut Words, area: Area, shown: &ShownMove, takes: bool) {
     let (fill, outline) = if takes {
         (TAKE, b"bare taker".as_slice())

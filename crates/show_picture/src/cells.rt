@@ -1,11 +1,10 @@
-//! The cells of a map: slots of a row's partitions that a column's nodes own.
+//! A map's cells: slots of a row's partitions that a column's nodes own.
 
 use crate::columns::Columns;
 use crate::sheet::Sheet;
 use helpers::{at, raise};
 use ring_names::{NodeId, Refusal};
 
-// The most rows of a map.
 const MOST: u32 = 128;
 
 /// The number of marks.
@@ -26,14 +25,14 @@ pub const TAKEN: usize = 3;
 /// Slots still to take.
 pub const DUE: usize = 4;
 
-/// The slots of each mark, by cell.
+/// Each mark's slots, by cell.
 #[derive(Drop)]
 pub struct Cells {
-    /// The partitions of a row.
+    /// A row's partitions.
     pub shared: u32,
     pub rows: usize,
     columns: usize,
-    // by mark, then row, then column
+    // by mark, row, column
     counts: Vec<u32>,
 }
 
@@ -71,7 +70,7 @@ impl Cells {
             .saturating_add(column)
     }
 
-    /// Returns the cell's slots of the mark.
+    /// The cell's slots of the mark.
     pub fn at(&self, mark: usize, row: usize, column: usize) -> u32 {
         at(self.counts.as_slice(), self.place(mark, row, column))
     }
@@ -108,7 +107,7 @@ impl Cells {
         }
     }
 
-    /// Returns the most slots of a cell, at least 1.
+    /// A cell's most slots, at least 1.
     pub fn most(&self) -> u32 {
         let mut most = 1u32;
         for row in 0..self.rows {
@@ -143,7 +142,7 @@ fn owners_of<'a>(sheet: &Sheet<'a>, partition: u32, time: Time) -> &'a [NodeId] 
     }
 }
 
-/// Counts partitions by the slots that joiners own in the end, at most 7.
+/// Counts partitions by final slots of joiners, at most 7.
 pub fn joined(sheet: &Sheet) -> [u32; 8] {
     let mut counts = [0u32; 8];
     for row in sheet.scene.last_rows.as_slice() {

@@ -1,16 +1,15 @@
-//! The columns of a map.
+//! A map's columns.
 
 use crate::sheet::Sheet;
 use helpers::{Labels, at, small};
 use ring_names::{NodeId, Refusal};
 
-// The most columns of a map.
 const MOST: usize = 60;
 
 /// A column of one node, or of several. Grouped by racks, all are in one rack.
 #[derive(Clone, Copy)]
 pub struct Column {
-    /// The first of its nodes.
+    /// Its first node.
     pub node: u32,
     pub count: u32,
     /// 0 without racks.
@@ -18,7 +17,7 @@ pub struct Column {
     pub is_joining: bool,
 }
 
-/// The columns, and the column of each node that is a member before or after.
+/// The columns, and those of nodes that are members before or after.
 #[derive(Drop)]
 pub struct Columns<'a> {
     pub columns: Vec<Column>,
@@ -32,7 +31,7 @@ pub struct Columns<'a> {
 #[derive(Clone, Copy, Debug, PartialEq, Eq)]
 pub enum Sharing {
     Nobody,
-    /// The nodes of a rack, joiners apart.
+    /// A rack's nodes, joiners apart.
     Racks,
     /// Up to this many nodes, joiners apart.
     Counts(u32),
@@ -149,7 +148,7 @@ impl<'a> Columns<'a> {
         }
     }
 
-    /// Returns the node's column.
+    /// The node's column.
     pub fn column(&self, node: u32) -> Option<usize> {
         match at(self.places.as_slice(), node as usize) {
             0 => None,

@@ -1,4 +1,4 @@
-//! A picture with sums: columns of several rounds, rows for the busiest nodes and for the rest.
+//! A picture with sums, of several rounds or nodes.
 
 use crate::bands::{Band, Bands};
 use crate::fitting::{TextLook, push_fitting};
@@ -18,21 +18,21 @@ use show_plan::{ShownMove, push_many};
 
 const COLUMNS: u32 = 60;
 
-// Top and height of the bars of all copies. Then the first row's top.
+// The bars of all copies: top and height. Then the first row's top.
 const TOP: u32 = 96;
 
 const ALL: u32 = 74;
 
 const FIRST: u32 = 204;
 
-// The gap after the columns, the width of transfers at once, and the panel after them.
+// The gap after the columns, the width of transfers at once, and the panel behind.
 const GAP: u32 = 8;
 
 const AT_ONCE: u32 = 118;
 
 const PANEL: u32 = GAP + AT_ONCE + SLOTS + MARGIN;
 
-// The least and the greatest width before the rows.
+// The least and greatest width before the rows.
 const NARROW: u32 = 90;
 
 const BROAD: u32 = 160;
@@ -117,7 +117,7 @@ impl Tally {
         }
     }
 
-    // The most copies in a cell of a named or a summed row, at least 1.
+    // The most copies in a cell of named or summed rows, at least 1.
     fn most(&self, bands: &Bands, is_named: bool) -> u32 {
         let mut most = 1u32;
         let mut row = 0usize;
@@ -142,7 +142,7 @@ struct CopyGrid {
     right: u32,
     row: u32,
     bottom: u32,
-    // the copies at full height: in a named row, and in a summed row, or 0
+    // the copies at full height in named and in summed rows, or 0
     scale: u32,
     sum_scale: u32,
     most: u32,
@@ -360,7 +360,7 @@ impl CopyGrid {
         }
     }
 
-    // Returns the picture's height.
+    // Returns the height.
     fn push_notes(&self, sheet: &Sheet, out: &mut Words, tally: &Tally) -> u32 {
         let y = self.bottom.saturating_add(24);
         let next = push_key(out, Point::at(self.left, y), TAKE, b"", b"takes, upwards");
@@ -394,7 +394,7 @@ impl CopyGrid {
     }
 }
 
-// A bar up or down from the middle of a row.
+// A bar up or down from a row's middle.
 #[derive(Clone, Copy)]
 struct Bar {
     x: u32,

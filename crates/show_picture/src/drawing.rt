@@ -1,4 +1,4 @@
-//! Chooses which picture is drawn.
+//! Chooses a picture.
 
 use crate::dense::dense_picture;
 use crate::full::{Plot, full_picture};
@@ -7,14 +7,14 @@ use crate::order::in_order;
 use crate::sheet::Sheet;
 use ring_names::Refusal;
 
-// The most rounds and lanes of a picture with every copy.
+// The most rounds and lanes with every copy.
 const ROUNDS: u32 = 40;
 
 const LANES: u32 = 90;
 
-/// Draws a plan, and how far a run has come, as SVG.
+/// Draws a plan and a run's progress as SVG.
 ///
-/// A plan always has the same bytes. Fails only with `OutOfMemory`.
+/// Equal plans have equal bytes. Fails only with `OutOfMemory`.
 ///
 /// Shows every copy up to 40 rounds and 90 lanes, if each bar fits its partition's number. Otherwise shows sums, in at
 /// most 60 columns and 31 rows.

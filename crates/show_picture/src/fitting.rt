@@ -1,4 +1,4 @@
-//! Words that fit into their room.
+//! Fitting words.
 
 use crate::svg::{Point, push_begin, push_escaped, push_measure};
 use crate::widths::width;
@@ -16,7 +16,7 @@ pub struct TextLook<'a> {
 }
 
 impl<'a> TextLook<'a> {
-    /// Returns the look.
+    /// A look.
     pub fn new(class: &'a [u8], size: u32, more: &'a [u8]) -> TextLook<'a> {
         TextLook { class, size, more }
     }

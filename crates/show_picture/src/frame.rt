@@ -1,4 +1,4 @@
-//! The frame around a picture's rows.
+//! A picture's frame.
 
 use crate::fitting::{TextLook, push_fitting};
 use crate::sheet::Sheet;
@@ -11,10 +11,9 @@ use show_plan::{
     fewest_moves, push_change, push_many, push_moves, push_names, push_quorum, push_short,
 };
 
-// The width of the progress bar.
 const BAR: u32 = 210;
 
-/// The greatest width of words.
+/// Words' greatest width.
 pub const ROOM: u32 = WIDE - 2 * MARGIN;
 
 fn tell_change(sheet: &Sheet, out: &mut Words) {
@@ -38,7 +37,7 @@ fn tell_ring(sheet: &Sheet, out: &mut Words) {
     }
 }
 
-/// Returns the title, and the words below.
+/// The title, and the words below.
 pub fn caption_of(sheet: &Sheet) -> Caption {
     let mut caption = Caption {
         title: Words::new(sheet.alloc),
@@ -49,9 +48,9 @@ pub fn caption_of(sheet: &Sheet) -> Caption {
     caption
 }
 
-/// Writes the title, the words below, and the progress.
+/// Writes title, words below, and progress.
 pub fn push_frame(sheet: &Sheet, out: &mut Words, caption: &Caption) {
-    // Bold words are wider by about an eighth.
+    // Bold words are about an eighth wider.
     let title = TextLook::new(b"t", 19, b"");
     push_fitting(
         out,
@@ -124,7 +123,7 @@ pub fn push_key(out: &mut Words, at: Point, class: &[u8], more: &[u8], words: &[
     Point::at(x.saturating_add(width(words, 11)).saturating_add(20), at.y)
 }
 
-/// Returns the class of a node's name. Colour and weight show the role; silent nodes are crossed out.
+/// A name's class. Colour and weight show the role; silent nodes are crossed out.
 pub fn name_class(sheet: &Sheet, node: u32) -> &'static [u8] {
     match (sheet.is_silent(node), sheet.leaves(node), sheet.joins(node)) {
         (false, true, _) => b"n leaves",

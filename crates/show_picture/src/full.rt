@@ -16,20 +16,20 @@ use helpers::Words;
 use ring_names::Refusal;
 use show_plan::ShownMove;
 
-// The height of a lane, and the least height of a row.
+// A lane's height, and a row's least.
 const LANE: u32 = 19;
 
 const ROW: u32 = 44;
 
-// The least height of a row with sizes.
+// A row's least height with sizes.
 const SIZED_ROW: u32 = 56;
 
-// The top of the first row, and the gap before the slots.
+// The first row's top, and the gap before the slots.
 const TOP: u32 = 112;
 
 const GAP: u32 = 16;
 
-// The least and the greatest width before the rows.
+// The least and greatest width before the rows.
 const NARROW: u32 = 100;
 
 const BROAD: u32 = 190;
@@ -54,7 +54,7 @@ pub struct Plot {
 }
 
 impl Plot {
-    /// Places the nodes in rows, as high as their most copies in a round.
+    /// Places nodes in rows, as high as their most copies in a round.
     pub fn of(sheet: &Sheet, nodes: &[u32], lanes: &Lanes) -> Result<Plot, Refusal> {
         let left = words_before(sheet, nodes)?.saturating_add(MARGIN + 12);
         let rounds = sheet.scene.round_count().max(1);
@@ -163,7 +163,6 @@ impl Plot {
         let _ = self.push_side(out, y, &sizes);
     }
 
-    // Returns the next place.
     fn push_side(&self, out: &mut Words, y: u32, words: &Words) -> u32 {
         out.heed(words);
         if words.len() == 0 {
@@ -190,7 +189,7 @@ impl Plot {
         }
     }
 
-    // Returns the picture's height.
+    // Returns the height.
     fn push_notes(&self, sheet: &Sheet, out: &mut Words) -> Result<u32, Refusal> {
         let y = self.bottom.saturating_add(18);
         let start = Point::at(self.left, y);

@@ -1,14 +1,14 @@
-//! The lanes of a node: one for each copy in a round.
+//! Lanes: one for each copy in a round.
 
 use crate::sheet::Sheet;
 use helpers::{at, raise};
 use ring_names::Refusal;
 use show_plan::ShownMove;
 
-/// The copies counted so far, by row and round.
+/// Copies counted so far, by row and round.
 #[derive(Drop)]
 pub struct Lanes {
-    // by row, then by round
+    // by row, round
     busy: Vec<u32>,
     rounds: usize,
     // by node, 1 plus its row, or 0
@@ -16,7 +16,7 @@ pub struct Lanes {
 }
 
 impl Lanes {
-    /// Starts without copies.
+    /// Starts empty.
     pub fn new(sheet: &Sheet, nodes: &[u32]) -> Result<Lanes, Refusal> {
         let rounds = sheet.scene.widths.len().saturating_add(1);
         let mut rows = vec![in sheet.alloc; 0u32; sheet.ring.nodes().len()]?;
@@ -34,7 +34,7 @@ impl Lanes {
         })
     }
 
-    /// Returns the node's row.
+    /// The node's row.
     pub fn row(&self, node: u32) -> Option<usize> {
         match at(self.rows.as_slice(), node as usize) {
             0 => None,
@@ -55,7 +55,7 @@ impl Lanes {
         lane
     }
 
-    /// Counts a move's copy at each of its nodes.
+    /// Counts a move's copy at all its nodes.
     pub fn count(&mut self, sheet: &Sheet, shown: &ShownMove) {
         if let Some(row) = self.row(shown.to) {
             self.take(row, shown.round);
@@ -67,7 +67,7 @@ impl Lanes {
         }
     }
 
-    /// Returns how many lanes the row needs.
+    /// The row's number of lanes.
     pub fn needed(&self, row: usize) -> u32 {
         let mut most = 0u32;
         for round in 0..self.rounds {

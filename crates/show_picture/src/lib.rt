@@ -1,4 +1,4 @@
-//! Draws a plan as SVG: which node gives which slot to which, in which round.
+//! Draws a plan as SVG: which node gives which slot to which, by round.
 #![tactic(auto)]
 
 mod bands;

@@ -1,4 +1,4 @@
-//! A map of owners: a row for partitions, a column for nodes.
+//! A map of owners: rows for partitions, columns for nodes.
 
 use crate::cells::{Cells, DUE, GIVEN, GONE, KEPT, MARKS, TAKEN, joined};
 use crate::columns::{Column, Columns, Sharing};
@@ -14,7 +14,6 @@ use show_plan::push_many;
 // The place of rack names. Columns' names begin below.
 const HEAD: u32 = 98;
 
-// The room for columns' names.
 const NAMES: u32 = 120;
 
 const WIDEST: u32 = 58;
@@ -40,7 +39,7 @@ struct SlotGrid {
     row: u32,
     column: u32,
     bottom: u32,
-    // the slots that fill a cell
+    // slots that fill a cell
     most: u32,
 }
 
@@ -174,7 +173,7 @@ impl SlotGrid {
         }
     }
 
-    // Writes a cell's part from one number of slots to another.
+    // Writes a cell's part between two numbers of slots.
     fn push_cell(&self, out: &mut Words, place: (usize, usize), slots: (u32, u32)) {
         let (row, column) = place;
         let (from, to) = slots;
@@ -197,7 +196,7 @@ impl SlotGrid {
         out.byte(b'z');
     }
 
-    // Returns the picture's height.
+    // Returns the height.
     fn push_notes(&self, sheet: &Sheet, out: &mut Words, columns: &Columns, cells: &Cells) -> u32 {
         let y = self.bottom.saturating_add(26);
         push_keys(sheet, out, Point::at(MARGIN, y));
@@ -316,9 +315,9 @@ fn joiners_words(sheet: &Sheet) -> Words {
     words
 }
 
-/// Draws the owners before and after the plan, as SVG. Fails only with `OutOfMemory`.
+/// Draws owners before and after the plan as SVG. Fails only with `OutOfMemory`.
 ///
-/// Groups nodes by rack if asked for. Above 128 partitions, partitions share rows; above 60 nodes, nodes share columns.
+/// Groups nodes by rack if asked for. Above 128 partitions, rows are shared; above 60 nodes, columns are.
 pub fn map_picture(sheet: &Sheet, racks: Option<&Labels>) -> Result<Vec<u8>, Refusal> {
     let columns = Columns::of(sheet, racks)?;
     let cells = Cells::of(sheet, &columns)?;

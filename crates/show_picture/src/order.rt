@@ -1,4 +1,4 @@
-//! The order in which nodes are drawn.
+//! The drawing order of nodes.
 
 use crate::sheet::Sheet;
 use helpers::small;
@@ -12,10 +12,10 @@ struct Ranked {
     node: u32,
 }
 
-/// The number of kinds of nodes.
+/// The number of nodes' kinds.
 pub const KINDS: usize = 4;
 
-/// Returns 0 for a silent node, 1 for a leaver, 2 for a joiner, 3 for any other.
+/// 0 for a silent node, 1 for a leaver, 2 for a joiner, 3 for others.
 pub fn kind(sheet: &Sheet, node: u32) -> u32 {
     if sheet.is_silent(node) {
         0
@@ -28,7 +28,7 @@ pub fn kind(sheet: &Sheet, node: u32) -> u32 {
     }
 }
 
-/// Returns the nodes with a row, by kind, then the busiest first.
+/// Nodes with a row, by kind, then the busiest first.
 pub fn in_order(sheet: &Sheet) -> Result<Vec<u32>, Refusal> {
     let mut ranked = Vec::new(sheet.alloc);
     for node in 0..small(sheet.ring.nodes().len()) {
@@ -48,7 +48,7 @@ pub fn in_order(sheet: &Sheet) -> Result<Vec<u32>, Refusal> {
     Ok(nodes)
 }
 
-/// Returns the moves with copies, in the order of copies.
+/// Moves with copies, in copies' order.
 pub fn by_copy(sheet: &Sheet) -> Result<Vec<u32>, Refusal> {
     let mut order = Vec::new(sheet.alloc);
     let mut place = 0u32;

@@ -1,4 +1,4 @@
-//! The input of a picture.
+//! A picture's input.
 
 use helpers::{Words, at, word};
 use plan_moves::Progress;
@@ -22,7 +22,7 @@ pub struct Sheet<'a> {
 }
 
 impl<'a> Sheet<'a> {
-    /// Returns the move.
+    /// The move.
     pub fn shown(&self, place: u32) -> Option<&ShownMove> {
         self.scene.shown.moves.as_slice().get(place as usize)
     }
@@ -64,7 +64,7 @@ impl<'a> Sheet<'a> {
         text
     }
 
-    /// Returns how many transfers the node has.
+    /// The node's number of transfers.
     pub fn work(&self, node: u32) -> u32 {
         let gives = at(self.scene.loads.gives.as_slice(), node as usize);
         gives.saturating_add(at(self.scene.loads.takes.as_slice(), node as usize))

@@ -1,4 +1,4 @@
-//! Bars of the slots that a node owns.
+//! Bars of slots.
 
 use crate::fitting::{TextLook, push_fitting};
 use crate::sheet::Sheet;
@@ -6,16 +6,16 @@ use crate::style::{INK, KEPT, TAKE};
 use crate::svg::{Area, Point, push_area};
 use helpers::{Words, at, parts_of};
 
-// The width of the longest bar.
+// The longest bar.
 const BAR: u32 = 70;
 
-// The greatest width of numbers.
+// The widest numbers.
 const NUMBERS: u32 = 86;
 
 /// The greatest width of bar and numbers.
 pub const SLOTS: u32 = BAR + 8 + NUMBERS;
 
-/// Returns the most slots that a node owns at first or in the end, at least 1.
+/// The most slots that a node owns at first or in the end, at least 1.
 pub fn most_owned(sheet: &Sheet, nodes: &[u32]) -> u32 {
     let loads = &sheet.scene.loads;
     let mut most = 1u32;
@@ -28,7 +28,7 @@ pub fn most_owned(sheet: &Sheet, nodes: &[u32]) -> u32 {
 
 const ARROW: &[u8] = b" \xe2\x86\x92 ";
 
-/// Returns the words over the bars.
+/// The words over the bars.
 pub fn slots_head(sheet: &Sheet) -> &'static [u8] {
     if sheet.progress.is_some() {
         return b"slots: begun \xe2\x86\x92 now \xe2\x86\x92 end";
@@ -38,8 +38,7 @@ pub fn slots_head(sheet: &Sheet) -> &'static [u8] {
 
 /// Writes a bar and `16 → 13`, with a history `16 → 14 → 13`.
 ///
-/// Kept slots are grey, taken slots in colour, given slots in outline. With a history, a line shows the slots owned
-/// now.
+/// Kept slots are grey, taken ones coloured, given ones outlined. With a history, a line shows the slots owned now.
 pub fn push_slots(sheet: &Sheet, out: &mut Words, node: u32, at_place: Point, most: u32) {
     let loads = &sheet.scene.loads;
     let before = at(loads.before.as_slice(), node as usize);
@@ -82,7 +81,6 @@ fn push_now(sheet: &Sheet, out: &mut Words, node: u32, at_place: Point, most: u3
     push_area(out, line, INK, b"")
 }
 
-// Writes one number if nothing changes.
 fn push_numbers(sheet: &Sheet, out: &mut Words, place: Point, node: u32) {
     let loads = &sheet.scene.loads;
     let before = at(loads.before.as_slice(), node as usize);

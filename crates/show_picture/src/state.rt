@@ -1,12 +1,12 @@
-//! How far a run has come with a move.
+//! Progress of moves.
 
 use crate::sheet::Sheet;
 use show_plan::ShownMove;
 
-/// What a bar says of its copy.
+/// The state of a bar's copy.
 #[derive(Clone, Copy, Debug, PartialEq, Eq)]
 pub enum BarState {
-    /// There is no run.
+    /// Without a run.
     Planned,
     Copied,
     /// Open, with this many of 16 chunks copied.
@@ -15,7 +15,7 @@ pub enum BarState {
     Left,
 }
 
-/// Returns the state of the move's copy.
+/// The state of the move's copy.
 pub fn state_of(sheet: &Sheet, shown: &ShownMove) -> BarState {
     let Some(progress) = sheet.progress else {
         return BarState::Planned;

@@ -1,21 +1,21 @@
-//! The looks of shapes and words, on light and dark pages.
+//! Looks on light and dark pages.
 
-/// A picture's ground.
+/// The ground.
 pub const PAGE: &[u8] = b"page";
 
-/// What is given.
+/// Given slots.
 pub const GIVE: &[u8] = b"give";
 
-/// What is taken.
+/// Taken slots.
 pub const TAKE: &[u8] = b"take";
 
 /// What is done.
 pub const DONE: &[u8] = b"done";
 
-/// What a node keeps.
+/// Kept slots.
 pub const KEPT: &[u8] = b"kept";
 
-/// A mark in the colour of words.
+/// A mark in words' colour.
 pub const INK: &[u8] = b"ink";
 
 /// Copies of any kind.
@@ -24,7 +24,7 @@ pub const SOME: &[u8] = b"some";
 /// Copies still to do.
 pub const PALE: &[u8] = b"pale";
 
-/// The rules of the classes. Words have at least 10 pixels. White on orange or blue has a contrast of at least 4.5.
+/// The classes' rules. Words have at least 10 pixels. White on orange or blue has a contrast of at least 4.5.
 pub const STYLE: &[u8] = b"<style>
 text{font-family:'DejaVu Sans',Verdana,sans-serif;fill:#16202c}
 .t{font-size:19px;font-weight:bold}.s,.n{font-size:12px}.b,.h{font-size:11px}.c,.k{font-size:10px}

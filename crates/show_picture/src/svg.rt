@@ -1,12 +1,12 @@
-//! Shapes as SVG. Coordinates are whole pixels, so the same picture has the same bytes.
+//! Shapes as SVG. Coordinates are whole pixels, so equal pictures have equal bytes.
 
 use crate::style::{PAGE, STYLE};
 use helpers::Words;
 
-/// The width of every picture, about that of a repository's page.
+/// Each picture's width, about that of a repository's page.
 pub const WIDE: u32 = 900;
 
-/// The margin of words at the edges.
+/// Words' margin at the edges.
 pub const MARGIN: u32 = 24;
 
 /// A rectangle.
@@ -26,7 +26,7 @@ pub struct Point {
 }
 
 impl Point {
-    /// Returns the place.
+    /// A place.
     pub fn at(x: u32, y: u32) -> Point {
         Point { x, y }
     }
@@ -125,7 +125,7 @@ pub fn push_rule(out: &mut Words, from: Point, to: Point) {
     out.text(b" class=\"rule\"/>\n");
 }
 
-/// Writes a whole picture. Screen readers read the caption.
+/// Writes a picture. Screen readers read the caption.
 pub fn push_picture(out: &mut Words, height: u32, caption: &Caption, shapes: &Words) {
     out.text(b"<svg xmlns=\"http://www.w3.org/2000/svg\" viewBox=\"0 0 ");
     out.number(WIDE);

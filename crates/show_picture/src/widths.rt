@@ -25,7 +25,7 @@ fn width_of(byte: u8) -> u32 {
     }
 }
 
-/// Returns the text's pixels at the font size, rounded up.
+/// The text's pixels at the font size, rounded up.
 pub fn width(text: &[u8], size: u32) -> u32 {
     let mut hundredths = 0u32;
     for byte in text {

@@ -1,4 +1,4 @@
-//! Which nodes join and leave, and what moves.
+//! Joiners, leavers and moves.
 
 use crate::names::{NodeNames, push_many, push_names};
 use crate::present::PresentRing;
@@ -48,7 +48,7 @@ pub fn push_moves(out: &mut Words, scene: &Scene, one: &[u8], more: &[u8]) {
     push_many(out, scene.moved_slots, b"slot", b"slots")
 }
 
-/// Returns the fewest slots that must move.
+/// The fewest slots that must move.
 ///
 /// These are all slots of leavers and dead nodes, or more, so that each joiner gets its share, rounded down.
 pub fn fewest_moves(ring: &Ring, scene: &Scene, present: &PresentRing) -> u32 {
@@ -82,7 +82,7 @@ fn count_living(ring: &Ring, scene: &Scene, present: &PresentRing) -> u32 {
     count
 }
 
-/// Counts the final members that answer.
+/// Counts final members that answer.
 pub fn count_members(ring: &Ring, scene: &Scene, present: &PresentRing) -> u32 {
     let mut count = 0u32;
     for node in 0..small(ring.nodes().len()) {

@@ -1,4 +1,4 @@
-//! How slots are spread over racks.
+//! Slots and racks.
 
 use helpers::Labels;
 use ring_names::{Listed, NodeId};

@@ -1,4 +1,4 @@
-//! What remains if more nodes fail.
+//! Further failures.
 
 use crate::present::PresentRing;
 use helpers::{at, raise, small};
@@ -16,7 +16,7 @@ fn count_up(row: &[NodeId], present: &PresentRing) -> u32 {
     count
 }
 
-/// Counts the partitions that still answer reads and writes.
+/// Counts partitions that still answer reads and writes.
 pub fn kept(ring: &Ring, rows: &[Listed<NodeId>], present: &PresentRing) -> u32 {
     let needed = ring.r().max(ring.w());
     let mut count = 0u32;
@@ -28,7 +28,7 @@ pub fn kept(ring: &Ring, rows: &[Listed<NodeId>], present: &PresentRing) -> u32 
     count
 }
 
-/// Counts the partitions that answer after one more failure, at worst.
+/// Counts partitions that answer after another failure, at worst.
 pub fn kept_by_one(
     alloc: Global,
     ring: &Ring,
@@ -62,7 +62,7 @@ pub struct SharedCounts {
     pub sum: u32,
 }
 
-/// Counts the partitions that each pair of answering nodes shares.
+/// Counts partitions that pairs of answering nodes share.
 pub fn count_shared(
     alloc: Global,
     ring: &Ring,
@@ -91,7 +91,6 @@ fn up_of(alloc: Global, row: &[NodeId], present: &PresentRing) -> Result<Vec<u32
     Ok(up)
 }
 
-// Returns the greatest count so far.
 fn count_pairs(counts: &mut [u32], row: &[u32]) -> u32 {
     let mut most = 0u32;
     for first in 0..row.len() {
@@ -105,7 +104,7 @@ fn count_pairs(counts: &mut [u32], row: &[u32]) -> u32 {
     most
 }
 
-/// Returns the number of pairs.
+/// The number of pairs.
 pub fn all_pairs(nodes: u32) -> u32 {
     let all = u64::from(nodes).saturating_mul(u64::from(nodes.saturating_sub(1))) / 2;
     u32::try_from(all).unwrap_or(u32::MAX)
@@ -119,7 +118,7 @@ fn count_marked(marks: &[u32], row: &[NodeId]) -> u32 {
     count
 }
 
-/// Counts the partitions with two or more slots on the nodes.
+/// Counts partitions with two or more slots on the nodes.
 pub fn count_crowded(
     alloc: Global,
     ring: &Ring,

@@ -1,4 +1,4 @@
-//! A plan in words: moves, rounds, loads, and how far a run has come. Only moves, rounds and owners are proved, by
+//! A plan in words: moves, rounds, loads, and a run's progress. Only moves, rounds and owners are proved, by
 //! `plan_moves`.
 #![tactic(auto)]
 

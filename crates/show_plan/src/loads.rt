@@ -1,4 +1,4 @@
-//! What each node owns, gives, takes and may bear.
+//! Loads of nodes.
 
 use crate::shown::AllShown;
 use find_chains::{Order, Sides, sides_of};
@@ -17,7 +17,7 @@ pub struct Loads {
     pub before: Vec<u32>,
     /// Slots after the last step.
     pub after: Vec<u32>,
-    /// Moves whose copies read from the node.
+    /// Moves with copies from the node.
     pub gives: Vec<u32>,
     /// Moves to the node.
     pub takes: Vec<u32>,
@@ -91,8 +91,8 @@ impl Loads {
 
     /// Writes the most transfers at once, and the allowance.
     ///
-    /// For example `3 at once (bears 4)`, or `2 in at once (bears 2), 1 out at once (bears 2)`. Leaves out a side
-    /// without transfers.
+    /// For example `3 at once (bears 4)`, or `2 in at once (bears 2), 1 out at once (bears 2)`. Omits a side without
+    /// transfers.
     pub fn push_at_once(&self, out: &mut Words, allowance: Allowance, node: u32) {
         let place = node as usize;
         match allowance {

@@ -1,4 +1,4 @@
-//! Names of nodes, and counts in words.
+//! Names and counts.
 
 use helpers::{Labels, Words};
 use ring_names::Refusal;
@@ -11,7 +11,7 @@ const MOST: usize = 32;
 
 const KEPT: usize = 15;
 
-/// The names of a ring's nodes, or their aliases.
+/// The nodes' names, or their aliases.
 #[derive(Clone, Copy)]
 pub struct NodeNames<'a> {
     ring: &'a Ring,
@@ -19,7 +19,7 @@ pub struct NodeNames<'a> {
 }
 
 impl<'a> NodeNames<'a> {
-    /// Takes aliases that `short_labels` made.
+    /// Takes aliases from `short_labels`.
     pub fn new(ring: &'a Ring, aliases: Option<&'a Labels>) -> NodeNames<'a> {
         NodeNames { ring, aliases }
     }
@@ -28,7 +28,7 @@ impl<'a> NodeNames<'a> {
         self.ring
     }
 
-    /// Returns the node's alias, or its name.
+    /// The node's alias, or its name.
     pub fn name(&self, node: u32) -> &'a [u8] {
         match self.aliases {
             Some(aliases) if !aliases.name(node).is_empty() => aliases.name(node),
@@ -64,7 +64,7 @@ fn short_of(alloc: Global, label: &str) -> Result<String, Refusal> {
     Ok(short)
 }
 
-// XML does not allow these two characters.
+// Characters that XML forbids.
 fn shown(letter: char) -> char {
     match letter {
         '\u{fffe}' | '\u{ffff}' => '?',
@@ -72,7 +72,7 @@ fn shown(letter: char) -> char {
     }
 }
 
-/// Writes `a`, `a and b`, `a, b and c`. With more than `most` nodes: `a, b and 7 others`.
+/// Writes `a`, `a and b`, `a, b and c`. Above `most` nodes: `a, b and 7 others`.
 pub fn push_names(out: &mut Words, names: NodeNames, nodes: &[u32], most: usize) {
     let shown = if nodes.len() > most {
         most.saturating_sub(1)
@@ -98,7 +98,7 @@ pub fn push_names(out: &mut Words, names: NodeNames, nodes: &[u32], most: usize)
     }
 }
 
-/// Writes the number with a word for one or for more.
+/// Writes the number with a word for one or more.
 pub fn push_many(out: &mut Words, number: u32, one: &[u8], more: &[u8]) {
     out.number(number);
     out.byte(b' ');

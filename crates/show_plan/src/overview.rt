@@ -1,4 +1,4 @@
-//! The summary of a plan, in words.
+//! A plan's summary.
 
 use crate::change::{count_members, fewest_moves, push_change, push_moves};
 use crate::domains::sharing;
@@ -32,11 +32,11 @@ pub enum SummaryShape {
 #[derive(Clone, Copy)]
 pub struct Sized<'a> {
     pub volumes: &'a Volumes,
-    /// What one transfer copies in a second, from 1 on.
+    /// One transfer's rate per second, from 1.
     pub rate: Option<u32>,
 }
 
-/// The input of a summary.
+/// A summary's input.
 #[derive(Clone, Copy)]
 pub struct Overview<'a> {
     pub alloc: Global,
@@ -172,7 +172,7 @@ fn tell_sources(line: &mut Words, listed: u32) {
     line.text(b" listed slots of the partition in place of the owner");
 }
 
-// Of answering members, now and in the end.
+// Of answering members, now and finally.
 fn spans_of(view: &Overview) -> (SlotSpan, SlotSpan) {
     let (mut now, mut then) = (SlotSpan::new(), SlotSpan::new());
     let loads = &view.scene.loads;
@@ -369,7 +369,7 @@ fn push_summary(view: &Overview, out: &mut Words, line: &mut Words) -> Result<()
     Ok(())
 }
 
-/// Writes the summary of a plan. Fails only with `OutOfMemory`.
+/// Writes a plan's summary. Fails only with `OutOfMemory`.
 ///
 /// Lines have at most 100 bytes, except rows with long names or large sizes.
 pub fn summary(view: &Overview) -> Result<Vec<u8>, Refusal> {

@@ -11,7 +11,7 @@ pub struct Flow {
 }
 
 impl Flow {
-    /// Returns a line filled up to its indent.
+    /// A line filled up to its indent.
     pub fn new(indent: usize) -> Flow {
         Flow {
             indent,

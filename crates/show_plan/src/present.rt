@@ -1,4 +1,4 @@
-//! A ring after a history's last entry.
+//! The present ring.
 
 use crate::scene::Scene;
 use crate::shown::ShownMove;
@@ -17,7 +17,7 @@ pub struct PresentRing {
     pub rows: Vec<Listed<NodeId>>,
     /// The slots of each node.
     pub owned: Vec<u32>,
-    /// The dead or down nodes, ascending.
+    /// Dead or down nodes, ascending.
     pub silent: Vec<u32>,
     is_member: Vec<bool>,
     // by node, from the history
@@ -27,7 +27,7 @@ pub struct PresentRing {
 }
 
 impl PresentRing {
-    /// Returns the ring after the history. Fails only with `OutOfMemory`.
+    /// The ring after the history. Fails only with `OutOfMemory`.
     pub fn of(
         alloc: Global,
         approved: &Approved,
@@ -46,7 +46,7 @@ impl PresentRing {
         Ok(present)
     }
 
-    /// Returns the ring without a plan. Fails only with `OutOfMemory`.
+    /// The ring without a plan. Fails only with `OutOfMemory`.
     pub fn at_rest(alloc: Global, ring: &Ring, dead: &[NodeId]) -> Result<PresentRing, Refusal> {
         let rows = rows_now(alloc, ring, &[], None)?;
         let mut present = PresentRing::with_rows(alloc, ring, rows)?;
@@ -124,7 +124,7 @@ impl PresentRing {
         self.is_dead(node) || self.is_down(node)
     }
 
-    /// Returns `dead` or `down`.
+    /// `dead` or `down`.
     pub fn silence(&self, node: u32) -> &'static [u8] {
         if self.is_dead(node) { b"dead" } else { b"down" }
     }

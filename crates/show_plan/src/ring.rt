@@ -1,4 +1,4 @@
-//! A ring without a plan, in words.
+//! A ring without a plan.
 
 use crate::domains::sharing;
 use crate::failing::{all_pairs, count_shared, kept_by_one};
@@ -18,7 +18,7 @@ use std::alloc::Global;
 
 const INDENT: usize = 12;
 
-/// What is known besides the ring's text.
+/// Facts besides the ring's text.
 #[derive(Drop)]
 pub struct RingFacts {
     pub racks: Option<Labels>,
@@ -29,7 +29,7 @@ pub struct RingFacts {
 }
 
 impl RingFacts {
-    /// Returns how much each partition stores.
+    /// Each partition's size.
     pub fn sizes(&self) -> Option<&[u64]> {
         match &self.sizes {
             Some(sizes) => Some(sizes.as_slice()),
@@ -49,7 +49,7 @@ struct RingState<'a> {
 }
 
 impl<'a> RingState<'a> {
-    // Aliases have a column of their own.
+    // Aliases have their own column.
     fn names(&self) -> NodeNames<'a> {
         NodeNames::new(self.ring, None)
     }
@@ -238,7 +238,7 @@ impl Widths {
     }
 }
 
-/// Returns how much each node stores, if partitions have sizes.
+/// Each node's stored size, if partitions have sizes.
 pub fn stored_by(
     alloc: Global,
     present: &PresentRing,
@@ -254,7 +254,7 @@ pub fn stored_by(
     }
 }
 
-/// Writes the summary of a ring, with a table of nodes. Fails only with `OutOfMemory`.
+/// Writes a ring's summary, with a table of nodes. Fails only with `OutOfMemory`.
 pub fn ring_summary(alloc: Global, ring: &Ring, facts: &RingFacts) -> Result<Vec<u8>, Refusal> {
     let present = PresentRing::at_rest(alloc, ring, facts.dead.as_slice())?;
     let stored = stored_by(alloc, &present, facts.sizes())?;

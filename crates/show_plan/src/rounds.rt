@@ -14,13 +14,12 @@ const SHORT: u32 = 12;
 
 const SHOWN: u32 = 10;
 
-// In a short list, the most pairs in a round, and the most slots of a pair.
+// In a short list, a round's most pairs, and a pair's most slots.
 const ENTRIES: usize = 6;
 
 // The indent of copies without sizes.
 const INDENT: usize = 18;
 
-// 0 without sizes.
 fn size_column(view: &Overview) -> usize {
     match view.sized {
         Some(Sized { volumes, .. }) => volumes.rounds_width.saturating_add(2),
@@ -28,7 +27,7 @@ fn size_column(view: &Overview) -> usize {
     }
 }
 
-// In the list's order: by round, nodes read, target. A copy of listed slots is an entry of its own.
+// In the list's order: by round, nodes read, target. A copy of listed slots is its own entry.
 #[derive(Clone, Copy, PartialEq, Eq, PartialOrd, Ord)]
 struct Placed {
     round: u32,
@@ -60,7 +59,6 @@ fn in_order(alloc: Global, moves: &[ShownMove]) -> Result<Vec<Placed>, Refusal> 
     Ok(order)
 }
 
-// Whether both belong to one entry.
 fn are_alike(one: &Placed, other: &Placed) -> bool {
     one.round == other.round && one.reads == other.reads && one.to == other.to
 }
@@ -127,7 +125,6 @@ fn tell_more(word: &mut Words, count: usize, what: &[u8]) {
     word.text(what);
 }
 
-// `word` is a buffer.
 fn push_entry(
     view: &Overview,
     out: &mut Words,
@@ -240,7 +237,7 @@ fn push_in_order(view: &Overview, out: &mut Words, word: &mut Words, order: &[Pl
     out.text(b" (--all)\n");
 }
 
-/// Writes the rounds and their copies. `word` is an empty buffer.
+/// Writes rounds and their copies. `word` is an empty buffer.
 pub fn push_rounds(view: &Overview, out: &mut Words, word: &mut Words) -> Result<(), Refusal> {
     out.text(b"  round  copies");
     if view.sized.is_some() {

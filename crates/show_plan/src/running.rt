@@ -1,4 +1,4 @@
-//! How far a run has come, in words.
+//! A run's progress.
 
 use crate::names::push_many;
 use crate::overview::Overview;
@@ -95,7 +95,6 @@ fn push_open(view: &Overview, out: &mut Words, progress: &Progress) {
     }
 }
 
-// Writes the first four ready steps, and how many more there are.
 fn tell_next(view: &Overview, line: &mut Words, progress: &Progress) {
     line.text(b"  next      ");
     let mut count = 0u32;

@@ -1,4 +1,4 @@
-//! What is shown of a plan.
+//! What a plan shows.
 
 use crate::loads::Loads;
 use crate::shown::{AllShown, ShownMove};
@@ -11,18 +11,18 @@ use ring_names::{Listed, NodeId, Refusal};
 use ring_table::Ring;
 use std::alloc::Global;
 
-/// An approved plan, with all that is shown of it.
+/// An approved plan, with all that is shown.
 #[derive(Drop)]
 pub struct Scene {
     pub shown: AllShown,
     /// By step.
     pub rounds: Vec<u32>,
-    /// The copies of each round, from 1 on.
+    /// Each round's copies, from 1 on.
     pub widths: Vec<u32>,
-    /// In the order of steps.
+    /// In step order.
     pub joins: Vec<u32>,
     pub leaves: Vec<u32>,
-    /// The different slots that move.
+    /// The different moving slots.
     pub moved_slots: u32,
     /// The final owners, by partition.
     pub last_rows: Vec<Listed<NodeId>>,
@@ -30,7 +30,7 @@ pub struct Scene {
 }
 
 impl Scene {
-    /// Collects what is shown of a plan. Fails only with `OutOfMemory`.
+    /// Collects what is shown. Fails only with `OutOfMemory`.
     pub fn of(alloc: Global, approved: &Approved, cert: &Cert) -> Result<Scene, Refusal> {
         let (ring, plan) = (approved.ring(), approved.plan());
         let begun = moves(alloc, ring, plan)?;
@@ -54,12 +54,12 @@ impl Scene {
         })
     }
 
-    /// Returns how many rounds follow each other.
+    /// The number of consecutive rounds.
     pub fn round_count(&self) -> u32 {
         helpers::small(self.widths.len())
     }
 
-    /// Returns how many copies the widest round has.
+    /// The widest round's copies.
     pub fn widest(&self) -> u32 {
         let mut most = 0u32;
         for width in self.widths.as_slice() {
@@ -73,7 +73,7 @@ impl Scene {
         helpers::small(self.shown.moves.len())
     }
 
-    /// Whether the node is a member in the end.
+    /// Whether the node is a final member.
     pub fn stays(&self, ring: &Ring, node: u32) -> bool {
         let is_member = ring.is_member(NodeId(node)) || self.joins.as_slice().contains(&node);
         is_member && !self.leaves.as_slice().contains(&node)

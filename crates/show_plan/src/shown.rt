@@ -1,4 +1,4 @@
-//! The moves of a plan, with their steps.
+//! Moves and their steps.
 
 use find_chains::Stays;
 use helpers::{at, row};
@@ -17,17 +17,17 @@ pub struct ShownMove {
     pub mirror: u32,
     pub copy: Option<u32>,
     pub switch: Option<u32>,
-    /// The round of the copy, from 1; 0 without a copy.
+    /// The copy's round, from 1; 0 without a copy.
     pub round: u32,
     /// The round in which the mirror opens.
     pub opens: u32,
-    /// The row of the nodes that are read.
+    /// The row of nodes read.
     pub reads: Option<usize>,
     /// Whether the copy reads listed slots, not the owner.
     pub is_listed: bool,
 }
 
-/// The moves in the order of mirrors, and the nodes that copies read.
+/// The moves in mirrors' order, and the nodes that copies read.
 #[derive(Drop)]
 pub struct AllShown {
     pub moves: Vec<ShownMove>,
@@ -122,7 +122,7 @@ impl AllShown {
         }
     }
 
-    /// Returns the nodes that the copy reads, in the order of listed slots.
+    /// The nodes that the copy reads, in listed order.
     pub fn read_by(&self, shown: &ShownMove) -> &[u32] {
         match shown.reads {
             Some(place) => row(&self.reads, place),
@@ -131,7 +131,7 @@ impl AllShown {
     }
 }
 
-// A move begins with a mirror, whose stay comes after those of the ring's owners.
+// A move begins with a mirror, whose stay follows the ring's owners'.
 fn open_move(stays: &Stays, owners: usize, slot: Slot) -> Option<usize> {
     stays.mirror_at(slot)?.checked_sub(owners)
 }

@@ -1,4 +1,4 @@
-//! The nodes that do not answer, in words.
+//! Nodes that do not answer.
 
 use crate::failing::kept;
 use crate::names::{NodeNames, push_many, push_names};
@@ -19,7 +19,7 @@ fn silent_by(alloc: Global, present: &PresentRing, is_dead: bool) -> Result<Vec<
     Ok(nodes)
 }
 
-/// Writes which nodes are dead or down, and how many partitions still answer. Needs such a node.
+/// Writes which nodes are dead or down, and how many partitions answer. Needs such a node.
 pub fn tell_silent(
     alloc: Global,
     names: NodeNames,
@@ -67,7 +67,7 @@ pub fn push_failing(line: &mut Words, names: NodeNames, present: &PresentRing, w
     }
 }
 
-/// Writes `n07`, or `n07 dead`. Returns the columns used.
+/// Writes `n07`, or `n07 dead`. Returns its columns.
 pub fn push_node(out: &mut Words, names: NodeNames, present: &PresentRing, node: u32) -> usize {
     let name = names.name(node);
     out.text(name);
@@ -80,7 +80,7 @@ pub fn push_node(out: &mut Words, names: NodeNames, present: &PresentRing, node:
     columns(name).saturating_add(silence).saturating_add(1)
 }
 
-/// Counts the ring's members that answer.
+/// Counts members that answer.
 pub fn count_answering(ring: &Ring, present: &PresentRing) -> u32 {
     let mut count = 0u32;
     for node in 0..small(ring.nodes().len()) {

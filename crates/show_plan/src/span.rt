@@ -1,8 +1,8 @@
-//! How many slots nodes own.
+//! Spans.
 
 use helpers::Words;
 
-/// The fewest and the most slots of nodes.
+/// Nodes' fewest and most slots.
 #[derive(Clone, Copy)]
 pub struct SlotSpan {
     least: u32,
@@ -10,7 +10,7 @@ pub struct SlotSpan {
 }
 
 impl SlotSpan {
-    /// Returns the span of no nodes.
+    /// The span of no nodes.
     pub fn new() -> SlotSpan {
         SlotSpan {
             least: u32::MAX,

@@ -1,4 +1,4 @@
-//! The table of nodes that take part or do not answer.
+//! The table of nodes.
 
 use crate::names::{push_many, push_names};
 use crate::overview::{Overview, Sized, SummaryShape};
@@ -14,7 +14,6 @@ use ring_names::Refusal;
 use ring_table::Node;
 use std::alloc::Global;
 
-// The most rows of a short table.
 const SHORT: usize = 24;
 
 const BAR: usize = 24;
@@ -27,7 +26,7 @@ struct Table {
     hidden: Vec<u32>,
     names: usize,
     at_once: usize,
-    // width of a size given or taken
+    // a size's width
     sizes: usize,
     // the most slots of a row's node, before or after
     top: u32,
@@ -43,7 +42,7 @@ fn taking_part(view: &Overview) -> Result<Vec<u32>, Refusal> {
     Ok(nodes)
 }
 
-// Ranks a role. Silent nodes come first.
+// Ranks a role, silent nodes first.
 fn kind(view: &Overview, node: u32) -> usize {
     if view.present.is_silent(node) {
         0
@@ -72,7 +71,7 @@ fn ranked(view: &Overview, nodes: &[u32]) -> Result<Vec<(usize, u32, u32)>, Refu
     Ok(order)
 }
 
-// The first node of each kind, then the second, and so on.
+// Each kind's first node, then its second, and so on.
 fn in_turns(
     alloc: Global,
     ranked: &[(usize, u32, u32)],
@@ -102,7 +101,6 @@ fn first_of(
     Ok(found)
 }
 
-// The busiest of each kind.
 fn chosen(view: &Overview, nodes: &[u32], most: usize) -> Result<Vec<u32>, Refusal> {
     let order = ranked(view, nodes)?;
     let turns = in_turns(view.alloc, order.as_slice())?;
@@ -265,7 +263,6 @@ impl Table {
     }
 }
 
-// Writes the slots before and after the plan.
 fn push_two(view: &Overview, line: &mut Words, node: u32) {
     let (loads, place) = (&view.scene.loads, node as usize);
     push_spaces(line, 3);
@@ -278,7 +275,6 @@ fn push_two(view: &Overview, line: &mut Words, node: u32) {
     line.byte(b' ');
 }
 
-// Writes the slots before, now and after.
 fn push_three(view: &Overview, line: &mut Words, node: u32) {
     let (loads, place) = (&view.scene.loads, node as usize);
     push_spaces(line, 2);
@@ -315,7 +311,6 @@ fn sign(view: &Overview, node: u32) -> u8 {
     }
 }
 
-// Writes a point for 0.
 fn push_count(line: &mut Words, count: u32) {
     if count == 0 {
         return push_right(line, b".", 5);
@@ -346,7 +341,7 @@ fn push_idle(view: &Overview, out: &mut Words) -> Result<(), Refusal> {
 
 /// Writes the table. `line` is a buffer.
 ///
-/// Columns are transfers at once, moves, and slots before, now and in the end.
+/// Columns: transfers at once, moves, and slots before, now and finally.
 pub fn push_table(view: &Overview, out: &mut Words, line: &mut Words) -> Result<(), Refusal> {
     let mut table = Table::of(view)?;
     table.measure(view, line);

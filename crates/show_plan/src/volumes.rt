@@ -1,4 +1,4 @@
-//! How much a plan moves, if partitions have sizes.
+//! Sizes of moves.
 
 use crate::scene::Scene;
 use crate::shown::ShownMove;
@@ -10,16 +10,16 @@ use plan_text::{Plan, Step};
 use ring_names::{Listed, NodeId, Refusal, Slot};
 use std::alloc::Global;
 
-/// How much a history leaves to move.
+/// How much remains after a history.
 #[derive(Clone, Copy, Debug)]
 pub struct Left {
-    /// What unfinished copies still have to move, without copied chunks.
+    /// The rest of unfinished copies, without copied chunks.
     pub moved: u64,
     /// The most of that on one path of dependencies.
     pub longest: u64,
 }
 
-/// How much a plan moves, in the unit of the sizes.
+/// How much a plan moves, in the sizes' unit.
 #[derive(Drop)]
 pub struct Volumes {
     /// The sum of all moves.
@@ -28,11 +28,11 @@ pub struct Volumes {
     pub gives: Vec<u64>,
     /// By node.
     pub takes: Vec<u64>,
-    /// By round, from 1 on.
+    /// By round, from 1.
     pub rounds: Vec<u64>,
-    /// The width of a column of these numbers.
+    /// A column's width for these numbers.
     pub rounds_width: usize,
-    /// The most that copies move on one path of dependencies. The plan cannot end before one transfer copies that much.
+    /// The most that copies move on a path of dependencies. The plan cannot end before one transfer copies that much.
     ///
     /// Allowances give no better bound: they are chains of copies, which depend on each other.
     pub longest: u64,
@@ -81,7 +81,7 @@ impl Volumes {
         }
     }
 
-    /// Returns the seconds until the plan can end, at `rate` a second for a transfer, from 1 on.
+    /// The seconds until the plan can end, at `rate` a second for a transfer, from 1.
     pub fn earliest_end(&self, rate: u32) -> u64 {
         let rate = u64::from(rate);
         let longest = match &self.left {
@@ -133,7 +133,7 @@ fn left_of(
     })
 }
 
-// The most that remains on a path of dependencies.
+// The rest on the longest path of dependencies.
 fn longest(
     alloc: Global,
     plan: &Plan,
@@ -156,7 +156,7 @@ fn longest(
     Ok(most)
 }
 
-/// Returns how much each node stores.
+/// Each node's stored size.
 pub fn stored(
     alloc: Global,
     nodes: usize,

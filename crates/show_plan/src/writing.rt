@@ -1,14 +1,13 @@
-//! Words and numbers in lines of text.
+//! Words in lines.
 
 use helpers::Words;
 
 /// The widest line, in characters.
 pub const WIDTH: usize = 100;
 
-// A long number's lower digits.
 const LOW_DIGITS: usize = 9;
 
-/// Returns the columns of a text: one for each character.
+/// A text's columns: one for each character.
 pub fn columns(text: &[u8]) -> usize {
     let mut count = 0usize;
     for byte in text {
@@ -79,7 +78,6 @@ fn count_long_digits(number: u64) -> usize {
     count_digits(high).saturating_add(LOW_DIGITS)
 }
 
-// Splits off the last nine digits.
 fn halves(number: u64) -> (u32, u32) {
     let high = u32::try_from(number / 1_000_000_000).unwrap_or(u32::MAX);
     let low = u32::try_from(number % 1_000_000_000).unwrap_or(0);
@@ -96,7 +94,7 @@ pub fn push_long(out: &mut Words, number: u64) {
     out.number(low);
 }
 
-// Writes a number below 100 as `05`.
+// Writes `05` for 5.
 fn push_two_digits(out: &mut Words, number: u64) {
     if number < 10 {
         out.byte(b'0');
@@ -124,7 +122,6 @@ pub fn push_time(out: &mut Words, seconds: u64) {
     out.text(b" min")
 }
 
-// Thousands, millions and so on.
 const LETTERS: [&[u8]; 6] = [b" k", b" M", b" G", b" T", b" P", b" E"];
 
 /// Writes `9999`, `12.3 k` or `8.5 G`, rounded down.
@@ -156,7 +153,7 @@ pub fn push_long_right(out: &mut Words, number: u64, width: usize) {
     push_long(out, number);
 }
 
-/// Returns the width of a column, at least `least`.
+/// A column's width, at least `least`.
 pub fn width_of(numbers: &[u64], least: usize) -> usize {
     let mut width = least;
     for number in numbers {
@@ -165,7 +162,7 @@ pub fn width_of(numbers: &[u64], least: usize) -> usize {
     width
 }
 
-/// Writes a number given in tenths.
+/// Writes a number of tenths.
 pub fn push_tenths(out: &mut Words, tenths: u32) {
     out.number(tenths / 10);
     out.byte(b'.');
@@ -191,7 +188,6 @@ fn last_space(line: &[u8], room: usize) -> Option<usize> {
     found
 }
 
-// Breaks a wide line at spaces and indents the rest.
 fn push_line(out: &mut Words, line: &[u8], indent: usize) {
     let mut rest = line;
     let mut room = WIDTH;
@@ -226,7 +222,7 @@ fn cut_at(line: &[u8], place: usize) -> (&[u8], &[u8]) {
     (line, &[])
 }
 
-/// Writes the line without the spaces at its end.
+/// Writes the line without final spaces.
 pub fn push_trimmed(out: &mut Words, line: &[u8]) {
     let mut width = 0usize;
     let mut place = 0usize;

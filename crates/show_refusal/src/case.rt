@@ -1,4 +1,4 @@
-//! A bundle with valid texts and a refused plan.
+//! The refused bundle.
 
 use crate::ends::FactEnds;
 use find_chains::slot_of;
@@ -22,7 +22,6 @@ pub struct Case<'a> {
     pub ends: &'a FactEnds,
 }
 
-// Cuts the dependencies off.
 fn head(line: &[u8]) -> &[u8] {
     let Some(place) = place_of(line, b"after") else {
         return line;
@@ -40,40 +39,40 @@ impl<'a> Case<'a> {
             .saturating_add(5)
     }
 
-    /// Returns the step's line.
+    /// The step's line.
     pub fn step_line(&self, step: u32) -> u32 {
         self.plan_line().saturating_add(1).saturating_add(step)
     }
 
-    /// Returns the certificate's first line.
+    /// The certificate's first line.
     pub fn cert_line(&self) -> u32 {
         self.plan_line()
             .saturating_add(self.plan.len())
             .saturating_add(2)
     }
 
-    /// Returns the fact's line.
+    /// The fact's line.
     pub fn fact_line(&self, fact: u32) -> u32 {
         self.cert_line().saturating_add(1).saturating_add(fact)
     }
 
-    /// Returns the chain's line.
+    /// The chain's line.
     pub fn chain_line(&self, chain: u32) -> u32 {
         self.fact_line(small(self.cert.facts.len()))
             .saturating_add(chain)
     }
 
-    /// Returns the certificate's last line.
+    /// The certificate's last line.
     pub fn cert_end(&self) -> u32 {
         self.chain_line(small(self.cert.chains.len()))
     }
 
-    /// Returns the node's line.
+    /// The node's line.
     pub fn node_line(&self, node: u32) -> u32 {
         node.saturating_add(4)
     }
 
-    /// Returns the node's name.
+    /// The node's name.
     pub fn name(&self, node: u32) -> &'a [u8] {
         match self.ring.nodes().get(node as usize) {
             Some(node) => node.name.as_slice(),
@@ -81,7 +80,7 @@ impl<'a> Case<'a> {
         }
     }
 
-    /// Returns the step, if the plan has it.
+    /// The step, if any.
     pub fn step(&self, number: u32) -> Option<&'a Step> {
         if number < self.plan.len() {
             Some(self.plan.step(number))
@@ -90,7 +89,7 @@ impl<'a> Case<'a> {
         }
     }
 
-    /// Returns the step's slot, if it has one.
+    /// The step's slot, if any.
     pub fn slot(&self, number: u32) -> Option<Slot> {
         slot_of(self.step(number)?)
     }
@@ -105,7 +104,7 @@ impl<'a> Case<'a> {
         count
     }
 
-    /// Returns the slot's last step before this one.
+    /// The slot's previous step.
     pub fn before(&self, slot: Slot, number: u32) -> Option<u32> {
         let mut found = None;
         for other in self.plan.slot_steps(slot) {
@@ -116,7 +115,7 @@ impl<'a> Case<'a> {
         found
     }
 
-    /// Returns the slot's stage before the step.
+    /// The slot's stage before the step.
     pub fn stage(&self, slot: Slot, number: u32) -> Result<Option<Stage>, Refusal> {
         if slot.partition >= self.ring.q() || slot.index >= self.ring.n() {
             return Ok(None);
@@ -126,7 +125,7 @@ impl<'a> Case<'a> {
         Ok(Some(stage))
     }
 
-    /// Whether a direct dependency or a fact orders the two steps.
+    /// Whether a direct dependency or a fact orders the steps.
     pub fn is_ordered(&self, first: u32, second: u32) -> bool {
         if second >= self.plan.len() {
             return false;
@@ -139,12 +138,12 @@ impl<'a> Case<'a> {
         said.fault_with(self.step_line(number), b"step #", &[], &[number])
     }
 
-    /// Marks a step that belongs to the fault.
+    /// Marks a related step.
     pub fn beside(&self, said: &mut Said, number: u32) {
         said.beside_with(self.step_line(number), b"step #", &[], &[number])
     }
 
-    /// Mends a step by one more dependency.
+    /// Mends a step by another dependency.
     pub fn wait(&self, said: &mut Said, number: u32, more: u32) {
         let line = self.step_line(number);
         said.put(line);

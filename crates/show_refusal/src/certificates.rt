@@ -1,4 +1,4 @@
-//! Certificates that do not show what they must.
+//! Faulty certificates.
 
 use crate::case::Case;
 use crate::roles::{CopyRole, role_at, roles};
@@ -58,7 +58,6 @@ fn chain_word(case: Case, node: u32, role: CopyRole) -> &'static [u8] {
     }
 }
 
-// Marks the first six.
 fn show_chains(case: Case, said: &mut Said, node: u32, side: Option<Side>) {
     let mut count = 0u32;
     for place in 0..case.cert.chains.len() {
@@ -71,7 +70,7 @@ fn show_chains(case: Case, said: &mut Said, node: u32, side: Option<Side>) {
     }
 }
 
-/// Reports a copy that is missing from a node's chains.
+/// Reports a copy missing from a node's chains.
 pub fn cover_missing(case: Case, said: &mut Said, node: u32, number: u32) -> Result<(), Refusal> {
     let name = case.name(node);
     said.title_with(b"no chain of @ has its copy, step #", &[name], &[number]);
@@ -99,7 +98,6 @@ fn counts(side: Side, role: Option<CopyRole>) -> bool {
     }
 }
 
-// The first step that is not a copy of the node.
 fn misfit(case: Case, of: NodeSide, steps: &[u32]) -> Result<Option<u32>, Refusal> {
     let roles = roles(case, of.node)?;
     for step in steps {
@@ -110,7 +108,7 @@ fn misfit(case: Case, of: NodeSide, steps: &[u32]) -> Result<Option<u32>, Refusa
     Ok(None)
 }
 
-/// Reports a foreign step in a chain, or two steps without an order.
+/// Reports a chain's foreign step, or two unordered steps.
 pub fn chain_broken(case: Case, said: &mut Said, number: u32) -> Result<(), Refusal> {
     said.title_with(b"chain # is not in order", &[], &[number]);
     if number as usize >= case.cert.chains.len() {
@@ -143,7 +141,6 @@ pub fn chain_broken(case: Case, said: &mut Said, number: u32) -> Result<(), Refu
     Ok(())
 }
 
-// Removes the step, or the chain if it has no other.
 fn shorten(case: Case, said: &mut Said, number: u32, step: u32) {
     if number as usize >= case.cert.chains.len() {
         return;
@@ -203,7 +200,7 @@ fn count_chains(case: Case, of: NodeSide) -> u32 {
     count
 }
 
-// The crowded side, its chains, and the most it may have.
+// The crowded side, its chains, and their limit.
 fn crowded(case: Case, node: u32) -> Option<(NodeSide, u32, u32)> {
     for side in [Side::Both, Side::Take, Side::Give] {
         let of = NodeSide {
@@ -225,7 +222,7 @@ fn crowded(case: Case, node: u32) -> Option<(NodeSide, u32, u32)> {
 pub enum Remedy {
     /// No other certificate was sought, or the search does not tell.
     Unknown,
-    /// Another certificate, which the checker accepts.
+    /// Another accepted certificate.
     Certificate,
     /// Only another plan: no certificate has few enough chains.
     Plan,

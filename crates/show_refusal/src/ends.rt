@@ -1,9 +1,9 @@
-//! Finds facts by their ends.
+//! Facts by their ends.
 
 use ring_names::{Refusal, Rows};
 use std::alloc::Global;
 
-/// The first and last steps of the facts, sorted.
+/// The facts' first and last steps, sorted.
 #[derive(Drop)]
 pub struct FactEnds {
     pairs: Vec<(u32, u32)>,

@@ -1,4 +1,4 @@
-//! Nodes that must not hold slots, and nodes that are not members.
+//! Nodes that must not hold slots, or are not members.
 
 use crate::case::Case;
 use find_chains::{Stay, Stays};
@@ -14,7 +14,7 @@ fn all_stays(case: Case) -> Result<Stays, Refusal> {
     Ok(stays)
 }
 
-// Whether the stay began before the step and is not known to end before it.
+// Whether the stay began before the step, and has no known end before it.
 fn lasts(case: Case, stay: Stay, number: u32) -> bool {
     let has_begun = match stay.begun {
         Some(begun) => begun < number,
@@ -157,7 +157,7 @@ pub fn not_joined(case: Case, said: &mut Said, number: u32) {
     case.wait(said, number, join)
 }
 
-// Slots without a drop, and drops that the retirement does not wait for.
+// Slots without a drop, and drops that the retirement does not await.
 #[derive(Drop)]
 struct Left {
     slots: Vec<Slot>,
@@ -208,7 +208,6 @@ fn tell_slots(said: &mut Said, slots: &[Slot]) {
     }
 }
 
-// Marks the first six.
 fn tell_drops(case: Case, said: &mut Said, drops: &[u32]) {
     for drop in &drops[..drops.len().min(6)] {
         said.beside_with(
@@ -239,7 +238,7 @@ fn tell_left(case: Case, said: &mut Said, left: &Left, number: u32) {
     case.wait(said, number, *drop)
 }
 
-/// Reports a node that retires with slots that it has not dropped.
+/// Reports a node that retires with undropped slots.
 pub fn retired_in_use(case: Case, said: &mut Said, number: u32) -> Result<(), Refusal> {
     let Some(Step::Retire(node)) = case.step(number) else {
         said.title(b"a node retires with slots that it has not dropped");

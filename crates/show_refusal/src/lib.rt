@@ -1,5 +1,5 @@
-//! Explains why the checker refuses a plan, and what may mend it. Nothing is proved of the words; the checker says
-//! whether a mend works.
+//! Explains why the checker refuses a plan, and what may mend it. No words are proved; the checker says whether a mend
+//! works.
 #![tactic(auto)]
 
 mod case;

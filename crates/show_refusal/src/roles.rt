@@ -1,4 +1,4 @@
-//! How a node takes part in copies.
+//! Roles in copies.
 
 use crate::case::Case;
 use find_chains::Stays;
@@ -36,7 +36,7 @@ fn role_in(stays: &Stays, node: NodeId, step: &Step) -> Option<CopyRole> {
     if gives { Some(CopyRole::Gives) } else { None }
 }
 
-/// Returns the node's role in each step. Costs a walk over the plan.
+/// The node's role in each step. Costs a walk over the plan.
 pub fn roles(case: Case, node: NodeId) -> Result<Vec<Option<CopyRole>>, Refusal> {
     let mut stays = Stays::of(case.alloc, case.ring)?;
     let mut found = Vec::new(case.alloc);
@@ -48,7 +48,7 @@ pub fn roles(case: Case, node: NodeId) -> Result<Vec<Option<CopyRole>>, Refusal>
     Ok(found)
 }
 
-/// Returns the role in the step.
+/// The role in the step.
 pub fn role_at(roles: &[Option<CopyRole>], number: u32) -> Option<CopyRole> {
     match roles.get(number as usize) {
         Some(role) => *role,

@@ -15,7 +15,7 @@ fn different(indexes: &[u8]) -> u32 {
     count
 }
 
-/// Reports a copy that lists a slot twice, or too few slots.
+/// Reports a copy that lists a slot twice, or too few.
 pub fn bad_source(case: Case, said: &mut Said, number: u32) {
     said.title_with(b"step # reads too few slots, or one twice", &[], &[number]);
     if let Some(Step::Copy(_, Source::Slots(from))) = case.step(number) {
@@ -31,7 +31,7 @@ pub fn bad_source(case: Case, said: &mut Said, number: u32) {
     )
 }
 
-// The first switch of a listed slot without an order to the copy.
+// A listed slot's first switch without an order to the copy.
 fn moving(case: Case, slot: Slot, from: &[u8], number: u32) -> Option<(u32, u32)> {
     for index in from {
         let listed = Slot {

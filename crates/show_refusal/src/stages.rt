@@ -1,4 +1,4 @@
-//! Steps of a slot that are out of order.
+//! A slot's steps out of order.
 
 use crate::case::Case;
 use plan_stage::Stage;
@@ -121,7 +121,7 @@ fn tell_order(case: Case, said: &mut Said, slot: Slot, number: u32, before: u32)
     case.wait(said, number, before)
 }
 
-/// Reports a step that does not wait for the slot's step before it.
+/// Reports a step that does not wait for the slot's previous step.
 pub fn unordered_slot(case: Case, said: &mut Said, number: u32) {
     let Some(slot) = case.slot(number) else {
         return said.title(b"a step does not wait for the slot's step before it");

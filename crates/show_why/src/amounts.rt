@@ -1,4 +1,4 @@
-//! Numbers as people write them.
+//! Written numbers.
 
 use crate::said::count_digits;
 use helpers::Words;
@@ -15,7 +15,7 @@ pub enum Manner {
     Other,
 }
 
-/// Returns how a word writes a number.
+/// Returns how a number is written.
 pub fn manner_of(word: &[u8]) -> Manner {
     let (front, unit) = cut_unit(word);
     let Some(thousandths) = thousandths_of(front) else {
@@ -47,7 +47,7 @@ fn cut_unit(word: &[u8]) -> (&[u8], &[u8]) {
     }
 }
 
-/// Returns the value of 1 to 15 digits, or None.
+/// The value of 1 to 15 digits.
 pub fn value_of(digits: &[u8]) -> Option<u64> {
     if digits.is_empty() || digits.len() > 15 {
         return None;
@@ -83,7 +83,7 @@ fn thousandths_of(front: &[u8]) -> Option<u64> {
     whole.checked_add(value_of(digits)?.saturating_mul(scale))
 }
 
-// The first group has one to three digits and is not zero.
+// The first group has one to three digits, not only zeros.
 fn are_groups(front: &[u8]) -> bool {
     let mut groups = front.split(|byte| is_parting(*byte));
     let first = groups.next().unwrap_or(b"".as_slice());
@@ -100,7 +100,7 @@ fn are_groups(front: &[u8]) -> bool {
 
 const LETTERS: [u8; 5] = [b'k', b'm', b'g', b't', b'p'];
 
-/// Returns the bytes of a unit: 1,024 for `KiB` and `K`, 1,000 for `kb`, 1 for none.
+/// A unit's bytes: 1,024 for `KiB` and `K`, 1,000 for `kb`, 1 for none.
 pub fn factor_of(unit: &[u8]) -> Option<u64> {
     let (first, rest) = match unit.split_first() {
         None => return Some(1),
@@ -135,7 +135,7 @@ pub fn push_long(out: &mut Words, number: u64) {
     out.number(low);
 }
 
-/// Adds only the digits.
+/// Adds only digits.
 pub fn push_digits(out: &mut Words, word: &[u8]) {
     for byte in word {
         if byte.is_ascii_digit() {

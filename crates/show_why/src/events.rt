@@ -1,4 +1,4 @@
-//! History lines that do not begin with an event.
+//! Lines that do not begin with an event.
 
 use crate::forms::Part;
 use crate::line::Line;

@@ -1,4 +1,4 @@
-//! Lines that fit the grammar but are refused.
+//! Faults within the grammar.
 
 use crate::forms::Part;
 use crate::line::{Line, line_of};
@@ -11,7 +11,7 @@ fn last_field(text: &[u8]) -> &[u8] {
     field(text, count_fields(text).saturating_sub(1))
 }
 
-/// Reports a node that is named twice, or joins as a member.
+/// Reports a node named twice, or joining as a member.
 pub fn repeated(said: &mut Said, page: Page, number: u32) {
     let line = line_of(page, number);
     let name = field(line.text, 1);
@@ -63,7 +63,7 @@ fn tell_first(said: &mut Said, first: Option<u32>) {
     }
 }
 
-// The first line with this step. In a change, the first line that names the node.
+// The first line with this step. In a change, the first that names the node.
 fn earlier(page: Page, line: u32, start: u32) -> Option<u32> {
     let text = page.text(line);
     let (word, node) = (field(text, 0), field(text, 1));

@@ -54,7 +54,6 @@ fn tell_of_part(line: Line, said: &mut Said) -> bool {
     }
 }
 
-// Mends the field by the nearest word.
 fn guess(
     alloc: Global,
     line: Line,
@@ -74,7 +73,7 @@ fn guess(
     Ok(())
 }
 
-/// Returns what is wrong with a number.
+/// A number's fault.
 pub fn number_fault(word: &[u8]) -> Option<&'static [u8]> {
     if word.is_empty() || !word.iter().all(|byte| byte.is_ascii_digit()) {
         return Some(b"no number");
@@ -85,7 +84,7 @@ pub fn number_fault(word: &[u8]) -> Option<&'static [u8]> {
     None
 }
 
-/// Returns what is wrong with a name.
+/// A name's fault.
 pub fn name_fault(word: &[u8]) -> Option<&'static [u8]> {
     if is_name(word) {
         return None;
@@ -221,7 +220,6 @@ fn tell_loss(line: Line, said: &mut Said) -> bool {
     true
 }
 
-// Moves up the next partition's line.
 fn tell_other_row(line: Line, said: &mut Said, next: u32) {
     let at = line.page.at(line.number, 1, 1);
     said.fault_at_with(at, b"the next one is partition #", &[], &[next]);
@@ -230,7 +228,6 @@ fn tell_other_row(line: Line, said: &mut Said, next: u32) {
     }
 }
 
-// Reports a wrong partition, or a wrong number of owners.
 fn tell_row(line: Line, said: &mut Said) -> bool {
     if line.word() != b"slots".as_slice() {
         return false;
@@ -263,7 +260,7 @@ fn tell_row(line: Line, said: &mut Said) -> bool {
     true
 }
 
-// Removes the line if the next partition's line follows. Otherwise makes it the next partition's line.
+// Removes the line if the next partition's line follows. Otherwise renumbers it.
 fn tell_row_again(line: Line, said: &mut Said, partition: u32, next: u32) {
     let first = line.number.saturating_sub(next.saturating_sub(partition));
     said.beside_with(first, b"partition #", &[], &[partition]);

@@ -1,4 +1,4 @@
-//! Inputs of other kinds, by their first bytes.
+//! Other inputs, by their first bytes.
 
 use crate::page::{Page, field, number};
 use crate::said::Said;

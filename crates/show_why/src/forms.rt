@@ -1,4 +1,4 @@
-//! The lines of each part.
+//! Each part's lines.
 
 use crate::page::{Page, field};
 
@@ -15,7 +15,7 @@ pub enum Part {
     Layout,
 }
 
-/// Returns the line's part, and the part's first line.
+/// The line's part, and the part's first line.
 pub fn part_of(page: Page, line: u32) -> (Part, u32) {
     let section = page.section(line);
     let second = field(page.behind_ring().unwrap_or(b"".as_slice()), 0);
@@ -30,7 +30,7 @@ pub fn part_of(page: Page, line: u32) -> (Part, u32) {
     (part, section.start)
 }
 
-/// Returns the part's name.
+/// The part's name.
 pub fn called(part: Part) -> &'static [u8] {
     match part {
         Part::Ring => b"ring",
@@ -42,7 +42,7 @@ pub fn called(part: Part) -> &'static [u8] {
     }
 }
 
-/// Returns the forms of all lines but the first.
+/// The forms of all lines but the first.
 pub fn forms(part: Part) -> &'static [&'static [u8]] {
     match part {
         Part::Ring => &[
@@ -82,7 +82,7 @@ pub fn forms(part: Part) -> &'static [&'static [u8]] {
     }
 }
 
-/// Returns the first form that begins with the word.
+/// The first form that begins with the word.
 pub fn form_of(part: Part, word: &[u8]) -> Option<&'static [u8]> {
     for form in forms(part) {
         if field(form, 0) == word {
@@ -92,7 +92,7 @@ pub fn form_of(part: Part, word: &[u8]) -> Option<&'static [u8]> {
     None
 }
 
-/// Returns how a part begins.
+/// A part's first line.
 pub fn first_line(page: Page, part: Part) -> &'static [u8] {
     match part {
         Part::Ring => b"ring 1",

@@ -1,12 +1,12 @@
-//! Bad habits of writing, mostly shared by many lines.
+//! Writing habits, often of many lines.
 
 use crate::page::{Page, cut_line};
 use helpers::Words;
 
-/// A habit that is refused.
+/// A refused habit.
 #[derive(Clone, Copy, Debug, PartialEq, Eq)]
 pub enum Habit {
-    /// The line ends of Windows.
+    /// Windows' line ends.
     CarriageReturn,
     Empty,
     Comment,
@@ -35,7 +35,7 @@ fn without_tail(line: &[u8]) -> &[u8] {
 }
 
 impl Habit {
-    /// Whether the line, without its newline, has the habit.
+    /// Whether the line, without newline, has the habit.
     pub fn is_in(self, line: &[u8]) -> bool {
         match self {
             Habit::CarriageReturn => line.contains(&b'\r'),
@@ -59,7 +59,7 @@ impl Habit {
         }
     }
 
-    /// Returns a command that removes the habit.
+    /// A command that removes the habit.
     pub fn command(self) -> &'static [u8] {
         match self {
             Habit::CarriageReturn => b"tr -d '\\r' < FILE > MENDED",
@@ -71,7 +71,7 @@ impl Habit {
         }
     }
 
-    /// Counts the lines with the habit, and all lines.
+    /// Counts lines with the habit, and all.
     pub fn count(self, page: Page) -> (u32, u32) {
         let (mut count, mut lines) = (0u32, 0u32);
         let mut rest = page.bytes;

@@ -1,4 +1,4 @@
-//! Faults in a layout's lines.
+//! Faults in layouts.
 
 use crate::amounts::{Manner, manner_of, push_digits, push_long, value_of};
 use crate::fields::{name_fault, number_fault, tell_fault};
@@ -20,7 +20,7 @@ const MOST: u64 = 281_474_976_710_655;
 
 const LONGEST: usize = 255;
 
-/// Reports why a layout is refused. The title follows the file and the line's number.
+/// Reports why a layout is refused. The title follows file and line number.
 pub fn tell_layout(
     alloc: Global,
     said: &mut Said,
@@ -328,7 +328,6 @@ fn repeated(said: &mut Said, line: Line) {
     line.take_out(said)
 }
 
-// An earlier line with the same first two fields.
 fn earlier(line: Line) -> Option<u32> {
     let (word, about) = (line.word(), field(line.text, 1));
     let mut number = 1u32;

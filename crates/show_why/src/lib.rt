@@ -1,5 +1,5 @@
-//! Explains why a bundle is refused, and how to mend it. Nothing is proved of the words; the checker says whether a
-//! mend works. A `tell_..` function that returns a `bool` says whether it reported a fault.
+//! Explains why a bundle is refused, and how to mend it. No words are proved; the checker says whether a mend works. A
+//! `tell_..` function that returns a `bool` says whether it reported a fault.
 #![tactic(auto)]
 
 mod amounts;

@@ -1,4 +1,4 @@
-//! Numbers and counts above their limits.
+//! Exceeded limits.
 
 use crate::forms::Part;
 use crate::line::{Line, line_of};
@@ -14,7 +14,7 @@ struct OverLimit {
     number: u32,
 }
 
-/// Reports which limit the line exceeds.
+/// Reports the exceeded limit.
 pub fn too_large(said: &mut Said, page: Page, number: u32) {
     if number == 0 {
         return said.title(b"the bundle is larger than 67,108,864 bytes");
@@ -114,7 +114,7 @@ fn in_plan(line: Line) -> Option<OverLimit> {
     .or(large_number(line, 3))
 }
 
-// A slot that the ring does not have, or the eighth slot.
+// A slot that the ring lacks, or the eighth slot.
 fn listed(line: Line, last: u32, words: &'static [u8]) -> Option<OverLimit> {
     if field(line.text, 3) != b"slots".as_slice() {
         return None;
@@ -154,7 +154,7 @@ fn in_cert(line: Line) -> Option<OverLimit> {
     large_number(line, first)
 }
 
-// The exceeded count, if no number is too large.
+// If no number is too large.
 fn crowd(line: Line) -> &'static [u8] {
     let before = line.number.saturating_sub(line.start).saturating_sub(1);
     match line.part {

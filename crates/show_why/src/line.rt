@@ -1,4 +1,4 @@
-//! A line and its part.
+//! Lines.
 
 use crate::forms::{Part, part_of};
 use crate::page::{Page, field};
@@ -15,7 +15,7 @@ pub struct Line<'a> {
     pub start: u32,
 }
 
-/// Returns the numbered line.
+/// The numbered line.
 pub fn line_of(page: Page, number: u32) -> Line {
     let (part, start) = part_of(page, number);
     Line {
@@ -28,12 +28,12 @@ pub fn line_of(page: Page, number: u32) -> Line {
 }
 
 impl<'a> Line<'a> {
-    /// Returns the first field.
+    /// The first field.
     pub fn word(&self) -> &'a [u8] {
         field(self.text, 0)
     }
 
-    /// Finds the part's next line, from `from` on, with this first word.
+    /// Finds the part's next line, from `from`, with this first word.
     pub fn find(&self, word: &[u8], from: u32) -> Option<u32> {
         let mut number = from;
         let rest = self.page.after(from.saturating_sub(1));
@@ -90,7 +90,7 @@ impl<'a> Line<'a> {
         said.add_with(b"@@@\n", &[front, word, rest], &[]);
     }
 
-    /// Mends the text by a new line before this line.
+    /// Mends the text by a line before this one.
     pub fn insert(&self, said: &mut Said, new: &[u8]) {
         said.put(self.number);
         said.add_with(b"@\n@\n", &[new, self.text], &[]);

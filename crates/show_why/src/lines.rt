@@ -1,4 +1,4 @@
-//! Lines that do not fit the grammar.
+//! Lines beyond the grammar.
 
 use crate::events::tell_event;
 use crate::fields::tell_fields;
@@ -202,7 +202,7 @@ fn tell_late_ring(line: Line, said: &mut Said) -> bool {
     true
 }
 
-// Whether the first line looks like another line of the part.
+// Whether the first line looks like another of the part.
 fn is_headless(line: Line) -> bool {
     let word = line.word();
     let is_leave = line.part == Part::Plan && word == b"leave".as_slice();

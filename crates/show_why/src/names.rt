@@ -9,7 +9,7 @@ use ring_names::Refusal;
 use std::alloc::Global;
 use texts::Lines;
 
-/// Returns the ring's line that declares the name.
+/// The ring's line that declares the name.
 pub fn declared(page: Page, name: &[u8]) -> Option<u32> {
     let mut lines = Lines::of(page.after(3));
     for line in 4..1029u32 {
@@ -26,7 +26,7 @@ pub fn declared(page: Page, name: &[u8]) -> Option<u32> {
     None
 }
 
-/// Returns the place of the first node in a line.
+/// The place of a line's first node.
 pub fn first_node(text: &[u8]) -> usize {
     let word = field(text, 0);
     let is_slot = word == b"mirror".as_slice() || word == b"drop".as_slice();
@@ -76,7 +76,6 @@ impl WantedState {
     }
 }
 
-// The name and the last field.
 fn node_line(text: &[u8]) -> Option<(&[u8], &[u8])> {
     if field(text, 0) != b"node".as_slice() {
         return None;
@@ -134,7 +133,7 @@ pub fn unknown_node(
     Ok(())
 }
 
-// Only for a line in the ring.
+// Only for a ring's line.
 fn declared_late(page: Page, number: u32, name: &[u8]) -> Option<u32> {
     if part_of(page, number).0 != Part::Ring {
         return None;

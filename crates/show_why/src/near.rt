@@ -29,7 +29,7 @@ pub struct Nearest<'a> {
 }
 
 impl<'a> Nearest<'a> {
-    /// Starts without a word. A near word differs in at most two letters, and in fewer than half.
+    /// Starts without a word. A near word differs in at most two letters, and fewer than half.
     pub fn new(word: &[u8]) -> Nearest<'a> {
         Nearest {
             word: b"",
@@ -37,7 +37,7 @@ impl<'a> Nearest<'a> {
         }
     }
 
-    /// Compares one more word.
+    /// Compares another word.
     pub fn look(&mut self, alloc: Global, word: &[u8], other: &'a [u8]) -> Result<(), Refusal> {
         if let Some(far) = distance(alloc, word, other)? {
             if far < self.far {

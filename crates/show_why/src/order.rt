@@ -1,4 +1,4 @@
-//! Lines in the wrong place.
+//! Misplaced lines.
 
 use crate::forms::{Part, called, form_of, forms};
 use crate::line::{Line, move_up};
@@ -9,12 +9,12 @@ fn partitions(line: Line) -> u32 {
     number(field(line.page.text(2), 1)).unwrap_or(0)
 }
 
-/// Counts the lines `slots` before this line.
+/// Counts the lines `slots` before this.
 pub fn rows_before(line: Line) -> u32 {
     line.count(b"slots", line.number.saturating_sub(1))
 }
 
-// The words that the ring allows here, mostly one.
+// The words allowed here, mostly one.
 fn due_in_ring(line: Line) -> [&'static [u8]; 2] {
     match line.number {
         0 | 1 => [b"ring", b"ring"],
@@ -64,7 +64,7 @@ pub fn is_due(line: Line, word: &[u8]) -> bool {
     }
 }
 
-/// Reports a known line in the wrong place.
+/// Reports a known but misplaced line.
 pub fn tell_order(line: Line, said: &mut Said) -> bool {
     if is_due(line, line.word()) {
         return false;
@@ -117,7 +117,7 @@ fn tell_second(line: Line, said: &mut Said, first: u32) {
     line.take_out(said)
 }
 
-// Moves up the due line, if there is one.
+// Moves up the due line, if any.
 fn tell_early(line: Line, said: &mut Said, due: &[u8]) {
     said.fault_with(
         line.number,
@@ -165,7 +165,6 @@ pub fn mend_space(line: Line, said: &mut Said) {
     }
 }
 
-// None if a ring cannot have so many partitions.
 fn count_rows(line: Line) -> Option<u32> {
     let rows = line.count(b"slots", u32::MAX);
     match rows {
@@ -189,7 +188,7 @@ pub fn tell_due(line: Line, said: &mut Said) {
     said.add_note(b"\n")
 }
 
-/// Reports that the part's `end` is missing before this line.
+/// Reports that `end` is missing before this line.
 pub fn tell_end(line: Line, said: &mut Said) {
     said.note_with(
         b"The @ has no line `end` before it.",
@@ -200,7 +199,7 @@ pub fn tell_end(line: Line, said: &mut Said) {
     line.insert(said, b"end")
 }
 
-/// Whether this line begins the next part without an `end` before it.
+/// Whether this line begins the next part without an `end`.
 pub fn begins_next(line: Line) -> bool {
     match line.part {
         Part::Ring => is_due(line, b"end") && is_head(line.text, b"change 1", b"plan 1"),

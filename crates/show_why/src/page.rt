@@ -1,4 +1,4 @@
-//! The lines of a bundle, by number.
+//! Numbered lines.
 
 use memchr::memchr;
 use texts::Fields;
@@ -33,7 +33,7 @@ pub fn cut_line(text: &[u8]) -> (&[u8], &[u8]) {
 }
 
 impl<'a> Page<'a> {
-    /// Returns what follows the first lines.
+    /// What follows the first lines.
     pub fn after(&self, lines: u32) -> &'a [u8] {
         let mut rest = self.bytes;
         for turn in 0..lines {
@@ -45,7 +45,7 @@ impl<'a> Page<'a> {
         rest
     }
 
-    /// Returns the line, without its newline, if there is one.
+    /// The line without its newline, if any.
     pub fn line(&self, number: u32) -> Option<&'a [u8]> {
         let rest = self.after(number.checked_sub(1)?);
         if rest.is_empty() {
@@ -54,7 +54,7 @@ impl<'a> Page<'a> {
         Some(cut(rest).0)
     }
 
-    /// Returns the line, or nothing.
+    /// The line, or nothing.
     pub fn text(&self, number: u32) -> &'a [u8] {
         self.line(number).unwrap_or(b"".as_slice())
     }
@@ -65,7 +65,7 @@ impl<'a> Page<'a> {
         !rest.is_empty() && memchr(b'\n', rest).is_none()
     }
 
-    /// Returns the place of these fields, or of the whole line.
+    /// The place of these fields, or of the whole line.
     pub fn at(&self, line: u32, first: usize, last: usize) -> Place {
         let text = self.text(line);
         match (span_of(text, first), span_of(text, last)) {
@@ -78,7 +78,7 @@ impl<'a> Page<'a> {
         }
     }
 
-    /// Returns the line before and after a field. Without the field, all is before.
+    /// The line before and after a field. Without the field, all is before.
     pub fn around(&self, line: u32, place: usize) -> (&'a [u8], &'a [u8]) {
         let text = self.text(line);
         match span_of(text, place) {
@@ -89,7 +89,7 @@ impl<'a> Page<'a> {
         }
     }
 
-    /// Returns the line's part.
+    /// The line's part.
     pub fn section(&self, number: u32) -> Section {
         let mut found = Section {
             number: 0,
@@ -110,7 +110,7 @@ impl<'a> Page<'a> {
         found
     }
 
-    /// Returns the first line after the ring.
+    /// The first line after the ring.
     pub fn behind_ring(&self) -> Option<&'a [u8]> {
         let mut rest = self.bytes;
         for turn in 0..self.bytes.len() {
@@ -149,7 +149,7 @@ pub struct Span {
     pub to: usize,
 }
 
-/// Returns a field's bytes. Single spaces separate fields.
+/// A field's bytes. Single spaces separate fields.
 pub fn span_of(line: &[u8], place: usize) -> Option<Span> {
     let mut from = 0usize;
     let mut left = place;
@@ -171,7 +171,7 @@ pub fn span_of(line: &[u8], place: usize) -> Option<Span> {
     None
 }
 
-/// Some bytes of a line. The whole line if `from` is not below `to`.
+/// Bytes of a line. The whole line if `from` is not below `to`.
 #[derive(Clone, Copy, Debug)]
 pub struct Place {
     pub line: u32,
@@ -180,7 +180,7 @@ pub struct Place {
 }
 
 impl Place {
-    /// Returns the place of a whole line.
+    /// The whole line's place.
     pub fn whole(line: u32) -> Place {
         Place {
             line,
@@ -190,7 +190,7 @@ impl Place {
     }
 }
 
-/// Returns a field, or nothing.
+/// A field, or nothing.
 pub fn field(line: &[u8], place: usize) -> &[u8] {
     match span_of(line, place) {
         Some(Span { from, to }) if from <= to && to <= line.len() => &line[from..to],
@@ -209,13 +209,13 @@ pub fn count_fields(line: &[u8]) -> usize {
     count
 }
 
-/// Returns the place of the first such field.
+/// The place of the first such field.
 pub fn place_of(line: &[u8], word: &[u8]) -> Option<usize> {
     line.split(|byte| *byte == b' ')
         .position(|field| field == word)
 }
 
-/// Returns the field's number.
+/// The field's number.
 pub fn number(word: &[u8]) -> Option<u32> {
     let mut fields = Fields::of(0, word);
     let value = fields.value()?;

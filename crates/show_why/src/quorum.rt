@@ -1,4 +1,4 @@
-//! Quorums that need not meet.
+//! Faulty quorums.
 
 use crate::page::{Page, count_fields, field, number};
 use crate::said::Said;
@@ -53,7 +53,7 @@ impl Asked {
         said.fault_with(line, b"# + # is not above #", &[], &[read, write, slots])
     }
 
-    // The fewest slots with which reads and writes meet if both ask for as many.
+    // The fewest slots with which equal reads and writes meet.
     fn majority(&self) -> u32 {
         (self.slots.saturating_add(self.loss) / 2).saturating_add(1)
     }

@@ -1,4 +1,4 @@
-//! The report on a refusal.
+//! A refusal's report.
 
 use crate::habit::Habit;
 use crate::page::{Page, Place, cut_line};
@@ -8,7 +8,7 @@ use std::alloc::{AllocError, Global};
 #[derive(Clone, Copy)]
 struct LineMark {
     place: Place,
-    // If not, the line belongs to the fault.
+    // Otherwise the line belongs to the fault.
     is_fault: bool,
     // Without words, nothing is marked.
     begin: usize,
@@ -22,7 +22,7 @@ struct LineChange {
     end: usize,
 }
 
-/// A report on a refusal. If memory runs out, all words are lost.
+/// A refusal's report. If memory runs out, all words are lost.
 ///
 /// A call `.._with` has a template: `@` is the next name, `#` the next number.
 #[derive(Drop)]
@@ -35,11 +35,11 @@ pub struct Said {
     changes: Vec<LineChange>,
     // The new lines, with newlines.
     news: Words,
-    // If set, the mend is the text without this habit.
+    // If set, the mend removes this habit.
     habit: Option<Habit>,
 }
 
-// The bytes of a line that are shown.
+// The most bytes shown of a line.
 const SHOWN: usize = 90;
 
 fn cut_out(text: &[u8], begin: usize, end: usize) -> &[u8] {
@@ -50,7 +50,7 @@ fn cut_out(text: &[u8], begin: usize, end: usize) -> &[u8] {
 }
 
 impl Said {
-    /// Returns an empty report.
+    /// An empty report.
     pub fn new(alloc: Global) -> Said {
         Said {
             title: Words::new(alloc),
@@ -103,24 +103,24 @@ impl Said {
         self.mark(place, true, begin)
     }
 
-    /// Marks a whole faulty line.
+    /// Marks a faulty line.
     pub fn fault(&mut self, line: u32, words: &[u8]) {
         self.fault_at(Place::whole(line), words)
     }
 
-    /// Marks a whole faulty line.
+    /// Marks a faulty line.
     pub fn fault_with(&mut self, line: u32, words: &[u8], names: &[&[u8]], numbers: &[u32]) {
         self.fault_at_with(Place::whole(line), words, names, numbers)
     }
 
-    /// Marks a line that belongs to the fault.
+    /// Marks a related line.
     pub fn beside(&mut self, line: u32, words: &[u8]) {
         let begin = self.words.len();
         self.words.text(words);
         self.mark(Place::whole(line), false, begin)
     }
 
-    /// Marks a line that belongs to the fault.
+    /// Marks a related line.
     pub fn beside_with(&mut self, line: u32, words: &[u8], names: &[&[u8]], numbers: &[u32]) {
         let begin = self.words.len();
         self.words.fill(words, names, numbers);
@@ -151,7 +151,7 @@ impl Said {
         self.notes.fill(words, names, numbers);
     }
 
-    /// Returns the bytes of all notes.
+    /// The bytes of all notes.
     pub fn noted(&self) -> usize {
         self.notes.len()
     }
@@ -168,7 +168,7 @@ impl Said {
         self.says.fill(words, names, numbers);
     }
 
-    /// Mends the whole text by removing the habit.
+    /// Mends the text by removing the habit.
     pub fn rewrite(&mut self, habit: Habit, words: &[u8]) {
         self.mend(words);
         self.habit = Some(habit);
@@ -180,7 +180,7 @@ impl Said {
         is_set && is_clean(self.says.as_slice()) && is_clean(self.news.as_slice())
     }
 
-    /// Returns the faulty lines, ascending.
+    /// The faulty lines, ascending.
     pub fn faults(&self, alloc: Global) -> Result<Vec<u32>, AllocError> {
         let mut lines = Vec::new(alloc);
         for mark in self.marks.as_slice() {
@@ -192,19 +192,19 @@ impl Said {
         Ok(lines)
     }
 
-    /// Returns a line's number, and the lines that replace it.
+    /// A line's number, and its replacement.
     pub fn change(&self, place: usize) -> Option<(u32, &[u8])> {
         let change = self.changes.get(place)?;
         let new = cut_out(self.news.as_slice(), change.begin, change.end);
         Some((change.line, new))
     }
 
-    /// Counts the lines that the mend changes.
+    /// Counts changed lines.
     pub fn changes(&self) -> usize {
         self.changes.len()
     }
 
-    /// Begins the replacement of a line. An empty replacement removes the line.
+    /// Begins a line's replacement. An empty one removes the line.
     pub fn put(&mut self, line: u32) {
         let end = self.news.len();
         let change = LineChange {
@@ -217,13 +217,13 @@ impl Said {
         }
     }
 
-    /// Adds lines of a mend, with newlines.
+    /// Adds a mend's lines, with newlines.
     pub fn add(&mut self, words: &[u8]) {
         self.news.text(words);
         self.end_change();
     }
 
-    /// Adds a line of a mend.
+    /// Adds a mend's line.
     pub fn add_with(&mut self, words: &[u8], names: &[&[u8]], numbers: &[u32]) {
         self.news.fill(words, names, numbers);
         self.end_change();
@@ -369,7 +369,7 @@ impl Said {
         None
     }
 
-    /// Writes `mend:`, what it does, and the new lines with the old numbers.
+    /// Writes `mend:`, its words, and new lines with old numbers.
     pub fn push_mend(&self, out: &mut Words) {
         out.fill(b"  mend: @\n", &[self.says.as_slice()], &[]);
         for change in self.changes.as_slice() {

@@ -1,4 +1,4 @@
-//! Faulty spacing or letters, whatever the line says.
+//! Faulty spacing or letters.
 
 use crate::fields::tell_alias;
 use crate::forms::Part;
@@ -115,7 +115,6 @@ fn tell_mark(line: Line, said: &mut Said) {
     respace(line, said, rest, b"without the mark");
 }
 
-// Mends all lines that share the habit.
 fn tell_habit(line: Line, said: &mut Said, habit: Habit) {
     if habit == Habit::Capitals {
         let place = first_capital(line.text);
@@ -166,7 +165,6 @@ fn mend_one(line: Line, said: &mut Said, habit: Habit) {
     }
 }
 
-// Writes the text with single spaces between fields.
 fn respace(line: Line, said: &mut Said, text: &[u8], words: &[u8]) {
     said.mend(words);
     said.put(line.number);

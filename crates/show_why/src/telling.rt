@@ -1,4 +1,4 @@
-//! Why a bundle's texts are refused.
+//! Why texts are refused.
 
 use crate::faults::{later_dependency, not_member, repeated, shared_node};
 use crate::limits::too_large;
