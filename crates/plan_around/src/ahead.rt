@@ -1,4 +1,4 @@
-//! Finds slots whose mirrors hold puts that their owners lack.
+//! Mirrors ahead of their owners.
 
 use crate::chunks::{Chunk, PutsByChunk};
 use crate::storing::{Mirrored, happen, has_put, mirrored_slot};
@@ -10,7 +10,7 @@ use ring_core::World;
 use ring_names::{Refusal, Slot};
 use std::alloc::Global;
 
-// Returns the slot that an unfinished copy from listed slots fills.
+// Returns the slot of an unfinished copy from listed slots.
 fn listing_slot(plan: &Plan, progress: &Progress, step: u32) -> Option<Slot> {
     if step >= plan.len() || progress.is_done(step) {
         return None;
@@ -21,14 +21,12 @@ fn listing_slot(plan: &Plan, progress: &Progress, step: u32) -> Option<Slot> {
     }
 }
 
-// A chunk given by a copy from listed slots, and the mirror.
 #[derive(Clone, Copy, Debug)]
 struct Given {
     it: Mirrored,
     chunk: Chunk,
 }
 
-// The store during the history, and the slots found so far.
 #[derive(Drop)]
 struct Looking<'a> {
     alloc: Global,
@@ -76,7 +74,7 @@ impl Looking<'_> {
         Ok(lacking)
     }
 
-    // Whether the mirror has a put that no write could have given it.
+    // Whether the mirror has a put that no write could have given.
     fn is_ahead(&self, given: &Given, lacking: &[u32]) -> bool {
         lacking.iter().any(|put| {
             has_put(&self.store, given.it.mirror, *put, given.it.slot.index)
@@ -99,9 +97,7 @@ fn has_listed(plan: &Plan, progress: &Progress, history: &[Entry]) -> bool {
     })
 }
 
-/// Returns slots whose mirrors got puts that their owners lacked.
-///
-/// Listed slots gave the puts.
+/// Returns slots whose mirrors got puts from listed slots that their owners lacked.
 ///
 /// Only unfinished copies count. An owner that was down counts as lacking. Costs one pass over the history, and a
 /// replay if there are such copies.

@@ -1,4 +1,4 @@
-//! Compares the stores of two plans.
+//! Compares stores.
 
 ghost use Rattle.std.specs.Prelude.{◌≡◌, ℕ, ◌<◌, true, IfOk, IsTrue, Some};
 ghost use Rattle.plan_text.specs.Valid.{is_ring_slot};

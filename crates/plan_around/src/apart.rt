@@ -1,4 +1,4 @@
-//! Checks that no remaining step involves a dead node.
+//! Checks steps for dead nodes.
 
 ghost use Rattle.std.specs.Prelude.{◌≡◌, ◌||◌, true, IsTrue, IfOk, IfErr};
 ghost use Rattle.ring_names.specs.declared.refusal.Refusal.TheVariants.{OutOfMemory};

@@ -1,4 +1,4 @@
-//! Makes the bundle that goes on around dead nodes.
+//! Goes on around dead nodes.
 
 ghost use Rattle.std.specs.Prelude.{◌≡◌, ◌≤◌, IfOk, OnOk, length};
 ghost use Rattle.history_text.specs.Replays.{IsReplay};
@@ -24,7 +24,6 @@ use ring_names::{Names, NodeId, Refusal, Slot};
 use ringplan_job::Detour;
 use std::alloc::Global;
 
-// The dead nodes, the racks if known, the slots that stay, and how to go on.
 #[derive(Clone, Copy)]
 struct Asked<'a> {
     dead: &'a [NodeId],
@@ -159,7 +158,7 @@ fn is_none(outcome: &Result<Vec<u8>, Refusal>) -> bool {
     }
 }
 
-// Tries the greatest reach that succeeds.
+// Tries the greatest reach first.
 fn go_around(it: &Begun, before: &World, words: &mut Words) -> Result<Vec<u8>, Refusal>
     requires { IsAfter it.now.approved.now.ring it.now.approved.now.plan it.now.history.now before.now }
     ensures { IfOk result (λ v. GoesAround it.now.asked.detour.extent it.now.asked.detour.back it.now.approved.now.ring it.now.asked.dead.now it.now.asked.left.now
@@ -205,7 +204,6 @@ fn go_by_chosen(it: &Begun, before: &World, chosen: Chosen) -> Result<Vec<u8>, R
     go_on(it.alloc, plan, &going, before)
 }
 
-// Goes on by the chosen plan, or by one that is found.
 fn go_by_any(
     it: &Begun,
     before: &World,
@@ -313,15 +311,15 @@ fn asked_for<'a>(
 /// Uses the plan of a second bundle, without a history, if one follows. Adds to `words` what becomes of slots and
 /// nodes, or at `NoPlan` why.
 ///
-/// Fails with the first fault of the texts. Fails with `UnknownNode(0)` for an undeclared name, or for a member without
-/// a rack if racks are known.
+/// Fails with the texts' first fault. Fails with `UnknownNode(0)` for an undeclared name, or for a member without a
+/// rack if racks are known.
 ///
-/// Fails with `TooLarge` and the layout's line for an unknown partition, with the checker's refusal, and with a
-/// history's if it is not a run.
+/// Fails with `TooLarge` and the layout's line for an unknown partition. Fails as the checker does, or as `replay` if
+/// the history is not a run.
 ///
 /// Fails with `NoPlan` if no remaining step moves a named slot, or if the history cannot go on.
 ///
-/// Costs about `check` and `replay` of both bundles, and again for each plan that the checker refuses, at most two.
+/// Costs about `check` and `replay` of both bundles, and again for each of at most two refused plans.
 pub fn around_bundle(
     alloc: Global,
     bytes: &[u8],

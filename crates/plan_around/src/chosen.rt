@@ -1,4 +1,4 @@
-//! Reads a stopped plan, and the plan chosen to go on by.
+//! Reads a stopped plan, and a chosen one.
 
 ghost use Rattle.std.specs.Prelude.{◌≡◌, IfOk, IfSome, Ok};
 ghost use Rattle.texts.specs.Judging.{map_ok};
@@ -22,7 +22,6 @@ pub(crate) struct Chosen {
     pub(crate) cert: Cert,
 }
 
-/// A plan with a history, and the chosen plan, if any.
 #[derive(Drop)]
 pub(crate) struct Halted {
     pub(crate) replay: ReplayBundle,
@@ -67,7 +66,6 @@ fn read_parts(alloc: Global, lines: &mut Lines) -> Result<Halted, Refusal>
     Ok(Halted { replay, chosen })
 }
 
-/// Reads a bundle with a history, and the chosen plan, if any.
 pub(crate) fn read_halted(alloc: Global, bytes: &[u8]) -> Result<Halted, Refusal>
     ensures read { IfOk result (λ v. whole_text halted_at bytes.now ≡ Ok (halted_of v)) }
     ensures replay { IfOk result (λ v. IsReplay v.replay) }

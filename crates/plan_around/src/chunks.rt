@@ -1,4 +1,4 @@
-//! A history's puts by chunk.
+//! Puts by chunk.
 
 use plan_runs::{Entry, Event, Reply};
 use ring_names::Refusal;
@@ -9,7 +9,6 @@ use std::collections::BTreeMap;
 
 pub(crate) type Chunk = (u32, u32);
 
-/// The numbers of puts, by chunk.
 #[derive(Drop)]
 pub(crate) struct PutsByChunk {
     alloc: Global,
@@ -40,7 +39,7 @@ impl PutsByChunk {
         Ok(())
     }
 
-    /// Returns the chunk's puts, ascending.
+    /// The chunk's puts, ascending.
     pub(crate) fn of(&self, chunk: Chunk) -> &[u32] {
         match self.puts.get(&chunk) {
             Some(puts) => puts.as_slice(),
@@ -48,7 +47,6 @@ impl PutsByChunk {
         }
     }
 
-    /// Returns all puts, chunk by chunk.
     pub(crate) fn in_order(&self) -> Result<Vec<u32>, Refusal> {
         let mut order = Vec::new(self.alloc);
         for puts in self.puts.values() {

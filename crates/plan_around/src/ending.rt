@@ -1,4 +1,4 @@
-//! Checks that a plan ends where the replaced one should.
+//! Where plans end.
 
 ghost use Rattle.std.specs.Prelude.{◌≡◌, ◌⊎◌, ℕ, ◌<◌, ◌||◌, true, false, length, Some, slice_get, IsTrue, IfOk};
 ghost use Rattle.std.specs.List.{list_any};
@@ -47,7 +47,7 @@ pub(crate) struct Endings<'a> {
     pub(crate) extent: Extent,
 }
 
-// Both plans' final owners, and the partitions with hints on dead nodes or slots that stay.
+// Both plans' final owners, and partitions with hints on dead nodes or staying slots.
 #[derive(Drop)]
 struct Ended<'a> {
     dead: Dead<'a>,
@@ -166,7 +166,7 @@ fn is_excused(it: &Endings, ended: &Ended, partition: u32) -> bool
     is_flagged(ended.left.as_slice(), partition as usize)
 }
 
-// Whether the node mirrors the slot now, or is an owner that may stay.
+// Whether the node mirrors the slot, or is an owner that may stay.
 fn serves(before: &World, back: Back, slot: Slot, node: NodeId) -> bool
     requires { is_ring_slot (ring_of before.now) slot ≡ true }
     ensures { IsTrue result → (w : TheWorld) → Meets before.now w
@@ -246,7 +246,6 @@ fn is_unswitched_at(before: &World, plan: &Plan, slot: Slot, place: usize) -> bo
     }
 }
 
-// Whether the slot's switches from this place on are to come.
 fn are_to_come(before: &World, plan: &Plan, slot: Slot, place: usize) -> bool
     ensures { IsTrue result → (w : TheWorld) → Meets before.now w → AreToCome plan.now w slot place }
 {
@@ -259,7 +258,6 @@ fn are_to_come(before: &World, plan: &Plan, slot: Slot, place: usize) -> bool
     true
 }
 
-// Whether this copy has given all to the slot's present mirror.
 fn is_given_at(before: &World, plan: &Plan, slot: Slot, place: usize) -> bool
     ensures { IsTrue result → (w : TheWorld) → Meets before.now w → IsGiven plan.now w slot }
 {
@@ -410,7 +408,7 @@ fn mark_keepers(it: &Endings, marks: &mut Vec<bool>)
     }
 }
 
-// Returns the nodes that may hold something after the new plan.
+// Marks nodes that may hold something after the new plan.
 fn holders(alloc: Global, it: &Endings, ended: &Ended) -> Result<Vec<bool>, Refusal>
     requires { AreEnds it.now ended.now }
     ensures { IfOk result (λ marks. HoldsIn it.now marks.items) }

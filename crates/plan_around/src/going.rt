@@ -1,4 +1,4 @@
-//! Checks and writes a plan and a history that go on around dead nodes.
+//! Checks and writes how to go on.
 
 ghost use Rattle.std.specs.Prelude.{◌≡◌, ◌++◌, IsTrue, IfOk, OnOk};
 ghost use Rattle.plan_text.specs.Valid.{Suits as PlanSuits};
@@ -116,7 +116,7 @@ fn followed(text: Vec<u8>, more: &[u8]) -> Result<Vec<u8>, Refusal>
     Ok(text)
 }
 
-/// A begun plan, and its steps' numbers in another one.
+/// A begun plan, and its steps' numbers in another.
 #[derive(Clone, Copy)]
 pub(crate) struct Going<'a> {
     pub(crate) old: &'a Approved,
@@ -126,9 +126,9 @@ pub(crate) struct Going<'a> {
     pub(crate) left: &'a [Slot],
     pub(crate) back: Back,
     pub(crate) extent: Extent,
-    /// The new number of each old step. None if entries are omitted.
+    /// By old step, its new number. None if entries are omitted.
     pub(crate) numbers: &'a [Option<u32>],
-    /// The old number of each new step.
+    /// By new step, its old number.
     pub(crate) olds: &'a [u32],
     pub(crate) cert: &'a Cert,
 }
@@ -198,8 +198,8 @@ fn ask_ends(alloc: Global, it: &Going, before: &World, new: &Approved) -> Result
 ///
 /// The checker must accept the plan, and the stores be alike.
 ///
-/// Fails with `NoPlan` if plan or certificate are not the ring's, the plan ends elsewhere or involves a dead node, or
-/// histories or stores differ.
+/// Fails with `NoPlan` if plan or certificate are not the ring's, or if the plan ends elsewhere or involves a dead
+/// node. The same if histories or stores differ.
 ///
 /// Otherwise fails as the checker or the new store does.
 pub(crate) fn go_on(

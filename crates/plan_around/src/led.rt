@@ -10,7 +10,7 @@ use ring_core::World;
 use ring_names::Refusal;
 use std::alloc::Global;
 
-/// A store, and the history that leads to it.
+/// A store, and its history.
 #[derive(Drop)]
 pub(crate) struct Led<'a> {
     pub(crate) store: World<'a>,

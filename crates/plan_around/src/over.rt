@@ -1,4 +1,4 @@
-//! Checks that a step needs no node any more.
+//! Steps that need no more nodes.
 
 ghost use Rattle.std.specs.Prelude.{◌≡◌, ◌||◌, true, false, IsTrue};
 ghost use Rattle.ring_names.specs.declared.refusal.Refusal.TheVariants.{AlreadyDone, NotOpen, NotReady};

@@ -1,6 +1,6 @@
 //! Runs the history by another plan, whose store gives the replies.
 //!
-//! An omitted chunk becomes writes of what it gave, since the slots that it reads hold the same by both plans.
+//! An omitted chunk becomes writes of what it gave, since its listed slots hold the same by both plans.
 
 ghost use Rattle.std.specs.Prelude.{IfOk, OnOk};
 ghost use Rattle.plan_around.specs.Led.{GoesFarther, IsLed};
@@ -22,7 +22,7 @@ pub(crate) struct Retold<'a> {
     pub(crate) led: Led<'a>,
     /// How many new entries each old one has.
     pub(crate) counts: Vec<u32>,
-    /// All puts, chunk by chunk.
+    /// All puts, by chunk.
     pub(crate) order: Vec<u32>,
 }
 
@@ -119,7 +119,7 @@ impl Retelling<'_, '_> {
         Ok(given)
     }
 
-    // Writes the newest of the puts, and returns how many. A put has a greater number than those it succeeds.
+    // Writes the newest puts, and counts them. A put has a greater number than those it succeeds.
     fn write_latest(&mut self, it: &Mirrored, given: &[u32]) -> Result<u32, Refusal>
         ensures { OnOk result (GoesFarther self.old.led self.new.led) }
     {

@@ -8,7 +8,7 @@ use plan_runs::Back;
 use ring_names::{Refusal, Slot};
 use std::alloc::Global;
 
-/// Whether mirrors may be undone. Those of the slots that stay always may.
+/// Whether mirrors may be undone. Staying slots' mirrors always may.
 #[derive(Drop)]
 pub(crate) struct Returns<'a> {
     pub(crate) back: Back,
@@ -52,7 +52,7 @@ impl<'a> Returns<'a> {
         })
     }
 
-    /// Whether a mirror of the slot may be undone.
+    /// Whether the slot's mirror may be undone.
     pub(crate) fn allow(&self, slot: Slot) -> bool
         ensures { IsTrue result → may_return self.now.back self.now.left.now slot ≡ true }
     {

@@ -1,4 +1,4 @@
-//! Queries on a store during a history.
+//! Queries on a store.
 
 ghost use Rattle.std.specs.Prelude.{◌≡◌, true, IfOk, IsTrue, Some};
 ghost use Rattle.plan_text.specs.Valid.{is_ring_slot};

@@ -1,4 +1,4 @@
-//! Certificates for a ring and a plan. The rest of a bundle is ignored.
+//! Certificates for a ring and a plan. Ignores the rest.
 
 ghost use Rattle.std.specs.Prelude.{◌≡◌, IfOk};
 ghost use Rattle.texts.specs.Judging.{Gives, map_ok};
@@ -70,11 +70,11 @@ fn certified(alloc: Global, front: Front) -> Result<Vec<u8>, Refusal>
     }
 }
 
-/// Reads a ring and a plan, and returns them with a certificate.
+/// Adds a certificate to a bundle's ring and plan, and returns all.
 ///
 /// Its chains are the fewest that the plan's order allows.
 ///
-/// Fails with the first fault of the texts, then as the checker does. Fails with `NoPlan` if a node has too many chains
+/// Fails with the texts' first fault, then as the checker does. Fails with `NoPlan` if a node has too many chains
 /// because the search was given up.
 pub fn cert_bundle(alloc: Global, bytes: &[u8]) -> Result<Vec<u8>, Refusal>
     ensures certified { IfOk result (λ text. IsCertifiedText bytes.now text.items) }
@@ -83,7 +83,7 @@ pub fn cert_bundle(alloc: Global, bytes: &[u8]) -> Result<Vec<u8>, Refusal>
     certified(alloc, front)
 }
 
-/// Returns a ring and a plan with the best certificate found. Does not ask the checker.
+/// Returns ring, plan and the best certificate found. Does not ask the checker.
 pub fn found_bundle(alloc: Global, bytes: &[u8]) -> Result<Vec<u8>, Refusal>
     ensures { IfOk result (λ text. IsClaimedText bytes.now text.items) }
 {

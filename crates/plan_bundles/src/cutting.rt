@@ -1,4 +1,4 @@
-//! Cuts a plan into windows that run one after another.
+//! Cuts a plan into consecutive windows.
 
 use crate::groups::Groups;
 use crate::pieces::{Pieces, Place, waits_in};
@@ -48,7 +48,7 @@ impl<'a> StepWindows<'a> {
         }
     }
 
-    // Puts each group no earlier than the groups that it waits for. Returns whether one moved.
+    // Puts groups no earlier than those that they await. Returns whether one moved.
     fn pass(&mut self) -> bool {
         let plan = self.plan;
         let mut is_raised = false;
@@ -138,10 +138,10 @@ fn pieces(alloc: Global, windows: &StepWindows) -> Result<Pieces, Refusal> {
     Ok(cutting.pieces)
 }
 
-/// Cuts the plan into windows of `width` rounds of copies.
+/// Cuts the plan into windows of `width` rounds.
 ///
-/// The steps that move a slot stay together, with their drop. A step keeps only dependencies in its own window; earlier
-/// steps are done.
+/// A move's steps stay together, with its drop. A step keeps only dependencies in its own window; earlier steps are
+/// done.
 pub fn cut(
     alloc: Global,
     ring: &Ring,

@@ -1,4 +1,4 @@
-//! Plans from a ring to another ring.
+//! Plans between rings.
 
 ghost use Rattle.std.specs.Prelude.{◌≡◌, ◌++◌, true, map, length, IfOk, OnOk};
 ghost use Rattle.plan_bundles.specs.Rings.{flags};
@@ -19,7 +19,7 @@ use ring_names::{Listed, NodeId, Refusal};
 use ring_table::Ring;
 use std::alloc::Global;
 
-/// Returns the named nodes. An undeclared name is `UnknownNode(0)`.
+/// The named nodes. An undeclared name is `UnknownNode(0)`.
 pub fn nodes_of(alloc: Global, ring: &Ring, names: &[Vec<u8>]) -> Result<Vec<NodeId>, Refusal>
     ensures { IfOk result (λ v. AreNamed ring.now (map (λ name. name.items) names.now) v.items) }
 {
@@ -53,7 +53,7 @@ fn copy_names(alloc: Global, names: &[Vec<u8>]) -> Result<Vec<Vec<u8>>, Refusal>
     Ok(copies)
 }
 
-/// Returns the dead nodes' names: from the command line, then from the layout.
+/// The dead nodes' names: the command line's, then the layout's.
 pub fn dead_by(alloc: Global, options: &Options) -> Result<Vec<Vec<u8>>, Refusal>
     ensures { IfOk result (λ names. map (λ name. name.items) names.items ≡ dead_names options.now) }
 {
@@ -67,7 +67,7 @@ pub fn dead_by(alloc: Global, options: &Options) -> Result<Vec<Vec<u8>>, Refusal
 
 /// Reads two rings, and finds a plan from the first to the second, around dead nodes.
 ///
-/// Fails with the first fault of the rings, then with `UnknownNode(0)` for an undeclared name, then as `reach` does.
+/// Fails with the rings' first fault, then with `UnknownNode(0)` for an undeclared name, then as `reach` does.
 pub fn goal_bundle(
     alloc: Global,
     bytes: &[u8],
@@ -114,7 +114,7 @@ fn add_dead(ring: &Ring, dead: &[NodeId], leaves: &mut Vec<NodeId>) -> Result<()
     add_dead(ring, more, leaves)
 }
 
-/// Lets each dead member leave too.
+/// Lets dead members leave too.
 pub fn with_dead(ring: &Ring, change: Change, dead: &[NodeId]) -> Result<Change, Refusal>
     ensures { IfOk result (λ v. v ≡ the_change_with_dead ring.now dead.now change) }
 {
@@ -192,7 +192,7 @@ fn wished_ring(
     ring.with(alloc, rows.as_slice(), members.as_slice())
 }
 
-// Fails with `NoPlan` if the sizes do not allow a slot's owner.
+// Fails with `NoPlan` if the sizes forbid an owner.
 fn ask_sized(
     alloc: Global,
     ring: &Ring,
@@ -215,13 +215,13 @@ fn ask_sized(
     Err(Refusal::NoPlan)
 }
 
-/// Reads a ring and a change, and finds a plan for it, around dead nodes, which leave.
+/// Reads a ring and a change, and finds a plan, around dead nodes, which leave.
 ///
 /// Chooses owners by weight, with racks apart. With sizes, a slot moves only from a leaver or, if it has keys, to a
-/// joiner that is not above its share.
+/// joiner not above its share.
 ///
-/// Fails with the first fault of the texts. Fails with `UnknownNode(0)` for an undeclared name, or for a member without
-/// a rack if racks are known.
+/// Fails with the texts' first fault. Fails with `UnknownNode(0)` for an undeclared name, or for a member without a
+/// rack if racks are known.
 ///
 /// Fails with `TooLarge` and the layout's line for an unknown partition, with `NoPlan` if too few members remain, and
 /// as `reach` does.
@@ -251,7 +251,7 @@ fn read_aim(alloc: Global, bytes: &[u8], options: &Options) -> Result<Goal, Refu
     Ok(Goal { ring, wanted })
 }
 
-/// Returns the ring, the goal ring, and the unread partitions, ascending.
+/// The ring, the goal ring, and unread partitions, ascending.
 pub fn goal_of(
     alloc: Global,
     bytes: &[u8],
@@ -271,7 +271,7 @@ pub fn goal_of(
     Ok((Goal { ring, wanted }, unread))
 }
 
-/// Finds a plan to the goal ring: by `goal_bundle` or, for a change, by `wish_bundle`.
+/// Plans to the goal ring: by `goal_bundle` or, for a change, `wish_bundle`.
 pub fn led_bundle(alloc: Global, bytes: &[u8], options: &Options) -> Result<Proposed, Refusal>
     ensures led { IfOk result (IsLed bytes.now options.now) }
 {

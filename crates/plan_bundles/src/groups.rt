@@ -1,4 +1,4 @@
-//! Groups of steps that stay together: the steps that move a slot, with their drop.
+//! Groups of steps: a slot's move with its drop.
 
 use find_chains::Stays;
 use helpers::at;
@@ -7,7 +7,7 @@ use ring_names::Refusal;
 use ring_table::Ring;
 use std::alloc::Global;
 
-/// Each step's group, and the number of groups.
+/// The steps' groups, and their number.
 #[derive(Drop)]
 pub struct Groups {
     pub of_steps: Vec<u32>,
@@ -15,7 +15,7 @@ pub struct Groups {
 }
 
 impl Groups {
-    /// Groups the steps of a plan.
+    /// Groups a plan's steps.
     pub fn of(alloc: Global, ring: &Ring, plan: &Plan) -> Result<Groups, Refusal> {
         let mut groups = Groups {
             of_steps: Vec::new(alloc),
@@ -41,8 +41,8 @@ impl Groups {
     }
 }
 
-// An earlier step of the group. Copy and switch follow their mirror; a drop follows the switch that took the slot from
-// the drop's node.
+// An earlier step of the group. Copy and switch follow their mirror; a drop follows the switch away from the drop's
+// node.
 fn leader(stays: &Stays, step: &Step) -> Option<u32> {
     match step {
         Step::Copy(slot, _) | Step::Switch(slot) => stays.stay(stays.mirror_at(*slot))?.begun,

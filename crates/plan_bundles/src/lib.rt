@@ -1,4 +1,4 @@
-//! Makes plans, certificates, windows, and the ring that a plan leaves, without a run.
+//! Makes plans, certificates, windows, and the ring after a plan, without a run.
 #![tactic(auto)]
 
 mod cert;

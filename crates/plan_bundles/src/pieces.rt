@@ -1,4 +1,4 @@
-//! Checks that some plans are the windows of a plan.
+//! Checks that plans are a plan's windows.
 
 ghost use Rattle.std.specs.Prelude.{◌≡◌, ◌<◌, ℕ, nat_le, true, IsTrue, IfOk, Some, map, length};
 ghost use Rattle.std.specs.List.{list_all};
@@ -9,7 +9,6 @@ use plan_text::Plan;
 use ring_names::Refusal;
 use std::alloc::Global;
 
-/// A step's window, and its number there.
 #[derive(Clone, Copy, Debug)]
 pub(crate) struct Place {
     pub window: u32,
@@ -26,7 +25,7 @@ pub(crate) struct Pieces {
 }
 
 impl Pieces {
-    /// Returns pieces without windows.
+    /// Starts without windows.
     pub fn new(alloc: Global) -> Pieces {
         Pieces {
             plans: Vec::new(alloc),
@@ -48,7 +47,7 @@ fn place_of(places: &[Place], step: u32) -> Place
     }
 }
 
-/// Returns the steps in the window, by their numbers there.
+/// The steps in the window, by their numbers there.
 pub(crate) fn waits_in(
     alloc: Global,
     places: &[Place],

@@ -1,4 +1,4 @@
-//! Racks and aliases, from the layout or from nodes' names.
+//! Racks and aliases, from the layout or nodes' names.
 
 use change_text::{Options, RackRule};
 use helpers::{Labels, Words, at, is_set, put, raise, set, small, suffix};
@@ -12,7 +12,7 @@ use std::alloc::Global;
 #[derive(Clone, Copy, Debug, PartialEq, Eq)]
 pub enum Known {
     Named,
-    /// From what follows the last such byte in a node's name.
+    /// From a name, after the last such byte.
     Behind(u8),
     /// Unknown after a search.
     Unknown,
@@ -20,7 +20,7 @@ pub enum Known {
     Off,
 }
 
-/// The racks of a ring's nodes, and how they are known.
+/// The nodes' racks, and how they are known.
 #[derive(Drop)]
 pub struct Racking {
     pub racks: Option<Labels>,
@@ -44,7 +44,7 @@ fn push_names(out: &mut Words, racks: &Labels) {
 }
 
 impl Racking {
-    /// Adds a line that names the racks, or says that none are known.
+    /// Adds a line with the racks' names, or says that none are known.
     pub fn push(&self, out: &mut Words) {
         let Some(racks) = &self.racks else {
             if self.known == Known::Unknown {
@@ -71,7 +71,7 @@ impl Racking {
 const NONE_KNOWN: &[u8; 112] =
     b"ringplan: no racks are known. Name them in a layout (--layout), or give the byte before them (--racks-behind C)\n";
 
-// The bytes that may precede racks in names.
+// Bytes before racks in names.
 const SEPARATORS: [u8; 4] = [b'.', b'-', b':', b'_'];
 
 fn unknown() -> Racking {
@@ -81,7 +81,7 @@ fn unknown() -> Racking {
     }
 }
 
-/// Returns which nodes are members or join.
+/// Marks members and joiners.
 pub fn members_with(alloc: Global, ring: &Ring, joins: &[NodeId]) -> Result<Vec<bool>, Refusal> {
     let mut members = Vec::new(alloc);
     for node in ring.nodes() {
@@ -93,7 +93,7 @@ pub fn members_with(alloc: Global, ring: &Ring, joins: &[NodeId]) -> Result<Vec<
     Ok(members)
 }
 
-/// Returns which nodes are members or join by the plan.
+/// Marks members and the plan's joiners.
 pub fn members_by(alloc: Global, ring: &Ring, plan: &Plan) -> Result<Vec<bool>, Refusal> {
     let mut members = members_with(alloc, ring, &[])?;
     for node in 0..small(members.len()) {
@@ -240,7 +240,7 @@ fn are_spread(ring: &Ring, racks: &Labels, most: u32) -> bool {
     true
 }
 
-// Racks are at least 2, at most half as many as members, and partitions are spread over them.
+// At least 2 racks, at most half as many as members, and partitions spread over them.
 fn is_likely(
     alloc: Global,
     ring: &Ring,
@@ -309,7 +309,7 @@ pub fn racks_of(
     }
 }
 
-/// Returns the first member without a rack, if racks are known by the options.
+/// The first member without a rack, if the options give racks.
 pub fn unracked(
     alloc: Global,
     ring: &Ring,
@@ -333,7 +333,7 @@ pub fn unracked(
     Ok(None)
 }
 
-/// Returns the layout's aliases, if any. An undeclared name is `UnknownNode(0)`.
+/// The layout's aliases, if any. An undeclared name is `UnknownNode(0)`.
 pub fn aliases_of(alloc: Global, ring: &Ring, layout: &Layout) -> Result<Option<Labels>, Refusal> {
     let entries = layout.entries.as_slice();
     if !has(entries, Naming::Aliases) {
@@ -353,7 +353,7 @@ fn node_of(fact: &Fact) -> Option<&[u8]> {
     }
 }
 
-/// Returns the first fact about an unknown node or partition.
+/// The first fact about an unknown node or partition.
 pub fn misfit<'a>(ring: &Ring, layout: &'a Layout) -> Option<&'a Entry> {
     for entry in layout.entries.as_slice() {
         let fits = match (&entry.fact, node_of(&entry.fact)) {

@@ -1,4 +1,4 @@
-//! The ring that a plan leaves.
+//! The ring after a plan.
 
 ghost use Rattle.std.specs.Prelude.{◌≡◌, IfOk, length};
 ghost use Rattle.plan_bundles.specs.Rings.{member_after, members_after, ring_left};
@@ -28,7 +28,7 @@ fn members_left(alloc: Global, ring: &Ring, plan: &Plan) -> Result<Vec<bool>, Re
     Ok(members)
 }
 
-/// Returns the ring after the plan: new owners and members, all else unchanged.
+/// The ring after the plan: new owners and members, all else unchanged.
 pub fn ring_after(alloc: Global, approved: &Approved) -> Result<Ring, Refusal>
     ensures { IfOk result (λ v. v ≡ ring_left approved.now.ring approved.now.plan) }
 {

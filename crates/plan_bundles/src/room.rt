@@ -1,16 +1,16 @@
-//! A bound on the bytes of windows, known before they are made.
+//! A bound on windows' bytes, known before they are made.
 //!
-//! Each window begins with a ring's text, and the rings differ only in owners and members (`ring_after`). An `in` is a
-//! byte shorter than an `out`, and an owner's name is at least as long as the shortest name. So no window is shorter
-//! than the first ring's text, less a byte for each node, with the shortest name for each owner.
+//! Each window begins with a ring's text. The rings differ only in owners and members (`ring_after`), and an `in` is a
+//! byte shorter than an `out`. So a window has at least the first ring's bytes, less one for each node, with the
+//! shortest name for each owner.
 
 use ring_names::{NodeId, Refusal};
 use ring_table::{Node, Ring};
 
-/// The most bytes of a plan's windows together.
+/// The most bytes of a plan's windows.
 pub const MAX_WINDOWS: usize = 67_108_864;
 
-/// The bytes so far, the windows that remain, and the fewest bytes of each.
+/// The bytes so far, the windows left, and each one's fewest bytes.
 #[derive(Clone, Copy, Debug)]
 pub struct Room {
     made: usize,

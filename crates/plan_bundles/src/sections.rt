@@ -28,7 +28,7 @@ fn is_end(text: &[u8], start: usize, end: usize) -> bool {
     start <= end && end <= text.len() && &text[start..end] == b"end\n".as_slice()
 }
 
-/// Returns how many bytes the first sections have. With fewer sections, all bytes.
+/// Counts the first sections' bytes, or all if there are fewer.
 pub fn front(text: &[u8], sections: u32) -> usize
     ensures { result ≤ length text.now }
 {
@@ -51,7 +51,7 @@ fn begins(text: &[u8], word: &[u8]) -> bool {
     word.len() <= text.len() && &text[..word.len()] == word
 }
 
-/// Returns what follows the ring, by its first word and the number of sections.
+/// What follows the ring, by first word and number of sections.
 pub fn kind_of(text: &[u8]) -> Kind {
     if begins(&text[front(text, 1)..], b"change ") {
         return Kind::Change;

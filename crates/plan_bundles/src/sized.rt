@@ -1,4 +1,4 @@
-//! Checks what is promised if partitions have sizes.
+//! Checks the promises for partitions with sizes.
 
 ghost use Rattle.std.specs.Prelude.{◌≡◌, ◌*◌, ◌&&◌, nat_le, true, length, slice_index, replicate, IfOk, IfSome, OnOk, IsTrue};
 ghost use Rattle.plan_bundles.specs.Sized.{IsSized, all_stored, all_weights, has_sizes, is_flagged, is_size, is_taker, loads_below, may_go, may_row, may_rows, row_at, sizes_by, sum_below, takes, weight_in, weights_by, with_row, with_size, with_slot, with_weight};
@@ -32,7 +32,7 @@ fn load_at(loads: &[u64], place: usize) -> u64
     }
 }
 
-/// Whether the place's flag is set.
+/// Whether the flag is set.
 pub fn is_flagged(flags: &[bool], place: usize) -> bool
     ensures { result ≡ is_flagged flags.now place }
 {
@@ -42,7 +42,7 @@ pub fn is_flagged(flags: &[bool], place: usize) -> bool
     }
 }
 
-/// Returns the partition's owners, or none.
+/// The partition's owners, or none.
 pub fn row_at(rows: &[Listed<NodeId>], partition: usize) -> &[NodeId]
     ensures { result.now ≡ row_at rows.now partition }
 {
@@ -141,7 +141,7 @@ fn is_at_most(one: u64, by: u64, other: u64, times: u32) -> Option<bool>
     Some(first <= second)
 }
 
-// The joiners, the stored sizes and weights, and their sums.
+// The joiners, stored sizes and weights, and their sums.
 #[derive(Clone, Copy)]
 struct Shares<'a> {
     joins: &'a [NodeId],
@@ -308,7 +308,7 @@ fn put_sizes(all: &mut Vec<u64>, entries: &[Entry]) -> Result<(), Refusal>
     put_sizes(all, more)
 }
 
-/// Returns each partition's size: 1 unless the layout has one.
+/// Each partition's size: 1 unless the layout has one.
 ///
 /// An unknown partition is `TooLarge` with the layout's line.
 pub fn sizes_of(alloc: Global, partitions: u32, layout: &Layout) -> Result<Vec<u64>, Refusal>
@@ -363,7 +363,7 @@ fn put_weights(all: &mut Vec<u32>, ring: &Ring, entries: &[Entry]) -> Result<(),
     put_weights(all, ring, more)
 }
 
-/// Returns each node's weight: 1 unless the layout has one.
+/// Each node's weight: 1 unless the layout has one.
 pub fn weights_of(alloc: Global, ring: &Ring, layout: &Layout) -> Result<Vec<u32>, Refusal>
     ensures { IfOk result (λ all. all.items
         ≡ weights_by (names_of ring.now) (replicate (length ring.now.nodes) 1) layout.now.entries) }

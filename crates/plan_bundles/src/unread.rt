@@ -1,4 +1,4 @@
-//! Keeps the slots of partitions that too few live owners can read.
+//! Partitions that too few live owners can read.
 
 ghost use Rattle.std.specs.Prelude.{◌≡◌, IfOk, length};
 ghost use Rattle.plan_bundles.specs.Rings.{flags};

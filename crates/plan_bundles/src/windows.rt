@@ -1,4 +1,4 @@
-//! A plan in windows: each is a bundle over the ring that the window before leaves.
+//! Windows of a plan, each a bundle over the previous one's ring.
 
 ghost use Rattle.std.specs.Prelude.{◌≡◌, ℕ, List, [], ◌∷◌, ◌++◌, Option, IfOk, IsTrue};
 ghost use Rattle.ring_table.specs.Spelling.{ring_text};
@@ -44,7 +44,7 @@ fn window_over(alloc: Global, ring: Ring, plan: Plan) -> Result<Window, Refusal>
     }
 }
 
-/// Whether the two rings have the same text.
+/// Whether the rings have the same text.
 pub fn is_same_ring(alloc: Global, one: &Ring, other: &Ring) -> Result<bool, Refusal>
     ensures { IfOk result (λ is. IsTrue is → ring_text one.now ≡ ring_text other.now) }
 {
@@ -133,13 +133,13 @@ fn all_windows(
     Ok(Windows { asked, next })
 }
 
-/// Cuts an approved plan into windows of `width` rounds of copies.
+/// Cuts an approved plan into windows of `width` rounds.
 ///
-/// Returns all windows, or only one, counted from 1. The steps that move a slot stay in one window.
+/// Returns all windows, or one, counted from 1. A move's steps stay together.
 ///
 /// Fails as the checker does for a window, or with `NoPlan` if there is no such window.
 ///
-/// Fails with `TooLarge(0)` above `MAX_WINDOWS` bytes. If numbers and lengths show this, it makes no window first.
+/// Fails with `TooLarge(0)` above `MAX_WINDOWS` bytes: before making windows, if numbers and lengths show this.
 pub fn cut_plan(
     alloc: Global,
     approved: &Approved,

@@ -1,20 +1,20 @@
-//! Slots to swap with a moving slot.
+//! Slots to swap.
 
 use find_flow::{Grouped, Role, Seats};
 use helpers::{at, quotient, set, small, swap};
 use ring_names::Refusal;
 use std::alloc::Global;
 
-/// The slots of each node.
+/// Each node's slots.
 #[derive(Drop)]
 pub struct Candidates {
-    // by node, its slots; the last group has those that staying members got by moves before the first swap
+    // by node, its slots; the last group has those that staying members got by moves before any swap
     places: Grouped,
     // by place, its position in its owner's group
     turns: Vec<u32>,
     // by group, the last look's position
     fingers: Vec<u32>,
-    // former owners of the partition that own none of it now and may have the slot
+    // former owners that now lack the partition and may have the slot
     gone: Vec<u32>,
 }
 
@@ -25,7 +25,7 @@ fn is_entered(seats: &Seats, place: usize) -> bool {
 }
 
 impl Candidates {
-    /// Starts without slots.
+    /// Starts empty.
     pub fn new(alloc: Global) -> Candidates {
         Candidates {
             places: Grouped::new(alloc),
@@ -35,7 +35,7 @@ impl Candidates {
         }
     }
 
-    /// Sorts all slots into groups.
+    /// Groups all slots.
     pub fn fill(&mut self, alloc: Global, seats: &Seats) -> Result<(), Refusal> {
         let groups = (seats.members.count() as usize).saturating_add(1);
         self.turns = vec![in alloc; 0u32; seats.total()]?;
@@ -68,7 +68,7 @@ impl Candidates {
         }
     }
 
-    /// Prepares candidates for the slot.
+    /// Prepares the slot's candidates.
     pub fn begin(&mut self, seats: &Seats, place: usize) -> Result<(), Refusal> {
         let partition = seats.partition(place);
         self.gone.clear();
@@ -81,7 +81,7 @@ impl Candidates {
         Ok(())
     }
 
-    // The group's next place, unless all came in earlier rounds.
+    // The group's next place, unless all came before.
     fn next_of(&mut self, group: usize, round: u32) -> Option<usize> {
         let start = self.places.start(group);
         let count = self.places.end(group).saturating_sub(start);
@@ -96,7 +96,7 @@ impl Candidates {
         Some(self.places.item(start.saturating_add(finger)) as usize)
     }
 
-    /// Returns the slot's next candidate. Turns alternate: a slot of a former owner, which regains its own, and a slot
+    /// Returns the slot's next candidate. Turns alternate: a former owner's slot, which regains its own, and a slot
     /// that a member got by a move.
     pub fn next(&mut self, seats: &Seats, place: usize, turn: u32) -> Option<usize> {
         let ways = small(self.gone.len()).saturating_add(1);
@@ -115,7 +115,7 @@ impl Candidates {
         None
     }
 
-    /// Swaps the owners of two slots.
+    /// Swaps two owners.
     pub fn exchange(&mut self, one: usize, other: usize) {
         let (first, second) = (at(&self.turns, one), at(&self.turns, other));
         self.places.swap(first as usize, second as usize);

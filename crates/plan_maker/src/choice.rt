@@ -1,4 +1,4 @@
-//! Chooses the wished owners.
+//! Chooses owners.
 
 use crate::filling::fill;
 use crate::giving::give;
@@ -58,7 +58,7 @@ fn wished_of(
 
 /// Returns the wished owners, by partition and index.
 ///
-/// A partition's owners are different members in the end. A slot that does not move keeps its owner and index.
+/// A partition's owners are different final members. A slot that does not move keeps owner and index.
 ///
 /// Aims, the most important first:
 /// - The fewest pairs of slots in one rack, in each partition.
@@ -66,15 +66,15 @@ fn wished_of(
 ///   most one slot of each partition.
 /// - The fewest moves.
 /// - The best balance: the least sum of squared slots by weight.
-/// - Few partitions with two joining nodes or two moving slots, and partitions shared evenly.
+/// - Few partitions with two joining nodes or two moving slots, and evenly shared partitions.
 ///
 /// If the search takes too long, the balance and rarely a part fall short. The last aim is met well, not always best.
 ///
-/// With sizes, joining nodes take up to their share of the stored size, and no slot moves only for racks.
-/// This is good, not always optimal: see `take_by_size`.
+/// With sizes, joining nodes take up to their share of the stored size, and no slot moves only for racks. This is good,
+/// not always optimal: see `take_by_size`.
 ///
-/// Fails with `NoPlan` if a joining node is a member, a leaving node is not, or too few members remain; and
-/// with `OutOfMemory`. The same input gives the same owners.
+/// Fails with `OutOfMemory`, or with `NoPlan` if a joining node is a member, a leaving node is not, or too few remain.
+/// Equal inputs give equal owners.
 pub fn wished(
     alloc: Global,
     ring: &Ring,

@@ -1,4 +1,4 @@
-//! A change's load on partitions.
+//! Loads of partitions.
 
 use crate::pairs::{Half, PairCounts};
 use find_flow::{Role, Seats};
@@ -12,7 +12,7 @@ pub struct Cost {
     // by partition, 64 for each joining node after the first, and 1 for each pair of them; two partitions have at most
     // 42 pairs
     joiners: i64,
-    // a partition's moving slots after the first
+    // moving slots after a partition's first
     moves: i64,
     // squares of how many partitions two nodes share
     shares: i64,
@@ -25,7 +25,7 @@ pub const FEWER_JOINERS: Cost = Cost {
     shares: 0,
 };
 
-/// Above any swap that gains.
+/// Above any gain.
 pub const ANY_GAIN: Cost = Cost {
     joiners: 0,
     moves: 0,
@@ -81,19 +81,19 @@ fn change(counts: &mut [u32], place: usize, more: i64) {
     set(counts, place, u32::try_from(count).unwrap_or(0));
 }
 
-/// Loads of partitions, and pairs of nodes that share them.
+/// Partitions' loads, and pairs of nodes that share them.
 #[derive(Drop)]
 pub struct Crowds {
     joiners: Vec<u32>,
     moves: Vec<u32>,
     pairs: PairCounts,
-    // by number of joining owners, how many partitions have it
+    // by number of joining owners, how many partitions
     levels: Vec<u32>,
     reads: u32,
 }
 
 impl Crowds {
-    /// Starts without partitions. `reads` slots answer a read.
+    /// Starts empty. `reads` slots answer a read.
     pub fn new(alloc: Global, reads: u32) -> Crowds {
         Crowds {
             joiners: Vec::new(alloc),
@@ -104,7 +104,7 @@ impl Crowds {
         }
     }
 
-    /// Counts the loads of all partitions.
+    /// Counts all partitions' loads.
     pub fn fill(&mut self, alloc: Global, seats: &Seats) -> Result<(), Refusal> {
         self.joiners = vec![in alloc; 0u32; seats.partitions]?;
         self.moves = vec![in alloc; 0u32; seats.partitions]?;
@@ -139,7 +139,7 @@ impl Crowds {
         false
     }
 
-    /// Returns how many slots move.
+    /// Counts the moving slots.
     pub fn all_moves(&self) -> u32 {
         let mut all = 0u32;
         for moves in self.moves.iter() {
@@ -180,11 +180,11 @@ impl Crowds {
             .saturating_sub(self.tied(seats, now))
     }
 
-    /// Returns a swap's cost, if it is below the limit and allowed.
+    /// Returns a swap's cost, if below the limit and allowed.
     ///
     /// `one`'s owner may have `other`; the caller checked the reverse.
     ///
-    /// The partitions must have the same size. No move may be added, nor a copy that can only read its owner: that may
+    /// The partitions must have the same size. No move may be added, nor a copy that can read only its owner: that may
     /// give little at once.
     pub fn cost(&self, seats: &Seats, one: usize, other: usize, limit: Cost) -> Option<Cost> {
         let (first, second) = (half_of(seats, one, other), half_of(seats, other, one));
@@ -228,7 +228,7 @@ impl Crowds {
         self.pairs.replace(seats, half);
     }
 
-    /// Swaps the owners of two slots.
+    /// Swaps two owners.
     pub fn exchange(&mut self, seats: &mut Seats, one: usize, other: usize) {
         let (first, second) = (half_of(seats, one, other), half_of(seats, other, one));
         self.count(seats, first);

@@ -1,4 +1,4 @@
-//! Gives slots without owners to members.
+//! Fills free slots.
 
 use crate::ranks::Who;
 use crate::takers::Takers;
@@ -7,7 +7,7 @@ use helpers::NONE;
 use ring_names::Refusal;
 use std::alloc::Global;
 
-/// Gives the partition's free slots to members, or fails with `NoPlan`.
+/// Gives the partition's free slots away, or fails with `NoPlan`.
 pub(crate) fn fill_partition(
     seats: &mut Seats,
     takers: &mut Takers,

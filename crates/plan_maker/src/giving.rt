@@ -1,4 +1,4 @@
-//! Members that give slots to joining ones.
+//! Members that give.
 
 use crate::ranks::Who;
 use crate::takers::Takers;
@@ -9,7 +9,7 @@ use std::alloc::Global;
 use std::cmp::Reverse;
 use std::collections::BinaryHeap;
 
-/// A giver's rank. The greatest has most slots by weight, then most allowance left, then the smallest number.
+/// A giver's rank: greatest for most slots by weight, then most allowance left, then the smallest number.
 #[derive(Clone, Copy, PartialEq, Eq, PartialOrd, Ord, Drop)]
 pub(crate) struct Giver {
     pub(crate) price: u64,
@@ -28,7 +28,7 @@ fn ranked(seats: &Seats, node: u32) -> Giver {
 #[derive(Drop)]
 struct Givers {
     heap: BinaryHeap<Giver>,
-    // by node, how many of its slots were tried
+    // by node, how many slots were tried
     looked: Vec<u32>,
     takers: Takers,
 }
@@ -44,7 +44,7 @@ impl Givers {
         self.takers.fill(alloc, seats)
     }
 
-    // Returns whether a joining member took the slot.
+    // Whether a joining member took the slot.
     fn pass(&mut self, seats: &mut Seats, place: usize) -> Result<bool, Refusal> {
         let owner = seats.now(place);
         seats.vacate(place);
@@ -90,8 +90,8 @@ impl Givers {
     }
 }
 
-/// Moves slots from staying members to joining ones below their parts. The member with most slots by weight gives
-/// first, until none can move.
+/// Moves slots from staying to joining members below their parts. The member with most slots by weight gives first,
+/// until none can move.
 pub fn give(alloc: Global, seats: &mut Seats) -> Result<(), Refusal> {
     let mut givers = Givers {
         heap: BinaryHeap::new(alloc),

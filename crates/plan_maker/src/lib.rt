@@ -1,5 +1,5 @@
-//! The planner: owners for a change by weight, apart by racks, and the plan with its certificate. It moves as few slots
-//! as racks and the change need, balances them, and runs as many transfers at once as allowances permit. Nothing is
+//! The planner: owners for a change by weight, with racks apart, and the plan with its certificate. It moves as few
+//! slots as racks and change need, balances them, and runs as many transfers at once as allowances permit. Nothing is
 //! proved: the checker judges the results.
 #![tactic(auto)]
 

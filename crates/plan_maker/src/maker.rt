@@ -18,13 +18,13 @@ fn numbered(alloc: Global, nodes: &[NodeId]) -> Result<Vec<u32>, Refusal> {
     Ok(numbers)
 }
 
-/// Makes a plan that joins and removes these members, with its certificate.
+/// Plans to join and remove these members, with a certificate.
 ///
-/// It moves only leaving nodes' slots, and as many more as give each joining node its share, rounded down. Equal inputs
+/// Moves only leaving nodes' slots, and as many more as give each joining node its share, rounded down. Equal inputs
 /// give equal plans.
 ///
-/// Fails with `NoPlan` if a joining node is a member, a leaving node is not, or fewer members than slots remain; and
-/// with `OutOfMemory`.
+/// Fails with `OutOfMemory`, or with `NoPlan` if a joining node is a member, a leaving node is not, or fewer members
+/// than slots remain.
 pub fn make<'a>(
     alloc: Global,
     ring: &Ring,

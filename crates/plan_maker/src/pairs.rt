@@ -1,11 +1,11 @@
-//! Counts the partitions that two nodes share.
+//! Partitions that two nodes share.
 
 use find_flow::Seats;
 use helpers::{at, lower, raise};
 use ring_names::Refusal;
 use std::alloc::Global;
 
-/// Half a swap: a slot with its old and new owner.
+/// Half a swap: a slot's old and new owner.
 #[derive(Clone, Copy)]
 pub struct Half {
     pub partition: usize,
@@ -17,7 +17,7 @@ pub struct Half {
 /// By pair of nodes, how many partitions they share. At most 2 MB, for 1,024 nodes.
 #[derive(Drop)]
 pub struct PairCounts {
-    // by the greater node, its counts with all smaller ones
+    // by the greater node, its counts with smaller ones
     counts: Vec<u32>,
 }
 
@@ -35,7 +35,7 @@ fn place_of(one: u32, other: u32) -> usize {
 }
 
 impl PairCounts {
-    /// Starts without nodes.
+    /// Starts empty.
     pub fn new(alloc: Global) -> PairCounts {
         PairCounts {
             counts: Vec::new(alloc),
@@ -63,7 +63,7 @@ impl PairCounts {
         i64::from(at(&self.counts, place_of(one, other)))
     }
 
-    /// Returns how much half a swap adds to the sum of squares.
+    /// Half a swap's growth of the sum of squares.
     pub fn growth(&self, seats: &Seats, half: Half) -> i64 {
         let start = seats.place(half.partition, 0);
         let mut growth = 0i64;

@@ -1,4 +1,4 @@
-//! The order in which members take slots.
+//! The members' order.
 
 use find_flow::{Role, Seats};
 use helpers::{NONE, small};
@@ -8,11 +8,11 @@ use std::alloc::Global;
 /// A member's rank, the least first.
 #[derive(Clone, Copy, PartialEq, Eq, PartialOrd, Ord, Drop)]
 pub struct Rank {
-    /// Joining members below their part come first.
+    /// First, joining members below their part.
     is_sated: bool,
-    /// Then those with few slots by weight.
+    /// Then few slots by weight.
     price: u64,
-    /// Then those with much allowance left, then small numbers.
+    /// Then much allowance left, then small numbers.
     crowd: u32,
     node: u32,
 }
@@ -25,13 +25,13 @@ pub const NOBODY: Rank = Rank {
     node: NONE,
 };
 
-/// Returns the one that comes first.
+/// Returns the earlier one.
 pub fn sooner(one: Rank, other: Rank) -> Rank {
     if other < one { other } else { one }
 }
 
 impl Rank {
-    /// Returns the member, if it is one.
+    /// The member, if any.
     pub fn node(&self) -> Option<u32> {
         if self.node == NONE {
             return None;
@@ -46,9 +46,9 @@ pub enum Who {
     All,
     /// Joining members below their part.
     Wanting,
-    /// All members, the greatest lack of stored share by weight first.
+    /// All, the greatest lack of stored share by weight first.
     Emptiest,
-    /// All members, the fewest slots by weight first.
+    /// All, the fewest slots by weight first.
     Fewest,
     /// Joining members below their stored share, the neediest first.
     Lacking,
@@ -56,10 +56,10 @@ pub enum Who {
     Fullest,
 }
 
-// The greatest price of a member.
+// A member's greatest price.
 const DEAREST: u64 = 18_446_744_073_709_551_614;
 
-/// A tournament tree over all nodes in rack order. Each knot has the first of its two children.
+/// A tournament tree over all nodes in rack order. Each knot has the first of its children.
 #[derive(Drop)]
 pub struct Ranks {
     who: Who,
@@ -69,7 +69,7 @@ pub struct Ranks {
 }
 
 impl Ranks {
-    /// Starts without nodes.
+    /// Starts empty.
     pub fn new(alloc: Global, who: Who) -> Ranks {
         Ranks {
             who,
@@ -78,7 +78,7 @@ impl Ranks {
         }
     }
 
-    /// Sets the ranks of all nodes.
+    /// Ranks all nodes.
     pub fn fill(&mut self, alloc: Global, seats: &Seats) -> Result<(), Refusal> {
         let count = seats.members.count();
         for _ in 0..16 {
@@ -167,7 +167,7 @@ impl Ranks {
         }
     }
 
-    /// Returns the first in a range of places.
+    /// The first in a range of places.
     pub fn first(&self, from: u32, end: u32) -> Rank {
         let mut first = NOBODY;
         let mut left = self.size.saturating_add(from);
@@ -206,7 +206,7 @@ impl Ranks {
         Ok(())
     }
 
-    /// Returns the first of all.
+    /// The first of all.
     pub fn head(&self) -> Option<u32> {
         self.at(1).node()
     }
@@ -216,7 +216,7 @@ impl Ranks {
         self.at(1) == NOBODY
     }
 
-    /// Returns the number of leaves, at least that of nodes.
+    /// The number of leaves, at least that of nodes.
     pub fn len(&self) -> u32 {
         small(self.knots.len()).saturating_sub(self.size)
     }

@@ -1,4 +1,4 @@
-//! Chooses owners by the sizes of partitions.
+//! Chooses owners by partitions' sizes.
 
 use crate::filling::fill_partition;
 use crate::giving::Giver;
@@ -25,7 +25,7 @@ fn by_size(alloc: Global, seats: &Seats) -> Result<Vec<u32>, Refusal> {
     Ok(order)
 }
 
-// Splits partitions into those with keys and those without.
+// Splits off the partitions without keys.
 fn split_full<'a>(seats: &Seats, order: &'a [u32]) -> (&'a [u32], &'a [u32]) {
     for place in 0..order.len() {
         if seats.volumes.size(order[place] as usize) == 0 {
@@ -195,16 +195,16 @@ fn ranked(seats: &Seats, node: u32) -> Giver {
     }
 }
 
-/// Gives slots to members by the sizes of partitions:
+/// Gives slots to members by partitions' sizes:
 ///
 /// 1. Leavers' slots, the largest first, go to members that lack most by weight, after racks. Slots without keys go to
-/// members with few slots.
+///    members with few slots.
 ///
-/// 2. Slots above their owners' levels, the largest first, go to joining members that lack most, at least the slot.
+/// 2. Slots above owners' levels, the largest first, go to joining members that lack most, at least the slot.
 ///
 /// 3. If a joining member still lacks something, those that store most by weight give, even below their levels.
 ///
-/// 4. Swaps for slots of a near size bring members closer to their shares.
+/// 4. Swaps for slots of near size bring members closer to their shares.
 pub fn take_by_size(alloc: Global, seats: &mut Seats) -> Result<(), Refusal> {
     let order = by_size(alloc, seats)?;
     let (full, empty) = split_full(seats, order.as_slice());

@@ -1,8 +1,7 @@
 //! Spreads moving slots over partitions by swaps.
 //!
 //! A moving slot's owner leaves the partition. Its place goes to a former owner of the partition, or to a member that
-//! got the other slot by a move too. Loads, parts and balance stay. Longer exchanges help few rings and need most
-//! looks.
+//! got the other slot by a move too. Longer exchanges help few rings and need most looks.
 
 use crate::candidates::Candidates;
 use crate::crowds::{ANY_GAIN, Cost, Crowds, FEWER_JOINERS};
@@ -14,14 +13,14 @@ use std::alloc::Global;
 // The most looks for one swap.
 const LOOKS: u32 = 128;
 
-// The most swaps that are compared for one.
+// The most swaps compared for one.
 const COMPARED: u32 = 16;
 
 #[derive(Drop)]
 struct Spread {
     crowds: Crowds,
     candidates: Candidates,
-    // the looks left to joining nodes
+    // looks left to joining nodes
     looks: u32,
 }
 
@@ -69,7 +68,7 @@ impl Spread {
         Ok(found)
     }
 
-    // Returns whether there was a swap.
+    // Whether it swapped.
     fn exchange(
         &mut self,
         seats: &mut Seats,
@@ -85,7 +84,7 @@ impl Spread {
         Ok(true)
     }
 
-    // Returns whether a joining node left the partition.
+    // Whether a joining node left.
     fn relieve(&mut self, seats: &mut Seats, partition: usize) -> Result<bool, Refusal> {
         for index in 0..seats.slots {
             let place = seats.place(partition, index);
@@ -141,11 +140,10 @@ impl Spread {
 ///
 /// Moves, loads and pairs in one rack do not grow, nor do copies with fewer than `reads` other staying slots.
 ///
-/// Partitions get fewer joining owners after the first, then fewer moving slots after the first; then nodes share
-/// partitions more evenly.
+/// Partitions get fewer joining owners, then fewer moving slots, after the first; then nodes share partitions more
+/// evenly.
 ///
-/// The result is good, not always optimal: joining nodes take some 32 looks for each slot of the ring, the rest at most
-/// 16.
+/// Good, not always optimal: joining nodes take some 32 looks for each of the ring's slots, the rest at most 16.
 pub fn spread_moves(alloc: Global, reads: u32, seats: &mut Seats) -> Result<(), Refusal> {
     if seats.moved() == 0 {
         return Ok(());

@@ -6,30 +6,29 @@ use find_flow::{Grouped, Role, Seats};
 use ring_names::Refusal;
 use std::alloc::Global;
 
-// How many members are searched for another slot.
+// The members searched for another slot.
 const GIVERS: u32 = 8;
 
 // How many slots of each are tried.
 const LOOKS: usize = 32;
 
-// How many passes go over all slots.
+// The passes over all slots.
 const TURNS: u32 = 3;
 
-// A joining member gives `place` back to its former owner, and gets `other`.
+// A joining member returns `place` to its former owner, and gets `other`.
 #[derive(Clone, Copy)]
 struct Swap {
     place: usize,
     other: usize,
 }
 
-// Whether no more slots share a rack.
 fn suits(seats: &Seats, partition: usize, new: u32, old: u32) -> bool {
     let racks = &seats.members.racks;
     let (to, from) = (racks.of(new), racks.of(old));
     to == from || seats.count(partition, to) < seats.count(partition, from)
 }
 
-// How much farther from its share the node is with `more`, by squared distance and weight.
+// How much farther from its share `more` takes the node, by squared distance and weight.
 fn farther(seats: &Seats, node: u32, more: i64) -> i128 {
     let over = i128::from(seats.volumes.over(node));
     let more = i128::from(more);
@@ -60,8 +59,8 @@ impl Swap {
             && suits(seats, here, seats.first(self.place), taker)
     }
 
-    // How much farther from their shares both members are. The joining member must not exceed its share, nor lack more
-    // than `slack` unless it did before.
+    // How much farther from their shares both members are. The joining member must not exceed its share, nor newly lack
+    // more than `slack`.
     fn cost(&self, seats: &Seats, slack: i64) -> Option<i128> {
         let (here, there) = (parts(seats, self.place), parts(seats, self.other));
         let (taker, giver) = (seats.now(self.place), seats.now(self.other));
@@ -102,7 +101,6 @@ struct Swapping<'a> {
 }
 
 impl<'a> Swapping<'a> {
-    // The node's first slot not larger than `most`.
     fn first_to(&self, seats: &Seats, node: u32, most: i64) -> usize {
         let (mut low, mut high) = (
             self.owned.start(node as usize),
@@ -150,7 +148,7 @@ impl<'a> Swapping<'a> {
         found
     }
 
-    // Returns whether the slot was swapped.
+    // Whether it swapped.
     fn swap(&mut self, seats: &mut Seats, place: usize) -> Result<bool, Refusal> {
         let (owner, partition) = (seats.first(place), seats.partition(place));
         let is_taken = seats.members.role(owner) == Role::Stays
@@ -178,7 +176,7 @@ impl<'a> Swapping<'a> {
 
 /// Swaps slots that joining members took, to bring members closer to their shares.
 ///
-/// `owned` has each node's former slots with keys, the largest first.
+/// `owned` has former slots with keys by node, the largest first.
 pub(crate) fn swap_all(alloc: Global, seats: &mut Seats, owned: &Grouped) -> Result<(), Refusal> {
     let mut swapping = Swapping {
         owned,

@@ -1,4 +1,4 @@
-//! Finds the member that takes a free slot.
+//! Finds a free slot's taker.
 
 use crate::ranks::{NOBODY, Ranks, Who, sooner};
 use find_flow::Seats;
@@ -10,12 +10,12 @@ use std::alloc::Global;
 #[derive(Drop)]
 pub struct Takers {
     ranks: Ranks,
-    // ranges in rack order that may not take a slot
+    // ranges in rack order that may not take
     blocked: Vec<(u32, u32)>,
 }
 
 impl Takers {
-    /// Starts without members.
+    /// Starts empty.
     pub fn new(alloc: Global, who: Who) -> Takers {
         Takers {
             ranks: Ranks::new(alloc, who),
@@ -23,12 +23,12 @@ impl Takers {
         }
     }
 
-    /// Sets the ranks of all members.
+    /// Ranks all members.
     pub fn fill(&mut self, alloc: Global, seats: &Seats) -> Result<(), Refusal> {
         self.ranks.fill(alloc, seats)
     }
 
-    /// Returns the first member, if one is left.
+    /// The first member, if one is left.
     pub fn head(&self) -> Option<u32> {
         self.ranks.head()
     }
@@ -82,7 +82,7 @@ impl Takers {
         Ok(())
     }
 
-    /// Returns the first member that may take a slot of the partition.
+    /// Returns the first member that may take the partition's slot.
     pub fn taker(&mut self, seats: &Seats, partition: usize) -> Result<Option<u32>, Refusal> {
         self.blocked.clear();
         self.block_owners(seats, partition)?;

@@ -1,4 +1,4 @@
-//! Frees a partition's slots in crowded racks.
+//! Frees slots in crowded racks.
 
 use find_flow::Seats;
 use helpers::NONE;
@@ -40,7 +40,6 @@ fn is_last(seats: &Seats, partition: usize, place: usize) -> bool {
     seats.now(place) != NONE
 }
 
-// How many racks exceed their minimum in the partition.
 fn above(seats: &Seats, partition: usize) -> u32 {
     let mut above = 0u32;
     for index in 0..seats.slots {
@@ -67,7 +66,7 @@ fn next(seats: &Seats, partition: usize) -> Option<usize> {
     None
 }
 
-/// Frees as few slots as spreading over the racks needs.
+/// Frees as few slots as spreading over racks needs.
 pub fn thin(seats: &mut Seats) {
     for partition in 0..seats.partitions {
         for _ in 0..seats.slots {
