@@ -1,4 +1,4 @@
-//! Plans, checks, shows, runs and judges changes of the members of a replicated store.
+//! Plans, checks, shows, runs and judges changes of a replicated store's members.
 #![tactic(auto)]
 
 use ringplan_run::{Screen, end_without_memory, end_without_words, run_advised};
@@ -22,7 +22,7 @@ fn main(rt: HostRuntime) -> ExitCode {
     ExitCode::from(status)
 }
 
-// Standard output has colours if it is a terminal and the environment has no NO_COLOR, or an empty one (no-color.org).
+// Colours need a terminal as standard output, and no or an empty NO_COLOR (no-color.org).
 fn screen(rt: &HostRuntime) -> Screen {
     let mut first = [0u8; 1];
     let is_forbidden = match rt.var("NO_COLOR", &mut first) {
@@ -39,7 +39,7 @@ fn screen(rt: &HostRuntime) -> Screen {
     Screen::Colored
 }
 
-// The words of the command line. They may not be text, and memory may be refused.
+// The command line's words, if they are text and memory suffices.
 fn words(rt: &HostRuntime) -> Result<Vec<String>, ErrorKind> {
     match env::args(rt) {
         Ok(arguments) => match arguments.collect::<Vec<String>>(rt.alloc()) {
@@ -50,7 +50,8 @@ fn words(rt: &HostRuntime) -> Result<Vec<String>, ErrorKind> {
     }
 }
 
-// Standard input. Before the first read from a terminal, standard error says that a bundle is awaited. Once it has ended, a terminal is not asked again.
+// Standard input. Before a terminal's first read, standard error says that a bundle is awaited. An ended terminal is
+// not asked again.
 #[derive(Drop)]
 struct Console<'a> {
     rt: &'a HostRuntime,

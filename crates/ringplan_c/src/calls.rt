@@ -1,4 +1,4 @@
-//! The calls. The header `c/ringplan.h` has them as C sees them, and says what a caller owes.
+//! The calls. `c/ringplan.h` shows them as C sees them, and says what a caller owes.
 
 ghost use Rattle.std.specs.Prelude.{◌≡◌};
 ghost use Rattle.ringplan_c.specs.Calls.{Comes, Replies};
@@ -10,13 +10,13 @@ use ring_names::Refusal;
 use ringplan_jobs::{Job, MAX_INPUT, answer_of, make};
 use std::alloc::Global;
 
-/// The line of a refusal for want of memory, which itself needs none.
+/// The refusal's line if memory runs out. It needs no memory.
 pub(crate) const NO_MEMORY: &[u8; 6] = b"no 60\n";
 
-/// The status where memory failed.
+/// The status if memory failed.
 pub(crate) const FAILED: u8 = 3;
 
-// What comes of an input. One of more bytes than the program reads is refused as the program refuses it.
+// An input's outcome. Refuses an input that is too large, as the program does.
 fn outcome(alloc: Global, job: Job, input: &[u8]) -> Result<Vec<u8>, Refusal>
     ensures { Comes job input.now (texts_of result) }
 {
@@ -26,7 +26,6 @@ fn outcome(alloc: Global, job: Job, input: &[u8]) -> Result<Vec<u8>, Refusal>
     make(alloc, job, input)
 }
 
-// The answer to a job, in the caller's room.
 fn reply(alloc: Global, job: Job, input: &[u8], output: &mut [u8], length: &mut usize) -> u8
     ensures { Replies job input.now output.old output.new length.new result }
 {
@@ -36,7 +35,7 @@ fn reply(alloc: Global, job: Job, input: &[u8], output: &mut [u8], length: &mut 
     }
 }
 
-/// The version of these calls. A later one with another meaning of a call, or of its parameters, has another.
+/// The version of the calls. It changes if a call or its parameters change meaning.
 #[unsafe(no_mangle)]
 pub extern "C" fn ringplan_version() -> u32
     ensures { result ≡ 2 }
@@ -44,7 +43,7 @@ pub extern "C" fn ringplan_version() -> u32
     2
 }
 
-/// `ringplan check`: `yes`, or the line of the first refusal. What it prints has at most 28 bytes.
+/// `ringplan check`: `yes`, or the first refusal's line. Prints at most 28 bytes.
 #[unsafe(no_mangle)]
 pub extern "C" fn ringplan_check(
     alloc: Global,
@@ -57,7 +56,7 @@ pub extern "C" fn ringplan_check(
     reply(alloc, Job::Check, input, output, length)
 }
 
-/// `ringplan plan`: a plan for a change and its certificate, or the line of a refusal.
+/// `ringplan plan`: a change's plan and certificate, or a refusal's line.
 #[unsafe(no_mangle)]
 pub extern "C" fn ringplan_plan(
     alloc: Global,
@@ -70,7 +69,7 @@ pub extern "C" fn ringplan_plan(
     reply(alloc, Job::Plan, input, output, length)
 }
 
-/// `ringplan play`: what the events of a script are answered, or the line of a refusal.
+/// `ringplan play`: the answers to a script's events, or a refusal's line.
 #[unsafe(no_mangle)]
 pub extern "C" fn ringplan_play(
     alloc: Global,
@@ -83,7 +82,7 @@ pub extern "C" fn ringplan_play(
     reply(alloc, Job::Play, input, output, length)
 }
 
-/// `ringplan migrate`: the texts with the ring in its next format, or the line of a refusal.
+/// `ringplan migrate`: the texts with the ring in its next format, or a refusal's line.
 #[unsafe(no_mangle)]
 pub extern "C" fn ringplan_migrate(
     alloc: Global,
@@ -96,7 +95,7 @@ pub extern "C" fn ringplan_migrate(
     reply(alloc, Job::Migrate, input, output, length)
 }
 
-/// `ringplan replay`: `yes` and the owners behind a history that is a run of the plan, or the line of a refusal.
+/// `ringplan replay`: `yes` and the owners after a history that is a run, or a refusal's line.
 #[unsafe(no_mangle)]
 pub extern "C" fn ringplan_replay(
     alloc: Global,

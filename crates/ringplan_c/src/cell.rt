@@ -1,4 +1,4 @@
-//! A judge as C holds it: a pointer to memory that C does not look into.
+//! A judge as C holds it: an opaque pointer.
 
 ghost use Rattle.std.specs.Prelude.{◌≡◌, ◌≢◌, Option, None, Some};
 ghost use Rattle.history_watch.specs.declared.judge.Judge.{Judge as TheJudge};
@@ -10,7 +10,7 @@ use std::alloc::Global;
 use std::marker::Model;
 use std::ptr::null_mut;
 
-/// A pointer to a judge, or null. Dropping it frees nothing: `Handle::take` gives the judge back first.
+/// A pointer to a judge, or null. Dropping it frees nothing: `Handle::take` returns the judge first.
 #[repr(C)]
 #[derive(Drop)]
 pub struct Cell {
@@ -23,14 +23,12 @@ impl Model for Cell {
 }
 
 impl Cell {
-    /// No judge.
     pub(crate) fn none() -> Cell
         ensures { result.value ≡ None }
     {
         Cell { at: null_mut() }
     }
 
-    /// This judge.
     pub(crate) fn of(loose: Loose<Judge, Global>) -> Cell
         ensures { result.value ≡ Some loose.value }
     {
@@ -38,7 +36,7 @@ impl Cell {
         Cell { at: at as *mut u8 }
     }
 
-    /// Gives the judge back.
+    /// Returns the judge.
     pub(crate) fn into_loose(self, alloc: Global) -> Loose<Judge, Global>
         requires { self.value ≢ None }
         ensures { self.value ≡ Some result.value }

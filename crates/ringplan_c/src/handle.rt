@@ -1,4 +1,4 @@
-//! The handle of a judge.
+//! A judge's handle.
 
 ghost use Rattle.std.specs.Prelude.{◌≢◌, ◌↔◌, IsTrue, None};
 
@@ -21,7 +21,6 @@ impl Handle {
     ghost use Rattle.std.specs.Prelude.{◌≡◌, Some};
     ghost use Rattle.ringplan_c.specs.Held.{HasWatch, IsEmpty, held};
 
-    /// Holds no judge.
     #[cfg(test)]
     pub(crate) fn empty() -> Handle
         ensures { IsEmpty result }
@@ -32,7 +31,6 @@ impl Handle {
         }
     }
 
-    /// Returns whether a judge is held.
     pub(crate) fn is_held(&self) -> bool
         ensures { IsTrue result ↔ HasWatch self.now }
     {

@@ -1,5 +1,5 @@
-//! The program's jobs as calls from C: the bytes of a bundle in, what the program prints and its exit status out. Only a watch keeps something: a judge, in
-//! its caller's handle.
+//! The program's jobs as calls from C: a bundle's bytes in, the printed text and exit status out. Only a watch keeps
+//! something: its judge.
 #![tactic(auto)]
 
 mod calls;

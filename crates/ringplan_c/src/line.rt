@@ -1,4 +1,4 @@
-//! The command line that a call stands for.
+//! The command line behind a call.
 
 ghost use Rattle.std.specs.List.{slice_split};
 ghost use Rattle.std.specs.Prelude.{◌==◌, ◌≡◌, IfOk, map};
@@ -9,14 +9,12 @@ ghost use Rattle.ringplan_command.specs.Files.{IsJob, files_in, files_of};
 use ringplan_command::{CommandLine, parse};
 use std::alloc::{AllocError, Global};
 
-// The parts of the options between the bytes 0.
 fn cut<'a>(alloc: Global, options: &'a str) -> Result<Vec<&'a str>, AllocError>
     ensures { IfOk result (λ parts. map (λ part. part.now) parts.items ≡ slice_split (λ b. b == 0) options.now) }
 {
     options.split('\0').collect(alloc)
 }
 
-// The words of the options.
 fn split_options<'a>(alloc: Global, options: &'a str) -> Result<Vec<&'a str>, AllocError>
     ensures { IfOk result (λ words. map (λ word. word.now) words.items ≡ words_in options.now) }
 {
@@ -33,7 +31,6 @@ fn split_options<'a>(alloc: Global, options: &'a str) -> Result<Vec<&'a str>, Al
     }
 }
 
-// The words of the command line.
 fn write_line<'a>(
     alloc: Global,
     command: &'a str,
@@ -49,7 +46,7 @@ fn write_line<'a>(
     Ok(line)
 }
 
-/// What the command line asks for, and the files that it names.
+/// Reads what the command line asks for, and its files.
 pub(crate) fn read_line(
     alloc: Global,
     command: &str,

@@ -1,4 +1,4 @@
-//! What a call for people gives: what the program prints on standard output, and after it what the program prints on standard error.
+//! A call for people gives the program's standard output, then its standard error.
 
 ghost use Rattle.std.specs.Prelude.{◌≡◌, ◌++◌, List, ℕ, IfOk};
 ghost use Rattle.ringplan_c.specs.Speaking.{IsSaid, IsTurnedAway, Reports, Says, Speaks};
@@ -15,18 +15,17 @@ use ringplan_jobs::MAX_INPUT;
 use ringplan_people::{Report, report_bundle, report_unread};
 use std::alloc::{AllocError, Global};
 
-// What is said of options that name a file.
+// For options that name a file.
 const NO_FILES: &[u8; 77] =
     b"error: a call reads and writes no files\n\nFor more information, try '--help'.\n";
 
-// What is said of a command that is not for people.
+// For a command that is not for people.
 const OTHER_CALLS: &[u8; 159] =
     b"error: ringplan_call is for the commands for people; ringplan_check, ringplan_plan, ringplan_play, ringplan_migrate and ringplan_replay are calls of their own\n";
 
-// The status where the options are refused.
 const REFUSED: u8 = 2;
 
-// The report of options that are refused in these words.
+// Refuses options in these words.
 fn turned_away(alloc: Global, words: &[u8]) -> Result<Report, Refusal>
     ensures { IfOk result (λ r. IsTurnedAway r.output.items r.status) }
 {
@@ -38,7 +37,7 @@ fn turned_away(alloc: Global, words: &[u8]) -> Result<Report, Refusal>
     })
 }
 
-// The report of what is made of the input. Named files are refused. So is an input of more bytes than the program reads, as the program refuses it.
+// Reports what is made of the input. Refuses named files, and an input that is too large, as the program does.
 fn report_making(
     alloc: Global,
     making: Making,
@@ -57,7 +56,6 @@ fn report_making(
     report_bundle(alloc, making, options, input)
 }
 
-// The report of a text of help.
 fn report_help(alloc: Global, text: Vec<u8>) -> Report
     ensures { result.status ≡ 0 }
 {
@@ -68,7 +66,6 @@ fn report_help(alloc: Global, text: Vec<u8>) -> Report
     }
 }
 
-// The report of what the command line asks for.
 fn report_line(alloc: Global, command: &str, options: &str, input: &[u8]) -> Result<Report, Refusal>
     ensures { IfOk result (λ r. Says command.now options.now input.now r.output.items r.status) }
 {
@@ -82,7 +79,6 @@ fn report_line(alloc: Global, command: &str, options: &str, input: &[u8]) -> Res
     }
 }
 
-// The report of a call.
 fn report_call(
     alloc: Global,
     command: &[u8],
@@ -107,7 +103,7 @@ fn push_text(out: &mut Vec<u8>, bytes: &[u8]) -> Result<(), AllocError>
     Ok(())
 }
 
-// Both texts of a call as one, and the length of the second.
+// A call's texts as one, and the second's length.
 #[derive(Drop)]
 struct Said {
     both: Vec<u8>,
@@ -115,7 +111,7 @@ struct Said {
     status: u8,
 }
 
-// What a call says, as far as memory suffices.
+// A call's texts, as far as memory suffices.
 fn answer(alloc: Global, command: &[u8], options: &[u8], input: &[u8]) -> Result<Said, Refusal>
     ensures { IfOk result (λ s. IsSaid command.now options.now input.now s.both.items s.errors s.status) }
 {
@@ -135,7 +131,7 @@ fn answer(alloc: Global, command: &[u8], options: &[u8], input: &[u8]) -> Result
     })
 }
 
-/// Does a command for people as `ringplan COMMAND OPTION..` does. A byte 0 follows each option; the last may lack it.
+/// Does a command for people as `ringplan COMMAND OPTION..` does. A byte 0 follows each option, perhaps but the last.
 #[unsafe(no_mangle)]
 pub extern "C" fn ringplan_call(
     alloc: Global,

@@ -1,4 +1,4 @@
-//! Each call once with room, and what a room that is too small, no room, an empty input, a refused bundle and refused options are answered.
+//! Each call with room, too small a room, no room, an empty input, a refused bundle and refused options.
 
 use crate::handle::Handle;
 use crate::{
@@ -10,35 +10,32 @@ use ringplan_jobs::Job;
 use std::alloc::Global;
 use std::process::Abort;
 
-// A ring of one slot, and what stands behind it.
+// A ring of one slot, and more text.
 macro_rules! behind_ring {
     ($text:literal) => {
         concat!("ring 1\nspace 1\nquorum 1 1 1\nnode a 1 in\nslots 0 a\nend\n", $text)
     };
 }
 
-// An empty plan of it and its certificate.
+// An empty plan and its certificate.
 const BUNDLE: &str = behind_ring!("plan 1\nend\ncert 1\nend\n");
 
-// A change of nothing.
 const CHANGE: &str = behind_ring!("change 1\nend\n");
 
-// The bundle with a script, and with a history of the same.
+// The bundle with a script, and with its history.
 const SCRIPT: &str = behind_ring!("plan 1\nend\ncert 1\nend\nscript 1\nput w1 k x31\nend\n");
 
 const HISTORY: &str = behind_ring!(
     "plan 1\nend\ncert 1\nend\nhistory 1\nput w1 k x31 = put 0\nend\n"
 );
 
-// A ring that tells a quorum of reads of two slots.
+// A ring whose reads ask two slots.
 const REFUSED: &str =
     "ring 1\nspace 1\nquorum 1 2 1\nnode a 1 in\nslots 0 a\nend\nplan 1\nend\ncert 1\nend\n";
 
-// The bundle in the next format.
 const MIGRATED: &str =
     "ring 2\nspace 1\nquorum 1 1 1\nnode a 1 in\nslots 0 a\nend\nplan 1\nend\ncert 2\nend\n";
 
-// The call of the job.
 fn call(alloc: Global, job: Job, input: &[u8], room: &mut [u8], length: &mut usize) -> u8 {
     match job {
         Job::Check => ringplan_check(alloc, input, room, length),
@@ -49,7 +46,7 @@ fn call(alloc: Global, job: Job, input: &[u8], room: &mut [u8], length: &mut usi
     }
 }
 
-// How it ends with this room, the length that it tells, and the room behind it.
+// Checks a call's status, length and room.
 fn ends<RT: AllocGlobal + Abort>(
     rt: &RT,
     job: Job,
@@ -110,7 +107,7 @@ fn leaves_a_room_that_is_too_small(rt: HostRuntime) {
     ends(&rt, Job::Check, BUNDLE, &mut [], (4, 4, ""));
 }
 
-// How it ends with this room, how long the text of standard error is, and the room behind it.
+// Checks status, length of standard error, and room.
 fn says<RT: AllocGlobal + Abort>(
     rt: &RT,
     command: &str,
@@ -244,7 +241,7 @@ fn leaves_a_room_that_is_too_small_for_both(rt: HostRuntime) {
     assert!(rt; room.iter().all(|byte| *byte == b' '));
 }
 
-// How a watch takes bytes, and how many entries it has followed then.
+// Checks how a watch takes bytes, and its number of entries.
 fn takes<RT: AllocGlobal + Abort>(
     rt: &RT,
     handle: &mut Handle,
@@ -269,7 +266,6 @@ fn takes<RT: AllocGlobal + Abort>(
     }
 }
 
-// How a watch ends.
 fn ends_watch<RT: AllocGlobal + Abort>(rt: &RT, handle: &mut Handle, wanted: (u8, &str)) {
     let (mut room, mut length) = ([0; 32], 0);
     assert!(rt; handle.is_held());

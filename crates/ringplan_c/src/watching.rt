@@ -1,4 +1,5 @@
-//! The calls that judge a history while it grows. A judge lives in a handle of the caller's from `ringplan_watch_new` to `ringplan_watch_free`.
+//! Calls that judge a growing history. A judge lives in the caller's handle from `ringplan_watch_new` to
+//! `ringplan_watch_free`.
 
 ghost use Rattle.std.specs.Prelude.{◌≡◌, Err};
 ghost use Rattle.texts.specs.Judging.{map_ok};
@@ -16,7 +17,7 @@ use std::alloc::Global;
 // The status of a yes.
 const DONE: u8 = 0;
 
-// Begins a judge. A bundle of more bytes than the program reads is refused as the program refuses it.
+// Begins a judge. Refuses a bundle that is too large, as the program does.
 fn begin(alloc: Global, bundle: &[u8]) -> Result<Box<Judge>, Refusal>
     ensures { Begins bundle.now (map_ok (λ judge. judge.value) result) }
 {
@@ -28,7 +29,6 @@ fn begin(alloc: Global, bundle: &[u8]) -> Result<Box<Judge>, Refusal>
     Ok(judge)
 }
 
-// Tells a refusal.
 fn refuse(alloc: Global, refusal: Refusal, output: &mut [u8], length: &mut usize) -> u8
     ensures { Tells (Err refusal) output.old output.new length.new result }
 {
@@ -38,7 +38,7 @@ fn refuse(alloc: Global, refusal: Refusal, output: &mut [u8], length: &mut usize
     }
 }
 
-/// Begins a judge by a bundle, and puts it into the empty handle. Its text is empty, or a refusal's line as of `ringplan_check`.
+/// Begins a judge by a bundle, in the empty handle. Its text is empty, or a refusal's line as in `ringplan_check`.
 #[unsafe(no_mangle)]
 pub extern "C" fn ringplan_watch_new(
     alloc: Global,
@@ -59,7 +59,7 @@ pub extern "C" fn ringplan_watch_new(
     }
 }
 
-/// Hands the judge the next bytes of its history. Its text is empty, or the line of the refusal that it answers from then on.
+/// Gives the judge its history's next bytes. Its text is empty, or the refusal's line, from then on.
 #[unsafe(no_mangle)]
 pub extern "C" fn ringplan_watch_take(
     alloc: Global,
@@ -92,7 +92,7 @@ pub extern "C" fn ringplan_watch_count(alloc: Global, handle: &mut Handle) -> u3
     count
 }
 
-/// Asks what a replay of the history prints if no more bytes come. The judge may take more.
+/// Answers as a replay of the history so far. The judge may take more.
 #[unsafe(no_mangle)]
 pub extern "C" fn ringplan_watch_end(
     alloc: Global,
@@ -112,7 +112,7 @@ pub extern "C" fn ringplan_watch_end(
     }
 }
 
-/// Frees the judge, if one is held. The handle is empty then.
+/// Frees the judge, if any. The handle is empty then.
 #[unsafe(no_mangle)]
 pub extern "C" fn ringplan_watch_free(alloc: Global, handle: &mut Handle)
     ensures { IsEmpty handle.new }

@@ -27,17 +27,17 @@ use ringplan_job::{Job, Making, Screen};
 use std::alloc::{AllocError, Global};
 use std::convert::AsStr;
 
-/// A request, and the files that it names.
+/// A request and its files.
 #[derive(Debug, Drop)]
 pub struct CommandLine {
     pub request: Request,
     pub files: Files,
 }
 
-/// What a command line asks for.
+/// A command line's request.
 #[derive(Debug, Drop)]
 pub enum Request {
-    /// Does a job with a bundle.
+    /// Does a job.
     Do(Job),
     /// Checks with 1 to 64 workers.
     CheckBy(u32),
@@ -47,8 +47,7 @@ pub enum Request {
     StateBy(u32),
     /// Cuts a history, of any length, to a part.
     Part(PartWish),
-    /// Judges a history while it is read, by the named bundle. Prints its progress after every so many entries, unless
-    /// 0.
+    /// Judges a history while it is read, by the named bundle. Prints progress after every so many entries, unless 0.
     Watch(u32),
     /// Runs a plan with 1 to 64 workers and the scripts' clients.
     Drive(u32, Form),
@@ -58,9 +57,9 @@ pub enum Request {
     Describe(Vec<u8>),
     /// Prints this help, or the version.
     Help(Vec<u8>),
-    /// Prints this fault of the command line on standard error.
+    /// Prints this fault on standard error.
     Mistaken(Vec<u8>),
-    /// Unknown, since memory ran out.
+    /// Unknown: memory ran out.
     OutOfMemory,
 }
 
@@ -76,7 +75,7 @@ fn painted(making: Making, screen: Screen) -> Making
 }
 
 impl Request {
-    /// Decides when words have colours on the screen.
+    /// Decides when words have colours.
     pub fn on(self, screen: Screen) -> Request
         ensures { (asked : Asked) → Answers asked self → Answers asked result }
     {
@@ -99,7 +98,7 @@ impl Request {
     }
 }
 
-/// Reads a command line, which begins with the program's name.
+/// Reads a command line, from the program's name on.
 pub fn parse<S: AsStr>(alloc: Global, words: &[S]) -> CommandLine
     ensures kinds { Answers (asked (map S.text words.now)) result.request }
     ensures job { (job : Job) → drop 1 (map S.text words.now) ≡ word_of job ∷ []
@@ -145,7 +144,6 @@ fn try_parse<S: AsStr>(alloc: Global, words: &[S]) -> Result<CommandLine, AllocE
     }
 }
 
-// Adds the successor of a former word.
 fn with_successor(text: String) -> Result<Vec<u8>, AllocError> {
     let mut text = text;
     for (fault, usage, words) in SUCCESSORS.iter() {
@@ -308,7 +306,7 @@ fn guide_line(alloc: Global, matches: &ArgMatches, guide: Guide) -> Result<Reque
     write_guide(alloc, options, guide)
 }
 
-/// The form of an answer. Text by default.
+/// An answer's form, text by default.
 #[derive(Clone, Copy)]
 pub(crate) enum Format {
     Text,

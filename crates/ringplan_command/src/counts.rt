@@ -5,12 +5,12 @@ ghost use Rattle.ringplan_command.specs.Numbers.{MeansCount};
 
 use clap::ArgMatches;
 
-/// The most parts of a history.
+/// A history's most parts.
 pub const MOST_PARTS: u32 = 4_096;
 
 pub(crate) const MOST_WORKERS: u32 = 64;
 
-/// A number on the line: none, in range, or out of range.
+/// A number: missing, in range, or wrong.
 #[derive(Clone, Copy)]
 pub(crate) enum Count {
     Unnamed,

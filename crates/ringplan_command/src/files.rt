@@ -1,4 +1,4 @@
-//! The files that a command line names.
+//! Named files.
 
 ghost use Rattle.std.specs.Prelude.{◌≡◌, [], IfOk, codes, map, option_map, string_bytes, unwrap_or};
 ghost use Rattle.std.specs.List.{list_all};
@@ -10,10 +10,10 @@ use crate::naming::texts_of;
 use clap::ArgMatches;
 use std::alloc::{AllocError, Global};
 
-/// The files that a command line names.
+/// The files of a command line.
 #[derive(Debug, Drop)]
 pub struct Files {
-    /// The inputs, read in order. `-` is standard input, the default.
+    /// The inputs in order. `-` is standard input, the default.
     pub inputs: Vec<String>,
     /// The output; standard output by default.
     pub output: Option<String>,
@@ -41,7 +41,7 @@ impl Files {
     }
 }
 
-// Returns the input files; none if all are `-`.
+// None if all are `-`.
 fn inputs_of(alloc: Global, options: &ArgMatches) -> Result<Vec<String>, AllocError>
     ensures { IfOk result (λ inputs. map string_bytes inputs.items
         ≡ but_dashes (unwrap_or (all_of (codes "file") (rows_of (found_of options.now))) [])) }
@@ -71,7 +71,7 @@ fn are_dashes(texts: &[String]) -> bool
     each_is_dash(texts)
 }
 
-/// Returns the text of an argument. None if `-`, a standard stream.
+/// An argument's text. None if `-`, a standard stream.
 pub(crate) fn named(
     alloc: Global,
     options: &ArgMatches,

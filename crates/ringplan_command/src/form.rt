@@ -1,9 +1,9 @@
-//! How a drive is printed.
+//! A drive's output.
 
 /// How a drive's outcome is printed.
 #[derive(Clone, Copy, Debug, PartialEq, Eq)]
 pub enum Form {
     History,
-    /// One line of JSON: history, finisher of each step, number of workers.
+    /// A line of JSON: history, each step's finisher, number of workers.
     Report,
 }

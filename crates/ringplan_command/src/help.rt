@@ -1,4 +1,4 @@
-//! The texts of help and of refused command lines.
+//! Texts of help and refusals.
 
 /// Versions of program and logic, the last word of `rt version`.
 pub(crate) const VERSION: &str = "1.0.0 (Rattle logic dac8208d650f15bf)";
@@ -174,7 +174,7 @@ pub(crate) const NO_DETOUR: &[u8; 138] =
 pub(crate) const NO_SLOT: &[u8; 121] =
     b"error: invalid value for '--leave <P.I>': not a partition and an index, such as 3.1\n\nFor more information, try '--help'.\n";
 
-/// The answer to a line that is not text.
+/// The answer to words that are not text.
 pub const NO_WORDS: &[u8; 123] =
     b"error: invalid UTF-8 was detected in one or more arguments\n\nUsage: ringplan <COMMAND>\n\nFor more information, try '--help'.\n";
 
@@ -183,7 +183,7 @@ pub(crate) const NO_SHELL: &[u8; 95] =
 
 /// Former words and their successors.
 ///
-/// How the error begins, its command for an option, and a line with the successor.
+/// How the error begins, its command for an option, and the successor's line.
 pub(crate) const SUCCESSORS: &[(&str, &str, &str); 6] = &[
     (
         "error: unrecognized subcommand 'judge'",

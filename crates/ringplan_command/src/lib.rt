@@ -1,4 +1,4 @@
-//! The command line and the texts of help.
+//! The command line, and texts of help.
 #![tactic(auto)]
 
 mod command;

@@ -1,4 +1,4 @@
-//! The requests of commands for people.
+//! Requests of commands for people.
 
 ghost use Rattle.std.specs.Prelude.{◌≡◌, [], IfOk, IfSome, IsTrue, MatchOption, None, Some, codes};
 ghost use Rattle.change_text.specs.declared.options.RackRule.{RackRule as TheRule};
@@ -193,7 +193,7 @@ fn picture_of(options: &ArgMatches) -> Picture
     Picture::Rounds
 }
 
-// The rounds are needed; both numbers are from 1 to 1,000,000.
+// Rounds are needed; both numbers are from 1 to 1,000,000.
 fn windows_line(alloc: Global, matches: &ArgMatches) -> Result<Request, AllocError>
     ensures { IfOk result (IsOfWord Word.Windows (rows_of (found_of matches.now))) }
 {
@@ -259,7 +259,7 @@ fn around_line(alloc: Global, matches: &ArgMatches) -> Result<Request, AllocErro
     around_of(alloc, matches, options)
 }
 
-// Refuses a line that changes nothing: no dead node, no layout that may name one, no slot that stays, and no `--rest`.
+// Refuses a line that changes nothing: no dead node, no layout that may name one, no staying slot, and no `--rest`.
 fn around_of(alloc: Global, matches: &ArgMatches, options: Options) -> Result<Request, AllocError>
     requires known { MeansKnown (rows_of (found_of matches.now)) options }
     requires left { AreSlots (left_texts (rows_of (found_of matches.now))) options.left.items }
@@ -320,7 +320,7 @@ fn exit_of(matches: &ArgMatches) -> Exit
     Exit::Printed
 }
 
-// None if the text is neither one character nor a known word.
+// None if neither one character nor a known word.
 fn racks_of(options: &ArgMatches) -> Option<RackRule>
     ensures { MatchOption result (HasNoRacks (rows_of (found_of options.now)))
         (MeansRacks (first_of (codes "racks-behind") (rows_of (found_of options.now)))) }

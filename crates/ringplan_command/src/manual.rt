@@ -1,4 +1,4 @@
-//! Makes the manual page, in man(7), from the help of all commands.
+//! Makes the manual page, in man(7), from all help.
 
 use crate::help::{ABOUT, STREAMS, VERSION};
 use crate::tree::command;
@@ -56,7 +56,7 @@ fn text_of(alloc: Global, error: &Error) -> Result<String, AllocError> {
     Err(AllocError)
 }
 
-// Adds the lines of a help text. An indented line begins a list entry, or continues one if indented by ten.
+// Adds a help text's lines. An indented line begins a list entry, or continues one if indented by ten.
 fn push_lines(out: &mut Words, text: &str) {
     let mut is_apart = false;
     for line in text.lines() {

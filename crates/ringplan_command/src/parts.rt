@@ -1,4 +1,4 @@
-//! The wanted part of a history.
+//! A history's wanted part.
 
 ghost use Rattle.std.specs.Prelude.{◌≡◌, ℕ, codes, MatchOption};
 ghost use Rattle.clap.specs.Words.{first_value, found_of, one_text};
@@ -12,10 +12,10 @@ use ring_names::Choice;
 
 const MOST_ENTRY: u32 = 999_999;
 
-/// A wanted part of a history.
+/// A history's wanted part.
 #[derive(Clone, Copy, Debug)]
 pub struct PartWish {
-    /// The partitions that it sees.
+    /// The part's partitions.
     pub choice: Choice,
     /// An entry, 0 to 999,999. Its place in the whole is printed instead of the part.
     pub entry: Option<u32>,
@@ -60,7 +60,6 @@ fn range_of(text: &str) -> Option<Choice>
     }
 }
 
-// Returns the partitions, if one share or one range is named.
 fn choice_of(options: &ArgMatches) -> Option<Choice>
     ensures { MatchOption result
         ((choice : TheChoice) → MeansChoice (texts_in (found_of options.now)) choice → ⊥)

@@ -1,4 +1,4 @@
-//! Makes shell completions from all commands and options.
+//! Makes shell completions.
 
 use crate::tree::command;
 use clap::{Arg, Command};
@@ -46,7 +46,7 @@ fn script(alloc: Global, shell: Shell, program: &Command) -> Result<Vec<u8>, All
 
 // ---- commands and arguments
 
-// Whether the argument names a file, as `Files` reads.
+// Whether the argument names a file.
 fn names_file(arg: &Arg) -> bool {
     matches!(arg.get_id(), "file" | "output" | "layout")
 }
@@ -70,7 +70,6 @@ fn push_letter(out: &mut Words, arg: &Arg) {
     }
 }
 
-// Adds an option's names, separated by `between`.
 fn push_flags(out: &mut Words, arg: &Arg, between: &[u8]) {
     if arg.get_short().is_some() {
         out.byte(b'-');
@@ -86,7 +85,7 @@ fn push_flags(out: &mut Words, arg: &Arg, between: &[u8]) {
     }
 }
 
-// Adds the possible first arguments: commands, or shells.
+// Adds possible first arguments: commands, or shells.
 fn push_choices<'a>(out: &mut Words, program: &Command<'a>, command: &Command<'a>) {
     if matches!(command.get_name(), "ringplan" | "help") {
         for sub in program.get_subcommands() {
@@ -289,7 +288,6 @@ fn push_fish_text(out: &mut Words, text: Option<&str>) {
     out.text(b"'\n");
 }
 
-// Begins a line for this command only.
 fn push_fish_begin(out: &mut Words, command: &Command) {
     out.fill(
         b"complete -c ringplan -n '__fish_seen_subcommand_from @'",

@@ -23,7 +23,7 @@ fn slot_named(text: &str) -> Option<Slot>
     Some(Slot { partition, index })
 }
 
-/// Returns the slots of `--leave`, in order. None if one is malformed.
+/// The slots of `--leave`. None if one is malformed.
 pub(crate) fn slots_of(alloc: Global, matches: &ArgMatches) -> Result<Option<Vec<Slot>>, AllocError>
     ensures { IfOk result (λ o. MatchOption o (HasNoSlot (unwrap_or (all_of (codes "leave") (rows_of (found_of matches.now))) []))
         (λ slots. AreSlots (unwrap_or (all_of (codes "leave") (rows_of (found_of matches.now))) []) slots.items)) }

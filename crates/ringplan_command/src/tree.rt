@@ -217,7 +217,7 @@ fn drive<'a>(alloc: Global) -> Made<'a>
     with_arg(command, option(alloc, "format", "FORMAT", REPORT))
 }
 
-// A subcommand with words for people, in colours or JSON.
+// A subcommand for people, in colours or JSON.
 fn words<'a>(alloc: Global, word: &'a str, about: &'a str, streams: &'a str) -> Made<'a>
     ensures { IfOk result (IsApp (words_app word.entry.now)) }
 {

@@ -1,4 +1,4 @@
-//! The commands for people.
+//! Commands for people.
 
 ghost use Rattle.std.specs.Prelude.{◌≡◌};
 ghost use Rattle.clap.specs.Words.{subcommand_rows_of};
@@ -20,14 +20,14 @@ pub enum Word {
     Around,
 }
 
-/// A text about the program itself, made without a bundle.
+/// A text about the program, without a bundle.
 #[derive(Clone, Copy, Debug, PartialEq, Eq)]
 pub enum Guide {
     Completions,
     Manual,
 }
 
-/// Returns the text that the subcommand asks for, if any.
+/// The text that the subcommand asks for, if any.
 pub(crate) fn guide_of(matches: &ArgMatches) -> Option<Guide>
     ensures { result ≡ guide_named (subcommand_rows_of matches.now) }
 {
@@ -40,7 +40,7 @@ pub(crate) fn guide_of(matches: &ArgMatches) -> Option<Guide>
     }
 }
 
-/// Returns the subcommand's command for people, if any.
+/// The subcommand's command for people, if any.
 pub(crate) fn people_word(matches: &ArgMatches) -> Option<Word>
     ensures { result ≡ word_named (subcommand_rows_of matches.now) }
 {

@@ -1,16 +1,16 @@
-//! What there is to be done with a bundle.
+//! The jobs with a bundle.
 
-/// What there is to be done with a bundle.
+/// A job with a bundle.
 #[derive(Clone, Copy, Debug, PartialEq, Eq)]
 pub enum Job {
-    /// To tell whether the plan is accepted.
+    /// Tells whether the plan is accepted.
     Check,
-    /// To print the texts with the ring in its next format.
+    /// Prints the texts with the ring in its next format.
     Migrate,
-    /// To print what the events of a script are answered.
+    /// Prints the answers to a script's events.
     Play,
-    /// To print a plan for a change, and its certificate.
+    /// Prints a change's plan and certificate.
     Plan,
-    /// To tell whether a history is a run of the plan, and to print the owners behind it.
+    /// Tells whether a history is a run of the plan, and prints the owners after it.
     Replay,
 }

@@ -1,4 +1,4 @@
-//! What there is to be done with a bundle, as the command line asks for it.
+//! Jobs with a bundle, as the command line asks.
 #![tactic(auto)]
 
 mod job;

@@ -1,24 +1,24 @@
-//! What can be made of a bundle.
+//! Requests for people.
 
 ghost use Rattle.std.specs.Prelude.{◌≡◌, ◌≢◌};
 
 use plan_runs::Back;
 
-/// What a text for people is written to.
+/// The output of a text for people.
 #[derive(Clone, Copy, Debug, PartialEq, Eq)]
 pub enum Screen {
-    /// To a terminal whose user wants colours.
+    /// A terminal whose user wants colours.
     Colored,
-    /// To a terminal whose user wants none.
+    /// A terminal whose user wants none.
     Bare,
-    /// To anything else.
+    /// Another output.
     Plain,
 }
 
 /// Whether a text for people has colours.
 #[derive(Clone, Copy, Debug, PartialEq, Eq)]
 pub enum Color {
-    /// If the screen has them; nowhere if no screen is known.
+    /// If a known screen has them.
     Auto,
     /// Wherever it goes.
     Always,
@@ -27,7 +27,7 @@ pub enum Color {
 }
 
 impl Color {
-    /// What that is on this screen: always or never.
+    /// Resolves `Auto` by the screen.
     pub fn on(&self, screen: Screen) -> Color
         ensures { self.now ≢ Color.Auto → result ≡ self.now }
     {
@@ -41,23 +41,23 @@ impl Color {
 /// How much a summary shows.
 #[derive(Clone, Copy, Debug)]
 pub enum Shape {
-    /// What fits on a screen; the rest is summed.
+    /// A screenful; the rest is summed.
     Short,
     /// All.
     Whole,
 }
 
-/// What a summary is to show.
+/// How to summarize.
 #[derive(Clone, Copy, Debug)]
 pub struct Wish {
     pub shape: Shape,
     pub color: Color,
-    /// How much one transfer copies in a second, in the unit of the layout's sizes: from 1 on, and only with a layout.
+    /// One transfer's rate per second, in the layout's unit: from 1, and only with a layout.
     pub rate: Option<u32>,
 }
 
 impl Wish {
-    /// The wish, with the colours that it has on that screen.
+    /// The wish with its colours on that screen.
     pub fn on(self, screen: Screen) -> Wish
         ensures same { (result.shape ≡ self.shape) × (result.rate ≡ self.rate) }
         ensures color { self.color ≢ Color.Auto → result.color ≡ self.color }
@@ -70,61 +70,61 @@ impl Wish {
     }
 }
 
-/// Which picture is wanted.
+/// A picture.
 #[derive(Clone, Copy, Debug)]
 pub enum Picture {
-    /// Who gives what to whom in which round.
+    /// Who gives what to whom, by round.
     Rounds,
-    /// Who owns what before the plan and after it.
+    /// Who owns what before and after.
     Map,
 }
 
-/// How a plan is to be cut.
+/// How to cut a plan.
 #[derive(Clone, Copy, Debug)]
 pub struct Cut {
-    /// How many rounds of copies a window has.
+    /// The rounds of copies in a window.
     pub rounds: u32,
-    /// The wanted window, from 1 on, or None for all windows.
+    /// The wanted window, from 1, or None for all.
     pub only: Option<u32>,
 }
 
-/// What the exit status says of a plan that is printed.
+/// What a printed plan's exit status says.
 #[derive(Clone, Copy, Debug, PartialEq, Eq)]
 pub enum Exit {
     /// That there is one: 0.
     Printed,
-    /// Whether it has steps: 4 if it has some, and 0 otherwise.
+    /// Whether it has steps: 4 if so, otherwise 0.
     Steps,
 }
 
-/// How much of a plan that has begun is still to be done.
+/// How much of a begun plan remains.
 #[derive(Clone, Copy, Debug, PartialEq, Eq)]
 pub enum Extent {
-    /// All that it has.
+    /// All.
     Whole,
-    /// Only the moves that have begun.
+    /// Only the begun moves.
     Begun,
 }
 
-/// How another plan goes on after one that stopped.
+/// How a new plan continues a stopped one.
 #[derive(Clone, Copy, Debug)]
 pub struct Detour {
     /// Whether mirrors may be undone.
     pub back: Back,
     pub extent: Extent,
-    /// How much is said of slots that do not go where they were to go: sums by node, or a line for each.
+    /// How to report slots that end elsewhere than planned: sums by node, or a line each.
     pub shape: Shape,
 }
 
-/// What is stated of a bundle as one object of JSON.
+/// A statement as a JSON object.
 #[derive(Clone, Copy, Debug)]
 pub enum Statement {
     /// Why it is refused, or what a yes says.
     Why,
-    /// What the plan does to each node, and how far a history has come; of only a ring, its nodes. All of it,
-    /// whatever the shape and the colours.
+    /// What the plan does to each node, and how far a history has come; for only a ring, its nodes. Ignores shape and
+    /// colours: all is stated.
     Show(Wish),
-    /// A plan that leads to the ring that is wished for, and how much it moves.
+    /// A plan to the wished ring, and how much it moves.
     Goal(Exit),
 }
 
@@ -133,9 +133,9 @@ pub enum Statement {
 pub enum Making {
     /// Why it is refused, or what a yes says.
     Why(Color),
-    /// Ring, plan and a certificate that is found, whether or not the bundle has one.
+    /// Ring, plan and a found certificate, even if the bundle has one.
     Cert,
-    /// The ring that the plan, or what a history has done of it, leaves.
+    /// The ring after the plan, or after its history.
     After,
     /// A summary.
     Show(Wish),
@@ -145,11 +145,11 @@ pub enum Making {
     Steps,
     /// The slots that move, as lines of JSON.
     Moves,
-    /// The plan in parts, or one of these.
+    /// The plan's windows, or one.
     Windows(Cut),
-    /// A plan that leads to the ring that is wished for.
+    /// A plan to the wished ring.
     Goal(Exit),
-    /// Another plan for a change that has begun, with the history that goes on by it.
+    /// Another plan for a begun change, with its history.
     Around(Detour),
     /// An object of JSON.
     State(Statement),

@@ -1,4 +1,4 @@
-//! The program's answer and exit status.
+//! The program's answers.
 
 ghost use Rattle.std.specs.Prelude.{◌≡◌, IfOk};
 ghost use Rattle.ring_names.specs.Refusals.{number_of};
@@ -7,15 +7,14 @@ ghost use Rattle.ringplan_jobs.specs.Answers.{output_of, refused_status, status_
 use ring_names::Refusal;
 use std::alloc::{AllocError, Global};
 
-/// The output, and the exit status.
+/// The output and exit status.
 #[derive(Debug, Drop)]
 pub struct Answer {
     pub output: Vec<u8>,
     pub status: u8,
 }
 
-/// Returns a refusal's exit status. It is 2 for a text (numbers up to 20), 3 if memory, the input or the output
-/// failed (60 to 62), otherwise 1.
+/// A refusal's exit status: 2 for a text (numbers up to 20), 3 for memory, input or output (60 to 62), otherwise 1.
 pub fn status_of(refusal: &Refusal) -> u8
     ensures { result ≡ refused_status (number_of refusal.now) }
 {
@@ -26,7 +25,7 @@ pub fn status_of(refusal: &Refusal) -> u8
     }
 }
 
-/// Returns the answer of a job's result: its text, or the refusal's line.
+/// The answer to a job: its text, or the refusal's line.
 pub fn answer_of(alloc: Global, found: Result<Vec<u8>, Refusal>) -> Result<Answer, AllocError>
     ensures output { IfOk result (λ answer. answer.output.items ≡ output_of (texts_of found)) }
     ensures status { IfOk result (λ answer. answer.status ≡ status_of (texts_of found)) }

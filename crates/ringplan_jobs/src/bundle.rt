@@ -1,4 +1,5 @@
-//! Jobs with a bundle.
+//! Jobs with a bundle. Each fails with the texts' first fault, then, if it checks, as the checker does. `OutOfMemory`
+//! comes only after the ring's first four lines.
 
 ghost use Rattle.std.specs.Prelude.{◌≡◌, ◌++◌, ◌∷◌, [], IfOk, IfErr, OnOk, codes};
 ghost use Rattle.ring_names.specs.declared.refusal.Refusal.TheVariants.{OutOfMemory};
@@ -35,7 +36,7 @@ use std::mem::forget;
 use std::sync::Wait;
 use std::thread::Threads;
 
-// Checks a plan. If the program `ends` then, the memory of an accepted plan is left to the system.
+// If the program `ends` then, the system frees an accepted plan.
 fn check_plan(alloc: Global, ring: Ring, plan: Plan, cert: &Cert, ends: bool) -> Result<(), Refusal>
     requires { Suits ring plan }
     ensures answer { Gives result (judged (first_refusal ring plan cert.now)) }
@@ -52,11 +53,7 @@ fn check_plan(alloc: Global, ring: Ring, plan: Plan, cert: &Cert, ends: bool) ->
     }
 }
 
-/// Checks a bundle: `Ok` exactly if the checker accepts the plan with its certificate, so that the plan keeps
-/// its promises.
-///
-/// Fails with the first fault of the texts, then as the checker does. `OutOfMemory` comes only after the ring's
-/// first four lines.
+/// Checks a bundle: `Ok` exactly if the checker accepts, so that the plan keeps its promises.
 pub fn check_bundle(alloc: Global, bytes: &[u8]) -> Result<(), Refusal>
     ensures read { Gives result (verdict bytes.now) }
     // The headline.
@@ -86,7 +83,7 @@ fn check_plan_by<RT: Threads + Wait + Sync>(
     }
 }
 
-/// Checks a bundle as `check_bundle` does, with workers that share the partitions; 0 means 1. Waits for them.
+/// Checks like `check_bundle`, by workers that share the partitions; 0 means 1. Waits for them.
 pub fn check_bundle_by<RT: Threads + Wait + Sync>(
     rt: &RT,
     alloc: Global,
@@ -104,7 +101,6 @@ pub fn check_bundle_by<RT: Threads + Wait + Sync>(
     }
 }
 
-// The texts of the ring, the plan as given, and the certificate.
 fn write_parts(alloc: Global, ring: &Ring, plan: &[u8], cert: &Cert) -> Result<Vec<u8>, Refusal>
     requires { IsCertOf ring.now cert.now }
     ensures text { IfOk result (λ v. v.items ≡ ring_text ring.now ++ (plan.now ++ cert_text ring.now cert.now)) }
@@ -117,7 +113,7 @@ fn write_parts(alloc: Global, ring: &Ring, plan: &[u8], cert: &Cert) -> Result<V
     Ok(out)
 }
 
-// The texts of a bundle, with the ring migrated. A plan's text names nodes, which stay.
+// A bundle's texts with the migrated ring. A plan's text names nodes, which stay.
 fn write_migrated(alloc: Global, bundle: Bundle) -> Result<Vec<u8>, Refusal>
     requires { IsOfRing bundle }
     ensures text { IfOk result (λ v. v.items ≡ migrated_text bundle) }
@@ -134,10 +130,7 @@ fn write_migrated(alloc: Global, bundle: Bundle) -> Result<Vec<u8>, Refusal>
     write_parts(alloc, &ring, steps.as_slice(), &cert)
 }
 
-/// Rewrites a bundle with a ring of format 1 in format 2, and its certificate to match. Other rings stay.
-/// Nothing is checked.
-///
-/// Fails only with the first fault of the texts, or with `OutOfMemory` after the ring's first four lines.
+/// Rewrites a ring of format 1 in format 2, with its certificate. Other rings stay. Checks nothing.
 pub fn migrate_bundle(alloc: Global, bytes: &[u8]) -> Result<Vec<u8>, Refusal>
     ensures read { Gives (texts_of result) (migration bytes.now) }
     ensures late { IfErr result (λ e. e ≡ OutOfMemory → NoFaultBefore 5 (whole_text (bundle_at Check) bytes.now)) }
@@ -148,7 +141,7 @@ pub fn migrate_bundle(alloc: Global, bytes: &[u8]) -> Result<Vec<u8>, Refusal>
     }
 }
 
-// The text of a play, if the checker accepts the plan. `ends` means that the program ends then.
+// If the program `ends` then, the system frees the store.
 fn play_checked(alloc: Global, bundle: Bundle, ends: bool) -> Result<Vec<u8>, Refusal>
     requires { IsOfRing bundle }
     ensures { Gives (texts_of result) (shown bundle) }
@@ -159,11 +152,9 @@ fn play_checked(alloc: Global, bundle: Bundle, ends: bool) -> Result<Vec<u8>, Re
     }
 }
 
-/// Plays a bundle's script, if the checker accepts the plan: `yes`, a line for each event, the final owners,
-/// and `end`.
+/// Plays a bundle's script, if the checker accepts: `yes`, a line for each event, the final owners, `end`.
 ///
-/// Fails with the first fault of the texts, then as the checker does. `OutOfMemory` comes only after the ring's
-/// first four lines, at any event.
+/// `OutOfMemory` may come at any event.
 pub fn play_bundle(alloc: Global, bytes: &[u8]) -> Result<Vec<u8>, Refusal>
     ensures read { Gives (texts_of result) (plays bytes.now) }
     ensures late { IfErr result (λ e. e ≡ OutOfMemory → NoFaultBefore 5 (whole_text (bundle_at Play) bytes.now)) }
@@ -174,7 +165,7 @@ pub fn play_bundle(alloc: Global, bytes: &[u8]) -> Result<Vec<u8>, Refusal>
     }
 }
 
-// Reads a bundle and drops its bytes, so that what follows uses their memory.
+// Drops the bytes after reading, so that their memory is reused.
 fn read_given(alloc: Global, kind: Kind, bytes: Vec<u8>) -> Result<Bundle, Refusal>
     ensures read { Gives result (whole_text (bundle_at kind) bytes.items) }
     ensures parts { IfOk result IsOfRing }
@@ -182,7 +173,7 @@ fn read_given(alloc: Global, kind: Kind, bytes: Vec<u8>) -> Result<Bundle, Refus
     read_bundle(alloc, kind, bytes.as_slice())
 }
 
-// Checks a bundle for a program that ends then.
+// For a program that ends then.
 fn check_given(alloc: Global, bytes: Vec<u8>) -> Result<(), Refusal>
     ensures read { Gives result (verdict bytes.items) }
     ensures keeps { OnOk result (TextsKeepPromises bytes.items) }
@@ -193,7 +184,7 @@ fn check_given(alloc: Global, bytes: Vec<u8>) -> Result<(), Refusal>
     }
 }
 
-// Plays a bundle for a program that ends then.
+// For a program that ends then.
 fn play_given(alloc: Global, bytes: Vec<u8>) -> Result<Vec<u8>, Refusal>
     ensures { Gives (texts_of result) (plays bytes.items) }
 {
@@ -213,11 +204,8 @@ fn plan_wanted(alloc: Global, wanted: Wanted) -> Result<Vec<u8>, Refusal>
     }
 }
 
-/// Reads a ring and a change. Returns a plan for the change and its certificate, if the checker accepts them.
-/// Without leaving nodes there is always a plan.
-///
-/// Fails with the first fault of the texts, then with `NoPlan` or the checker's refusal. `OutOfMemory` comes
-/// only after the ring's first four lines.
+/// Plans a change. Returns the plan and its certificate, if the checker accepts. May fail with `NoPlan`; without
+/// leaving nodes there is always a plan.
 pub fn plan_bundle(alloc: Global, bytes: &[u8]) -> Result<Vec<u8>, Refusal>
     ensures plans { MakesIf Planning bytes.now (texts_of result) }
     ensures late { IfErr result (λ e. e ≡ OutOfMemory → NoFaultBefore 5 (whole_text wanted_at bytes.now)) }
@@ -236,7 +224,7 @@ fn yes(alloc: Global) -> Result<Vec<u8>, Refusal>
     Ok(text)
 }
 
-/// Does a job with a bundle, and returns its text. If a check succeeds, the plan keeps its promises.
+/// Does a job, and returns its text.
 pub fn make(alloc: Global, job: Job, bytes: &[u8]) -> Result<Vec<u8>, Refusal>
     ensures { MakesIf job bytes.now (texts_of result) }
 {
@@ -252,9 +240,9 @@ pub fn make(alloc: Global, job: Job, bytes: &[u8]) -> Result<Vec<u8>, Refusal>
     }
 }
 
-/// Does a job with a bundle, and may drop the bytes early.
+/// Does a job, and may drop the bytes early.
 ///
-/// For a program that ends then: an accepted plan and the store of a play or a replay are left to the system.
+/// For a program that ends then: the system frees an accepted plan, and the store of a play or replay.
 pub fn answer_bytes(alloc: Global, job: Job, bytes: Vec<u8>) -> Result<Vec<u8>, Refusal>
     ensures { MakesIf job bytes.items (texts_of result) }
 {
@@ -269,7 +257,7 @@ pub fn answer_bytes(alloc: Global, job: Job, bytes: Vec<u8>) -> Result<Vec<u8>, 
     }
 }
 
-/// Does a check with workers, and returns its text. If it succeeds, the plan keeps its promises.
+/// Checks with workers, and returns the text.
 pub fn answer_check<RT: Threads + Wait + Sync>(
     rt: &RT,
     alloc: Global,

@@ -1,4 +1,4 @@
-//! Reads a whole input, up to a limit.
+//! Reads inputs.
 
 ghost use Rattle.std.specs.Prelude.{ℕ, List};
 ghost use Rattle.ringplan_jobs.specs.Io.{Reads, Tells};
@@ -11,8 +11,8 @@ use std::io::{ErrorKind, Read};
 // The bytes of one read.
 const CHUNK: usize = 65_536;
 
-/// Reads until the input ends. Fails with `TooLarge(0)` for more than `MAX_INPUT` bytes, with `ReadFailed`, and with
-/// `OutOfMemory`. Interrupted reads are repeated.
+/// Reads until the input ends. Fails with `TooLarge(0)` above `MAX_INPUT` bytes, `ReadFailed` or `OutOfMemory`. Repeats
+/// interrupted reads.
 pub fn read_all<R: Read + Drop>(alloc: Global, input: &mut R) -> Result<Vec<u8>, Refusal>
     ensures { (bytes : List ℕ) × Tells (R.remaining input.old) bytes × Reads bytes result }
 {

@@ -1,4 +1,4 @@
-//! The program's jobs over bytes, with their exit statuses. Only a check with workers starts threads.
+//! The program's jobs over bytes, with exit statuses. Only a check with workers starts threads.
 #![tactic(auto)]
 
 mod answer;

@@ -1,4 +1,4 @@
-//! Writes a whole output.
+//! Writes outputs.
 
 ghost use Rattle.std.specs.Prelude.{◌≡◌, IfErr, OnOk, OnErr};
 ghost use Rattle.std.specs.Io.KnownBytes.{Appends, Keeps};
@@ -24,8 +24,8 @@ fn flush<W: Write>(output: &mut W) -> Result<(), Refusal>
     Err(Refusal::WriteFailed)
 }
 
-/// Writes all the bytes, and flushes. Fails with `WriteFailed` if a write fails or takes no byte, or a flush fails;
-/// then a prefix was written. Interrupted calls are repeated.
+/// Writes all bytes, and flushes. Fails with `WriteFailed` if a write fails or takes no byte, or a flush fails; then a
+/// prefix was written. Repeats interrupted calls.
 pub fn write_all<W: Write>(output: &mut W, bytes: &[u8]) -> Result<(), Refusal>
     ensures whole { OnOk result (Appends (W.contents output.old) (W.contents output.new) bytes.now) }
     ensures part { OnErr result (AppendsPart (W.contents output.old) (W.contents output.new) bytes.now) }

@@ -1,4 +1,4 @@
-//! Replays of a bundle.
+//! Replays.
 
 ghost use Rattle.std.specs.Prelude.{◌≡◌, ◌≤◌, length, IfErr};
 ghost use Rattle.ring_names.specs.declared.refusal.Refusal.TheVariants.{OutOfMemory};
@@ -17,7 +17,7 @@ use ring_names::Refusal;
 use ring_script::replay_history;
 use std::alloc::Global;
 
-// The text of a replay of an accepted plan. `ends` means that the program ends then.
+// If the program `ends` then, the system frees the store.
 fn replay_approved(
     alloc: Global,
     approved: &Approved,
@@ -33,7 +33,6 @@ fn replay_approved(
     }
 }
 
-// The text of a replay, if the checker accepts the plan. `ends` means that the program ends then.
 fn replay_checked(alloc: Global, bundle: ReplayBundle, ends: bool) -> Result<Vec<u8>, Refusal>
     requires { IsReplay bundle }
     ensures { ReplaysOfIf (parts_of bundle) (texts_of result) }
@@ -44,11 +43,9 @@ fn replay_checked(alloc: Global, bundle: ReplayBundle, ends: bool) -> Result<Vec
     }
 }
 
-/// Replays a bundle's history, if the checker accepts the plan and the history is a run of it: `yes`, the final
-/// owners, and `end`.
+/// Replays a history, if the checker accepts the plan and the history is its run: `yes`, the final owners, `end`.
 ///
-/// Fails with the first fault of the texts, then as the checker does, then with `Mismatch` of the first
-/// impossible entry.
+/// Fails with the texts' first fault, then as the checker does, then with `Mismatch` of the first impossible entry.
 ///
 /// `OutOfMemory` comes only after the ring's first four lines, at any entry.
 pub fn replay_bundle(alloc: Global, bytes: &[u8]) -> Result<Vec<u8>, Refusal>
@@ -61,7 +58,7 @@ pub fn replay_bundle(alloc: Global, bytes: &[u8]) -> Result<Vec<u8>, Refusal>
     }
 }
 
-/// Replays bytes that are dropped after reading, so that the store reuses their memory.
+/// Drops the bytes after reading, so that the store reuses their memory.
 pub(crate) fn replay_whole(alloc: Global, bytes: Vec<u8>) -> Result<Vec<u8>, Refusal>
     ensures { MakesIf Replaying bytes.items (texts_of result) }
 {

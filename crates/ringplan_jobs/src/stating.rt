@@ -1,4 +1,4 @@
-//! Answers as a line of JSON.
+//! Answers in JSON.
 
 ghost use Rattle.std.specs.Prelude.{◌≡◌, ◌++◌, ◌∷◌, [], false, IfOk, OnOk, codes, map};
 ghost use Rattle.serde_json.specs.Data.{member, no_members, object, string, put as with_member};
@@ -93,7 +93,7 @@ fn yes_object(alloc: Global) -> Result<Value, AllocError>
     Ok(Value::Object(map))
 }
 
-/// Returns the members of a refusal's object: `answer`, which is `no`, and its name, number and values.
+/// The members of a refusal's object: `answer`, its name, number and values.
 pub fn refusal_members(alloc: Global, refusal: &Refusal) -> Result<Map<String, Value>, AllocError>
     ensures { IfOk result (λ map. members_view map.entries ≡ refusal_members refusal.now) }
 {
@@ -130,7 +130,6 @@ fn found_status(found: &Result<Vec<u8>, Refusal>) -> u8
     }
 }
 
-// The compact text of a value, and a newline.
 fn line_of(alloc: Global, value: &Value) -> Result<Vec<u8>, AllocError>
     requires { has_float (view value.now) ≡ false }
     ensures { IfOk result (λ v. v.items ≡ compact_text (view value.now) ++ 10 ∷ []) }
@@ -140,7 +139,7 @@ fn line_of(alloc: Global, value: &Value) -> Result<Vec<u8>, AllocError>
     Ok(line)
 }
 
-/// Returns the answer to a job's result as a line of JSON, with the exit status of the answer as text.
+/// States a job's result as a line of JSON, with its text's exit status.
 pub fn stated_of(alloc: Global, found: &Result<Vec<u8>, Refusal>) -> Result<Answer, AllocError>
     ensures output { IfOk result (λ answer. answer.output.items ≡ json_of (texts_of found.now)) }
     ensures status { IfOk result (λ answer. answer.status ≡ status_of (texts_of found.now)) }

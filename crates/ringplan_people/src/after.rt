@@ -1,4 +1,4 @@
-//! The ring that a plan leaves, or that a history has reached.
+//! The ring after a plan or a history.
 
 ghost use Rattle.std.specs.Prelude.{◌≡◌, ◌≤◌, ◌⊎◌, length, IfOk};
 ghost use Rattle.plan_runs.specs.World.{World as TheWorld};
@@ -20,7 +20,7 @@ use ring_names::{NodeId, Refusal, Slot};
 use ring_table::{Ring, write_ring};
 use std::alloc::Global;
 
-// By slot, the step that set a mirror without a switch so far.
+// By slot, the open mirror's step.
 #[derive(Drop)]
 struct Open {
     rows: Vec<Vec<Option<u32>>>,
@@ -64,7 +64,7 @@ impl Open {
     }
 }
 
-// Of the whole plan, or of its finished steps.
+// Of the whole plan, or of finished steps.
 fn open_steps(
     alloc: Global,
     approved: &Approved,
@@ -84,7 +84,7 @@ fn open_steps(
     open.steps(alloc)
 }
 
-// An open move is `WrongStage` at the first step that set a mirror.
+// An open move is `WrongStage` at the first mirror.
 fn ask_switched(
     alloc: Global,
     approved: &Approved,
@@ -101,7 +101,6 @@ fn ask_switched(
     }
 }
 
-/// Returns the lesser number, or the only one.
 pub(crate) fn earlier(one: Option<u32>, other: Option<u32>) -> Option<u32> {
     match (one, other) {
         (Some(one), Some(other)) => Some(one.min(other)),
@@ -155,10 +154,10 @@ fn ring_left(alloc: Global, found: &Study, bytes: &[u8]) -> Result<Vec<u8>, Refu
     write_ring(alloc, &ring_after(alloc, approved)?)
 }
 
-/// Writes the ring that the plan leaves, or that its history has reached.
+/// Writes the ring that the plan leaves or its history has reached.
 ///
-/// An open move is `WrongStage` at the step that sets its mirror, because a ring cannot say it. Other refusals are
-/// those of `studied`.
+/// An open move is `WrongStage` at its mirror's step, because a ring cannot say it. Other refusals are those of
+/// `studied`.
 pub fn after_bundle(alloc: Global, bytes: &[u8]) -> Result<Vec<u8>, Refusal>
     ensures after { IfOk result (λ text. IsLeftNow bytes.now text.items ⊎ IsLeftBy bytes.now text.items) }
 {
@@ -172,9 +171,8 @@ pub fn after_bundle(alloc: Global, bytes: &[u8]) -> Result<Vec<u8>, Refusal>
     }
 }
 
-/// Adds why `after_bundle` refuses a bundle with `WrongStage`.
-///
-/// Lists the open moves, with the steps to do if there is a history. Otherwise says what is wrong with the plan.
+/// Adds why `after_bundle` refuses with `WrongStage`: the open moves, with the steps to do if there is a history;
+/// otherwise the plan's fault.
 pub fn push_open(alloc: Global, out: &mut Words, bytes: &[u8], step: u32) -> Result<(), Refusal> {
     match studied(alloc, bytes, &Options::new(alloc)) {
         Ok(found) => {
@@ -188,7 +186,7 @@ pub fn push_open(alloc: Global, out: &mut Words, bytes: &[u8], step: u32) -> Res
     push_words_of(alloc, out, bytes, &Refusal::WrongStage(step))
 }
 
-// Returns whether some move is open.
+// Whether some move is open.
 fn push_open_of(alloc: Global, out: &mut Words, found: &Study) -> Result<bool, Refusal> {
     let (ring, plan) = (found.approved.ring(), found.approved.plan());
     let progress = match &found.history {
@@ -257,7 +255,6 @@ fn push_left(out: &mut Words, plan: &Plan, progress: &Progress, slot: Slot, step
     }
 }
 
-/// Returns the step's slot, if it has one.
 pub(crate) fn slot_of(plan: &Plan, number: u32) -> Option<Slot> {
     if number >= plan.len() {
         return None;

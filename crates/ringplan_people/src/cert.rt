@@ -1,4 +1,4 @@
-//! A certificate for a bundle, and why there is none.
+//! A bundle's certificate, or why there is none.
 
 ghost use Rattle.std.specs.Prelude.{IfOk};
 ghost use Rattle.ringplan_people.specs.Made.{IsBundleOf, IsCertOf};
@@ -27,7 +27,7 @@ fn cert_of_change(alloc: Global, bytes: &[u8]) -> Result<Vec<u8>, Refusal>
     cert_bundle(alloc, text.as_slice())
 }
 
-/// Does what `cert_bundle` does. For a change, makes a plan first.
+/// Does what `cert_bundle` does. Plans a change first.
 pub(crate) fn cert_of(alloc: Global, bytes: &[u8]) -> Result<Vec<u8>, Refusal>
     ensures certified { IfOk result (λ text. IsCertOf bytes.now text.items) }
 {
@@ -37,7 +37,7 @@ pub(crate) fn cert_of(alloc: Global, bytes: &[u8]) -> Result<Vec<u8>, Refusal>
     }
 }
 
-// None if there is no plan, or a text is at fault.
+// None without a plan, or for a faulty text.
 fn found_of(alloc: Global, bytes: &[u8]) -> Result<Option<Vec<u8>>, Refusal> {
     let found = match kind_of(bytes) {
         Kind::Change => match planned(alloc, bytes) {
@@ -55,7 +55,7 @@ fn found_of(alloc: Global, bytes: &[u8]) -> Result<Option<Vec<u8>>, Refusal> {
 
 /// Adds why there is no certificate.
 ///
-/// The search was given up, the checker refuses what it found, or no certificate was sought.
+/// The search was given up, the checker refuses its result, or none was sought.
 pub(crate) fn push_why_none(
     alloc: Global,
     out: &mut Words,

@@ -1,4 +1,4 @@
-//! Why no plan leads to the goal ring, in words.
+//! Unreachable goal rings.
 
 use crate::history_words::unless_memory;
 use crate::why::{push_few, push_too_few, push_words_of};
@@ -110,7 +110,6 @@ fn count_living(ring: &Ring, dead: &[NodeId]) -> u32 {
     count
 }
 
-// Subtracts `lines` from the line number.
 fn behind(refusal: &Refusal, lines: u32) -> Option<Refusal> {
     match refusal {
         Refusal::BadLine(line) => Some(Refusal::BadLine(line.checked_sub(lines)?)),
@@ -137,7 +136,7 @@ fn begins_a_ring(text: &[u8]) -> bool {
         || line == b"ring 3\n".as_slice()
 }
 
-// Lines of the second ring are counted from its first.
+// The second ring's lines count from its first.
 fn push_fault(
     alloc: Global,
     out: &mut Words,
@@ -206,7 +205,7 @@ fn push_by_goal(
     }
 }
 
-// Returns whether too few members would be left.
+// Whether too few members would be left.
 fn push_few_left(
     alloc: Global,
     out: &mut Words,
@@ -260,7 +259,7 @@ pub fn push_dead_leavers(
     Ok(())
 }
 
-/// Adds which unread partitions stay as they are.
+/// Adds which unread partitions stay.
 pub fn push_left(
     alloc: Global,
     out: &mut Words,

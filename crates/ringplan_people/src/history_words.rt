@@ -1,4 +1,4 @@
-//! Why a history is not a run of its plan.
+//! Wrong histories.
 
 ghost use Rattle.std.specs.Prelude.{◌≢◌, OnOk};
 ghost use Rattle.ring_names.specs.declared.refusal.Refusal.TheVariants.{OutOfMemory};
@@ -33,7 +33,7 @@ fn reason(code: u32) -> &'static [u8] {
     }
 }
 
-/// Says why a history is not a run of its plan.
+/// Says why a history is not its plan's run.
 pub(crate) fn tell_history(
     alloc: Global,
     said: &mut Said,
@@ -65,7 +65,7 @@ struct Recorded {
     history: Vec<Entry>,
 }
 
-// None if a text is refused or the checker says no.
+// None for a refused text or plan.
 fn replayed(alloc: Global, bytes: &[u8]) -> Result<Option<Recorded>, Refusal> {
     let bundle = match read_replay(alloc, bytes) {
         Ok(bundle) => bundle,
@@ -87,7 +87,6 @@ fn replayed(alloc: Global, bytes: &[u8]) -> Result<Option<Recorded>, Refusal> {
     }
 }
 
-// The line after the first parts.
 fn line_behind(bytes: &[u8], parts: u32) -> u32 {
     let page = Page {
         bytes: &bytes[..front(bytes, parts)],
@@ -106,7 +105,7 @@ fn step_of(event: &Event) -> Option<u32> {
     }
 }
 
-// Says which step the event is of, and which reply was due.
+// Says the event's step, and the due reply.
 fn tell_entry(
     alloc: Global,
     said: &mut Said,
@@ -137,7 +136,7 @@ fn tell_entry(
     }
 }
 
-// Says which reply was due, and how the differing puts came.
+// Says the due reply, and how differing puts came.
 fn tell_reply(
     alloc: Global,
     said: &mut Said,
@@ -151,7 +150,7 @@ fn tell_reply(
     trail.tell(alloc, said, wrong, reply)
 }
 
-// The reply after those entries. None if it is refused.
+// The reply after those entries. None if refused.
 fn due(
     alloc: Global,
     approved: &Approved,
@@ -167,7 +166,6 @@ fn due(
     }
 }
 
-// None if the event is refused.
 fn reply_of(world: &mut World, event: &Event) -> Result<Option<Reply>, Refusal> {
     if world.puts() == u32::MAX || world.gets() == u32::MAX {
         return Ok(None);
@@ -178,7 +176,7 @@ fn reply_of(world: &mut World, event: &Event) -> Result<Option<Reply>, Refusal> 
     }
 }
 
-/// Returns `OutOfMemory`, and ignores any other refusal.
+/// Ignores any refusal but `OutOfMemory`.
 pub(crate) fn unless_memory(refusal: Refusal) -> Result<(), Refusal>
     ensures { OnOk result (refusal ≢ OutOfMemory) }
 {

@@ -1,4 +1,4 @@
-//! Which promises a refused plan keeps.
+//! Promises of refused plans.
 
 ghost use Rattle.std.specs.Prelude.{◌≡◌, ◌++◌, IfOk, OnOk};
 ghost use Rattle.plan_text.specs.Valid.{Suits};
@@ -16,7 +16,7 @@ use std::alloc::{AllocError, Global};
 
 const HELD: &[u8; 27] = b"no acknowledged put is lost";
 
-/// A promise, as a refusal and a yes say it.
+/// A promise, as refusals and a yes say it.
 pub(crate) const APART: &[u8; 40] = b"no two slots of a partition share a node";
 
 pub(crate) const FEW: &[u8; 50] = b"no node has more transfers open than its allowance";
@@ -57,7 +57,7 @@ fn lines_of(alloc: Global, kept: Kept) -> Result<Vec<u8>, AllocError>
     Ok(lines)
 }
 
-/// Returns which promises a plan keeps, in words. Empty if a fact is not a path.
+/// Returns the kept promises in words. Empty if a fact is not a path.
 pub(crate) fn say_kept(
     alloc: Global,
     ring: &Ring,
@@ -91,7 +91,7 @@ fn names_of(alloc: Global, kept: Kept) -> Result<Value, Refusal> {
     Ok(Value::Array(names))
 }
 
-/// Returns the promises kept. None if a text is refused or a fact is not a path.
+/// The kept promises. None if a text is refused or a fact is not a path.
 pub(crate) fn kept_value(alloc: Global, bytes: &[u8]) -> Result<Option<Value>, Refusal> {
     let found = match read_bundle(alloc, Kind::Check, bytes) {
         Ok(bundle) => promises_kept(alloc, &bundle.ring, &bundle.plan, &bundle.cert),

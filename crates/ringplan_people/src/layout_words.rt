@@ -1,4 +1,4 @@
-//! What is wrong with a layout, in words.
+//! Faulty layouts.
 
 use helpers::Words;
 use layout_text::read_layout;
@@ -6,7 +6,7 @@ use ring_names::Refusal;
 use show_why::{Page, Said, tell_layout};
 use std::alloc::Global;
 
-// Adds the mend and its result, unless the same refusal follows.
+// Adds the mend and its result, unless the refusal stays.
 fn push_mend(
     alloc: Global,
     out: &mut Words,

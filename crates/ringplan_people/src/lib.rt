@@ -1,4 +1,4 @@
-//! Answers for people: plans in words and pictures, why a bundle is refused, and the ring that a plan leaves.
+//! Answers for people: plans in words and pictures, why a bundle is refused, and the ring after a plan.
 #![tactic(auto)]
 
 mod after;

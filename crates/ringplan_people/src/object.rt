@@ -7,14 +7,13 @@ use ringplan_jobs::Answer;
 use serde_json::{Map, Value, put};
 use std::alloc::Global;
 
-/// A JSON object, made member by member.
 #[derive(Drop)]
 pub(crate) struct Object {
     alloc: Global,
     members: Map<String, Value>,
 }
 
-/// Returns the text as a value, without bytes that are not UTF-8.
+/// Drops bytes that are not UTF-8.
 pub(crate) fn text_value(alloc: Global, text: &[u8]) -> Result<Value, Refusal> {
     let mut string = String::new(alloc);
     for chunk in text.utf8_chunks() {
@@ -24,7 +23,7 @@ pub(crate) fn text_value(alloc: Global, text: &[u8]) -> Result<Value, Refusal> {
 }
 
 impl Object {
-    /// Returns an object without members.
+    /// An empty object.
     pub fn new(alloc: Global) -> Object {
         Object {
             alloc,
@@ -32,7 +31,7 @@ impl Object {
         }
     }
 
-    /// Returns an object with these members.
+    /// An object with these members.
     pub fn with(alloc: Global, members: Map<String, Value>) -> Object {
         Object { alloc, members }
     }
@@ -58,13 +57,13 @@ impl Object {
         self.put(name, value)
     }
 
-    /// Returns the object as a value.
+    /// The object as a value.
     pub fn value(self) -> Value {
         let Object { members, .. } = self;
         Value::Object(members)
     }
 
-    /// Returns the object as one line.
+    /// The object as a line.
     pub fn answer(self, status: u8) -> Result<Answer, Refusal>
         ensures { IfOk result (λ answer. answer.status ≡ status) }
     {

@@ -40,7 +40,7 @@ fn mark_of(line: &[u8]) -> Option<u8> {
     None
 }
 
-// Whether a mend adds the line: a number, then a plus.
+// A number, then a plus.
 fn is_new(line: &[u8]) -> bool {
     let mut has_digit = false;
     for place in 0..line.len() {
@@ -88,7 +88,7 @@ fn push_line(out: &mut Words, line: &[u8]) {
 
 /// Colours the words if `color` asks for it.
 ///
-/// Titles are bold, faults red, lines that belong to them cyan, mends and a yes green.
+/// Titles are bold, faults red, their lines cyan, mends and a yes green.
 pub(crate) fn painted(alloc: Global, words: Vec<u8>, color: Color) -> Result<Vec<u8>, Refusal> {
     if color != Color::Always {
         return Ok(words);

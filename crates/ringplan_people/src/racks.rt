@@ -1,4 +1,4 @@
-//! Which racks are known, and which options do not fit.
+//! Known racks, and options that do not fit.
 
 use change_text::{Options, RackRule, read_wanted};
 use helpers::Words;
@@ -12,7 +12,6 @@ use ring_table::{Ring, read_ring};
 use show_why::{Nearest, push_printed};
 use std::alloc::Global;
 
-/// Returns the racks of an approved plan's ring.
 pub(crate) fn racking_of(
     alloc: Global,
     approved: &Approved,
@@ -143,7 +142,7 @@ pub(crate) fn is_of_options(refusal: &Refusal) -> bool {
     matches!(refusal, Refusal::UnknownNode(0) | Refusal::TooLarge(_))
 }
 
-/// Reports a name, a partition or a missing rack that does not fit. Returns whether there is one.
+/// Reports an unfit name or partition, or a missing rack. Returns whether there is one.
 pub(crate) fn push_misfits(
     alloc: Global,
     out: &mut Words,

@@ -1,4 +1,4 @@
-//! Reports: what is made of a bundle, or why nothing is.
+//! Results and refusals.
 
 ghost use Rattle.std.specs.Prelude.{◌≡◌, ◌≤◌, ◌⊎◌, IfOk};
 ghost use Rattle.plan_bundles.specs.Goals.{IsLedText};
@@ -39,14 +39,13 @@ pub(crate) struct GivenBundle<'a> {
     pub options: &'a Options,
 }
 
-// What standard error says, and whether a goal's plan has steps.
+// Standard error, and whether a goal's plan has steps.
 #[derive(Drop)]
 struct Notes {
     words: Words,
     has_steps: bool,
 }
 
-// Notes which dead nodes leave unasked, and whether the plan has steps.
 fn make_goal(
     alloc: Global,
     bytes: &[u8],
@@ -90,7 +89,7 @@ fn make_of(
     }
 }
 
-/// Returns the exit status: 4 if `exit` asks for steps and there are some, otherwise 0.
+/// The exit status: 4 if `exit` asks for steps and there are some, otherwise 0.
 pub(crate) fn goal_status(exit: Exit, has_steps: bool) -> u8
     ensures { (result ≡ 0) ⊎ ((result ≡ 4) × (exit ≡ Exit.Steps)) }
 {
@@ -141,7 +140,7 @@ fn refused_with(alloc: Global, refusal: Refusal, words: Words) -> Result<Report,
     })
 }
 
-/// Adds why a request was refused.
+/// Adds a refusal's reason.
 pub(crate) fn push_said(
     alloc: Global,
     out: &mut Words,
@@ -191,7 +190,7 @@ fn push_unturned(
     }
 }
 
-// `around_bundle` itself says why it refuses with `NoPlan`.
+// `around_bundle` itself explains `NoPlan`.
 fn said_before(alloc: Global, making: Making, refusal: &Refusal, notes: Notes) -> Words {
     let Notes { words, .. } = notes;
     match (making, refusal) {
@@ -203,7 +202,7 @@ fn said_before(alloc: Global, making: Making, refusal: &Refusal, notes: Notes) -
 const GOAL_DEAD: &[u8; 76] =
     b"  Before the first step `ringplan goal --dead NODE` goes around dead nodes.\n";
 
-// Says why a history's next line is refused, and what to do without a history.
+// Says why a history's next line is refused, and what to do without one.
 fn push_unbegun(alloc: Global, out: &mut Words, bytes: &[u8], line: u32) -> Result<(), Refusal> {
     let is_over = line > Page { bytes }.count();
     if kind_of(bytes) == Kind::Change {
@@ -280,10 +279,10 @@ fn report_stated(
     Ok(silent(alloc, answer))
 }
 
-/// Returns what is printed for a request. The only refusal is `OutOfMemory`.
+/// Returns a request's output. Refuses only with `OutOfMemory`.
 ///
-/// Standard output has what is made. After a refusal, standard error has its line and why. `why` and a statement print
-/// both on standard output.
+/// Standard output has what is made. After a refusal, standard error has its line and reason. `why` and statements
+/// print both on standard output.
 pub fn report_bundle(
     alloc: Global,
     making: Making,
@@ -299,7 +298,7 @@ pub fn report_bundle(
     }
 }
 
-/// Returns what is printed if the input could not be read.
+/// The output for an unreadable input.
 pub fn report_unread(alloc: Global, refusal: Refusal) -> Result<Report, Refusal>
     ensures { IfOk result (λ r. IsRefusal refusal r.output.items r.errors.items r.status) }
 {

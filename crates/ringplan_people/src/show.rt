@@ -23,7 +23,6 @@ use show_plan::{
 };
 use std::alloc::Global;
 
-/// A plan, and how far its history has come.
 #[derive(Drop)]
 pub(crate) struct Shown {
     pub scene: Scene,
@@ -31,7 +30,7 @@ pub(crate) struct Shown {
     pub present: PresentRing,
 }
 
-/// Returns how much each partition stores, if the layout has sizes.
+/// Returns each partition's size, if the layout has sizes.
 ///
 /// An unknown partition is `TooLarge` with its line in the layout.
 pub(crate) fn sizes_by(
@@ -46,7 +45,7 @@ pub(crate) fn sizes_by(
     Ok(Some(sizes))
 }
 
-/// Returns how much moves and remains. Refusals are those of `sizes_by`.
+/// Measures what moves and remains. Refuses as `sizes_by` does.
 pub(crate) fn volumes_of(
     alloc: Global,
     found: &Study,
@@ -62,7 +61,7 @@ pub(crate) fn volumes_of(
     Ok(Some(volumes))
 }
 
-/// Returns the dead nodes. An undeclared name is `UnknownNode(0)`.
+/// The dead nodes. An undeclared name is `UnknownNode(0)`.
 pub(crate) fn dead_of(
     alloc: Global,
     ring: &Ring,
@@ -72,7 +71,6 @@ pub(crate) fn dead_of(
     nodes_of(alloc, ring, names.as_slice())
 }
 
-/// Returns what is shown of a plan.
 pub(crate) fn shown_by(alloc: Global, found: &Study, options: &Options) -> Result<Shown, Refusal> {
     let (ring, plan) = (found.approved.ring(), found.approved.plan());
     let progress = match &found.history {
@@ -97,7 +95,6 @@ fn shape_of(asked: Shape) -> SummaryShape {
     }
 }
 
-/// Returns the racks of a ring without a plan.
 pub(crate) fn racks_at_rest(
     alloc: Global,
     ring: &Ring,
@@ -108,7 +105,7 @@ pub(crate) fn racks_at_rest(
     racks_of(alloc, ring, members.as_slice(), options)
 }
 
-/// Returns what the options say of nodes and partitions. Unknown names and partitions are refused.
+/// Collects the options' facts. Refuses unknown names and partitions.
 pub(crate) fn facts_of(
     alloc: Global,
     ring: &Ring,
@@ -141,7 +138,6 @@ fn show_plain(
 ) -> Result<Vec<u8>, Refusal>
     ensures shown { OnOk result (IsShown bytes.now) }
 {
-    // Nothing follows the ring.
     if front(bytes, 1) == bytes.len() {
         return show_ring(alloc, bytes, options);
     }
@@ -152,7 +148,7 @@ fn show_plain(
 ///
 /// Adds to the words which racks a change was planned by.
 ///
-/// Refuses what `studied`, the ring's reader and `sizes_by` refuse. An unknown name is `UnknownNode(0)`; so is a member
+/// Refuses as `studied`, the ring's reader and `sizes_by` do. An unknown name is `UnknownNode(0)`; so is a member
 /// without a rack if racks are known.
 pub fn show_bundle(
     alloc: Global,
@@ -237,7 +233,7 @@ fn show_plan(
     summary(&view)
 }
 
-/// Draws a plan, or the map of its slots, as SVG. Refusals and words are those of `show_bundle`.
+/// Draws a plan, or its slots' map, as SVG. Refusals and words are those of `show_bundle`.
 pub fn draw_bundle(
     alloc: Global,
     bytes: &[u8],

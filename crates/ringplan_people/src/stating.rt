@@ -1,4 +1,4 @@
-//! Statements about a bundle, as a JSON object.
+//! Statements about a bundle, as JSON.
 
 ghost use Rattle.std.specs.Prelude.{◌≡◌, ◌≢◌, ◌≤◌, ◌⊎◌, IfOk};
 ghost use Rattle.plan_bundles.specs.Goals.{IsLed};
@@ -44,7 +44,7 @@ fn outcome_value(alloc: Global, outcome: MendOutcome) -> Result<Value, Refusal> 
     text_value(alloc, word)
 }
 
-// The new lines, and what they lead to.
+// The new lines, and their outcome.
 fn mend_value(alloc: Global, said: &Said, outcome: MendOutcome) -> Result<Value, Refusal> {
     let mut lines = Vec::new(alloc);
     for place in 0..said.changes() {
@@ -232,7 +232,7 @@ fn nodes_value(
     Ok(Value::Array(nodes))
 }
 
-// Adds who joins and leaves, how much moves, and the rounds.
+// Adds joiners, leavers, the amount moved, and rounds.
 fn put_change(
     object: &mut Object,
     alloc: Global,
@@ -402,7 +402,6 @@ fn state_shown(
     ensures yes { IfOk result (λ answer. answer.status ≡ 0 → IsShown bytes.now) }
     ensures few { IfOk result (λ answer. answer.status ≤ 3) }
 {
-    // Nothing follows the ring.
     if front(bytes, 1) == bytes.len() {
         return state_ring(alloc, bytes, options);
     }
@@ -451,11 +450,11 @@ fn state_goal(alloc: Global, bytes: &[u8], options: &Options, exit: Exit) -> Res
     }
 }
 
-/// States what `why`, `show` or `goal` says as one line of JSON.
+/// States what `why`, `show` or `goal` says as a line of JSON, with the same exit status.
 ///
-/// The exit status is the same. The only refusal is `OutOfMemory`.
+/// Refuses only with `OutOfMemory`.
 ///
-/// A refusal has the members of a check's answer and `words`. `why` and `show` add the lines at fault and a mend.
+/// A stated refusal has a check's members and `words`. `why` and `show` add faulty lines and a mend.
 pub fn state_bundle(
     alloc: Global,
     statement: Statement,

@@ -1,4 +1,4 @@
-//! The steps of a plan, for use with another store.
+//! A plan's steps, for another store.
 
 ghost use Rattle.std.specs.Prelude.{◌≡◌, List, IfOk};
 ghost use Rattle.ring_table.specs.Value.{RingValue};
@@ -24,7 +24,7 @@ fn steps_of(alloc: Global, approved: &Approved) -> Result<Vec<u8>, Refusal>
     write_steps(alloc, approved.ring(), approved.plan())
 }
 
-/// Writes a plan's steps as lines of JSON. A history changes nothing. Refusals are those of `studied`.
+/// Writes a plan's steps as lines of JSON. Ignores a history. Refuses as `studied` does.
 pub fn steps_bundle(
     alloc: Global,
     bytes: &[u8],
@@ -46,7 +46,7 @@ fn moves_of(alloc: Global, approved: &Approved) -> Result<Vec<u8>, Refusal>
     write_moves(alloc, approved.ring(), approved.plan())
 }
 
-/// Writes the slots that move as lines of JSON. Refusals are those of `studied`.
+/// Writes the moving slots as lines of JSON. Refuses as `studied` does.
 pub fn moves_bundle(
     alloc: Global,
     bytes: &[u8],

@@ -1,4 +1,4 @@
-//! Bundles whose plan the checker accepts.
+//! Bundles with an accepted plan.
 
 ghost use Rattle.std.specs.Prelude.{◌≡◌, None, IfOk, IfSome};
 ghost use Rattle.plan_text.specs.Valid.{Suits};
@@ -27,7 +27,6 @@ pub struct Study {
     pub history: Option<Vec<Entry>>,
 }
 
-/// Checks a plan without a history.
 pub(crate) fn accepted(alloc: Global, ring: Ring, plan: Plan, cert: Cert) -> Result<Study, Refusal>
     requires { Suits ring plan }
     ensures same { IfOk result (λ s. (s.approved.ring ≡ ring) × (s.approved.plan ≡ plan)) }
@@ -46,7 +45,6 @@ pub(crate) fn accepted(alloc: Global, ring: Ring, plan: Plan, cert: Cert) -> Res
     }
 }
 
-/// Reads and checks a bundle without a history.
 pub(crate) fn study_plan(alloc: Global, bytes: &[u8]) -> Result<Study, Refusal>
     ensures of { IfOk result (λ s. IsPlanOf bytes.now s.approved.ring s.approved.plan) }
     ensures history { IfOk result (λ s. s.history ≡ None) }
@@ -55,7 +53,7 @@ pub(crate) fn study_plan(alloc: Global, bytes: &[u8]) -> Result<Study, Refusal>
     accepted(alloc, bundle.ring, bundle.plan, bundle.cert)
 }
 
-/// Reads a bundle with a change, and makes a plan for it.
+/// Plans a bundle's change.
 pub(crate) fn study_change(alloc: Global, bytes: &[u8], options: &Options) -> Result<Study, Refusal>
     ensures of { IfOk result (λ s. IsPlanOf bytes.now s.approved.ring s.approved.plan) }
     ensures history { IfOk result (λ s. s.history ≡ None) }
@@ -84,10 +82,9 @@ fn study_history(alloc: Global, bytes: &[u8]) -> Result<Study, Refusal>
     })
 }
 
-/// Reads and checks a bundle. For a change, makes a plan first.
+/// Reads and checks a bundle. Plans a change first.
 ///
-/// Refuses the first fault of the texts, what `wish_bundle` or the checker refuses, and a history that is not a run of
-/// the plan.
+/// Refuses the texts' first fault, then as `wish_bundle` or the checker does; and a history that is not the plan's run.
 pub fn studied(alloc: Global, bytes: &[u8], options: &Options) -> Result<Study, Refusal>
     ensures of { IfOk result (λ s. IsStudyOf bytes.now s.approved.ring s.approved.plan) }
     ensures history { IfOk result

@@ -1,4 +1,4 @@
-//! The trail of a wrong reply: how the differing puts came to where they were read.
+//! How differing puts came to a wrong reply.
 
 use crate::after::{earlier, slot_of};
 use plan_runs::{Entry, Event, Key, Reply};
@@ -25,14 +25,14 @@ pub(crate) struct Trail<'a> {
     pub line: u32,
 }
 
-// A put of only one of two replies. It is missing if only the due reply has it.
+// A put of one reply only. It is missing if only the due reply has it.
 #[derive(Clone, Copy)]
 struct Differing {
     put: u32,
     is_missing: bool,
 }
 
-// What a get looked at: a slot and the key's chunk, or all its reads.
+// A get's source: a slot and the key's chunk, or all its reads.
 #[derive(Clone, Copy)]
 enum Looked {
     Slot(Slot, u32),
@@ -122,7 +122,7 @@ impl<'a> Trail<'a> {
         }
     }
 
-    // Whether the entry brought the put to what the get looked at.
+    // Whether the entry brought the put to the get's source.
     fn brings(&self, entry: &Entry, source: Looked, put: u32) -> bool {
         match source {
             Looked::Reads(get) => is_find(entry, get, put),
@@ -135,7 +135,7 @@ impl<'a> Trail<'a> {
         }
     }
 
-    // Whether the entry is a step of the slot, a copy of its chunk, or a handoff to it.
+    // Whether the entry is the slot's step, a copy of its chunk, or a handoff to it.
     fn is_of_slot(&self, event: &Event, slot: Slot, chunk: u32) -> bool {
         match event {
             Event::Do(step) | Event::CloseCopy(step) => slot_of(self.plan, *step) == Some(slot),
@@ -219,8 +219,7 @@ impl<'a> Trail<'a> {
 
     /// Shows the differing puts of a read, or of a get's end.
     ///
-    /// For each put shows its line, and the entries that brought the put. For a read also shows the slot's last
-    /// entries.
+    /// Each put has its line, and the entries that brought it. A read also has the slot's last entries.
     pub(crate) fn tell(
         &self,
         alloc: Global,

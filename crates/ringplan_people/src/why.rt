@@ -1,4 +1,4 @@
-//! Why a bundle is refused.
+//! Refused bundles.
 
 ghost use Rattle.std.specs.Prelude.{◌≡◌, ◌≢◌, ◌≤◌, ◌++◌, ◌∷◌, ℕ, List, [], Ok, Err, IfOk, IfNone, OnOk, codes};
 ghost use Rattle.ring_names.specs.declared.refusal.Refusal.TheVariants.{OutOfMemory};
@@ -30,18 +30,17 @@ use show_refusal::{Read, Remedy, tell_plan};
 use show_why::{Page, Said, tell_text};
 use std::alloc::Global;
 
-/// What the checker says of a mended bundle.
+/// The checker's answer to a mended bundle.
 #[derive(Clone, Copy, PartialEq, Eq)]
 pub(crate) enum MendOutcome {
-    /// The checker says yes.
     Accepted,
-    /// There is a plan for its change.
+    /// Its change has a plan.
     Planned,
-    /// The checker says yes, and the history is a run of the plan.
+    /// Accepted, and the history is the plan's run.
     Replayed,
     /// Another refusal.
     Next(Refusal),
-    /// The mend leaves the refusal as it was, or none was found.
+    /// The refusal stays, or there is no mend.
     Same,
 }
 
@@ -77,7 +76,7 @@ fn next(refusal: Refusal, was: &Refusal) -> Result<MendOutcome, Refusal>
     })
 }
 
-// Adds the mend and what it leads to, unless it leads to the same refusal.
+// Adds the mend and its outcome, unless the refusal stays.
 fn push_mend(
     alloc: Global,
     out: &mut Words,
@@ -207,7 +206,7 @@ pub(crate) fn push_few(
     Ok(true)
 }
 
-/// Says that a partition has more slots than there are members.
+/// Says that partitions have more slots than there are members.
 pub(crate) fn push_too_few(alloc: Global, out: &mut Words, members: u32, slots: u32) {
     let mut said = Said::new(alloc);
     tell_few(&mut said, members, slots);
@@ -237,7 +236,7 @@ fn tell_few(said: &mut Said, members: u32, slots: u32) {
     said.note(b"Let fewer nodes leave, or more join.")
 }
 
-/// Adds why a bundle is refused. Fills `said`, and returns what its mend leads to.
+/// Adds why a bundle is refused. Fills `said`, and returns the mend's outcome.
 pub(crate) fn push_why(
     alloc: Global,
     out: &mut Words,
@@ -251,7 +250,6 @@ pub(crate) fn push_why(
     push_said(alloc, out, said, bytes, refusal)
 }
 
-// Returns what the mend leads to.
 fn push_said(
     alloc: Global,
     out: &mut Words,
@@ -381,7 +379,7 @@ fn why_read(alloc: Global, bytes: &[u8], bundle: Bundle, color: Color) -> Result
     }
 }
 
-// For a bundle with a change or a history.
+// For a change or a history.
 fn push_more(alloc: Global, out: &mut Words, bytes: &[u8]) -> Result<Option<Refusal>, Refusal>
     ensures { IfOk result (λ r. IfNone r (HasApproved bytes.now)) }
 {
@@ -436,8 +434,7 @@ fn why_unread(
 
 /// Answers as the checker does, and says why.
 ///
-/// The line and the status are the checker's. Words follow, with the lines concerned and a mend. Only the words may
-/// have colours.
+/// Line and status are the checker's. Words follow, with the lines concerned and a mend; only these may have colours.
 ///
 /// For a change, makes a plan first. For a history, says whether it is a run.
 pub fn why_bundle(alloc: Global, bytes: &[u8], color: Color) -> Result<Answer, Refusal>

@@ -1,4 +1,4 @@
-//! The windows of a bundle's plan.
+//! A plan's windows.
 
 ghost use Rattle.std.specs.Prelude.{List, IfOk};
 ghost use Rattle.ring_table.specs.Value.{RingValue};
@@ -21,9 +21,9 @@ use std::alloc::Global;
 const TOO_MANY: &[u8; 123] =
     b"refused: the windows have more than 67,108,864 bytes together, as each has the whole ring\n  Let a window have more rounds.\n";
 
-/// Cuts a plan into windows, or returns one window.
+/// Cuts a plan into windows, or returns one.
 ///
-/// A history changes nothing. Refusals are those of `studied` and `cut_plan`.
+/// Ignores a history. Refuses as `studied` and `cut_plan` do.
 pub fn windows_bundle(
     alloc: Global,
     bytes: &[u8],
@@ -39,7 +39,7 @@ pub fn windows_bundle(
     cut_plan(alloc, &found.approved, cut.rounds, cut.only)
 }
 
-/// Adds why `windows_bundle` refuses a bundle.
+/// Adds why `windows_bundle` refuses.
 pub(crate) fn push_windows_words(
     alloc: Global,
     out: &mut Words,
@@ -73,7 +73,7 @@ fn push_no_window(
     }
 }
 
-// Says how many windows there are, or that a window leaves no ring.
+// Says how many windows there are, or that one leaves no ring.
 fn push_count(alloc: Global, out: &mut Words, found: &Study, cut: Cut) -> Result<(), Refusal> {
     match cut_plan(alloc, &found.approved, cut.rounds, None) {
         Ok(text) => {

@@ -20,7 +20,7 @@ const WHY: &[u8; 39] = b"ringplan: `ringplan why FILE` says why\n";
 const WHY_REPLAY: &[u8; 70] =
     b"ringplan: `ringplan why FILE` says why; `replay` also wants a history\n";
 
-// Returns the advice if `why` can explain the refusal.
+// Returns advice if `why` can explain the refusal.
 fn advice_of(request: &Request) -> Option<&'static [u8]> {
     match request {
         Request::Do(Job::Check | Job::Plan | Job::Migrate) | Request::CheckBy(_) => Some(WHY),

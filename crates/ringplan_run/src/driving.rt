@@ -116,11 +116,11 @@ fn drive_checked<RT: Threads + Wait + Sync>(
 ///
 /// The checker must accept the plan.
 ///
-/// Fails with the first fault of the texts, then the checker's first refusal, then why the drive broke off.
+/// Fails with the texts' first fault, then the checker's first refusal, then why the drive broke off.
 ///
 /// `OutOfMemory` comes only after the ring's first four lines, if memory or a thread was refused.
 ///
-/// Waits for its threads. Does not free the history and receipts, since the program ends then.
+/// Waits for its threads. Does not free history and receipts, since the program ends then.
 pub fn drive_bundle<RT: Threads + Wait + Sync>(
     rt: &RT,
     alloc: Global,

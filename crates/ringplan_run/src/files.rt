@@ -1,4 +1,4 @@
-//! The files that a command line names.
+//! The files of a command line.
 
 ghost use Rattle.std.specs.Prelude.{◌≡◌, ◌⊎◌, IfErr};
 
@@ -11,7 +11,7 @@ use std::path::PathBuf;
 use std::rt::Files;
 use std::{fmt, fs, io};
 
-/// How long an input file may be.
+/// An input file's greatest length.
 #[derive(Clone, Copy, Debug, PartialEq, Eq)]
 pub(crate) enum Limit {
     /// At most `MAX_INPUT` bytes, since it is read whole.
@@ -62,7 +62,7 @@ pub(crate) fn open<RT: Files + Eprint>(rt: &RT, name: &str, limit: Limit) -> Res
     }
 }
 
-// Refuses a directory, and a file that is too long.
+// Refuses a directory, or a file that is too long.
 fn sized<RT: Files + Eprint>(
     rt: &RT,
     name: &str,
@@ -91,7 +91,7 @@ const MOST_LINKS: u32 = 40;
 
 const MOST_BESIDE: u32 = 1_000;
 
-// Follows the links, whether or not they lead to a file.
+// Follows links, even to a missing file.
 #[inline(never)]
 fn end_of_links<RT: Files + AllocGlobal>(rt: &RT, name: &str) -> io::Result<PathBuf> {
     let mut path = PathBuf::from_str(rt.alloc(), name)?;
@@ -108,7 +108,7 @@ fn end_of_links<RT: Files + AllocGlobal>(rt: &RT, name: &str) -> io::Result<Path
     Ok(path)
 }
 
-// Creates a file of a new name. A replacement is private until it gets the old file's permissions.
+// Creates a new file. A replacement is private until it gets the old file's permissions.
 fn create_beside<RT: Files>(
     rt: &RT,
     beside: &str,
@@ -122,7 +122,7 @@ fn create_beside<RT: Files>(
     options.open(rt, beside)
 }
 
-// Writes and syncs a new file, with these permissions if any.
+// Writes and syncs a new file, with these permissions, if any.
 fn write_new<F: OpenFile + Write>(
     file: &mut F,
     permissions: Option<Permissions>,
@@ -175,7 +175,7 @@ fn exchange<RT: Files + AllocGlobal>(
     Err(io::Error::from(ErrorKind::AlreadyExists))
 }
 
-// Replaces the file atomically: it has all of the text or what it had. Links and permissions stay.
+// Replaces the file atomically: it has all the text or what it had. Links and permissions stay.
 //
 // Writes directly to anything but a plain file, such as a terminal.
 #[inline(never)]

@@ -28,7 +28,6 @@ fn status_of(refusal: Refusal) -> u8
     }
 }
 
-// Names the faulty line.
 fn tell<RT: AllocGlobal + Eprint>(rt: &RT, refusal: Refusal, name: &str, bytes: &[u8]) {
     let Ok(words) = layout_fault(rt.alloc(), bytes, &refusal) else {
         say(rt, NO_MEMORY);
@@ -65,7 +64,7 @@ fn layout_in<RT: AllocGlobal + Files + Eprint>(rt: &RT, name: &str) -> Result<La
     }
 }
 
-/// Adds the named file's layout, if any. On a fault says why, and returns the exit status.
+/// Adds the named layout, if any. On a fault says why, and returns the exit status.
 pub(crate) fn with_layout<RT: AllocGlobal + Files + Eprint>(
     rt: &RT,
     options: Options,

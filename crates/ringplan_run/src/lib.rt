@@ -1,4 +1,4 @@
-//! The program over any input and output, from the command line to the exit status.
+//! The program over any input and output, from command line to exit status.
 #![tactic(auto)]
 
 mod advice;

@@ -1,4 +1,4 @@
-//! Prints a part of a bundle's history.
+//! Parts of histories.
 
 ghost use Rattle.std.specs.Prelude.{◌≡◌, ℕ, List};
 ghost use Rattle.history_parts.specs.Choices.{IsChoice};
@@ -14,7 +14,7 @@ use ringplan_jobs::{MAX_INPUT, status_of};
 use std::io::{Read, Write};
 use texts::Fields;
 
-// Returns how many times more parts would be small enough, at least 2.
+// How many times more parts would be small enough, at least 2.
 fn times(many: u64, most: u64) -> u64 {
     (many.saturating_sub(1) / most.max(1))
         .saturating_add(1)
@@ -24,7 +24,6 @@ fn times(many: u64, most: u64) -> u64 {
 const UNLESS: &str =
     ", unless one partition or what each part has, steps and outages, is too much\n";
 
-// Says why a part is too large, and how many parts may do.
 fn say_large<RT: Eprint>(rt: &RT, choice: Choice, entries: u64, bytes: u64) {
     let _ = eprint!(rt;
         "ringplan: the part has {entries} entries and {bytes} bytes, and {MOST_ENTRIES} and {MAX_INPUT} are judged at once: "
@@ -59,7 +58,7 @@ fn say_none<RT: Eprint>(rt: &RT, choice: Choice, none: &NoPart) {
     }
 }
 
-// Reads the ring's number of partitions, in the second line.
+// Reads the ring's number of partitions, in line 2.
 fn partitions_of(text: &[u8]) -> Option<u64> {
     let mut lines = text.split(|byte| *byte == b'\n');
     let _ = lines.next()?;
@@ -68,7 +67,6 @@ fn partitions_of(text: &[u8]) -> Option<u64> {
     fields.value()
 }
 
-// Says that a named partition is not in the ring.
 fn say_beyond<RT: Eprint>(rt: &RT, choice: Choice, part: &Part) {
     let Choice::Range { last, .. } = choice else {
         return;
@@ -107,7 +105,7 @@ fn print_cut<RT: AllocGlobal + Eprint, W: Write>(
     }
 }
 
-/// Prints the wanted part of a bundle, or an entry's place. On failure says why.
+/// Prints the wanted part, or an entry's place. On failure says why.
 pub(crate) fn print_part<RT: AllocGlobal + Eprint, R: Read + Drop, W: Write>(
     rt: &RT,
     wish: PartWish,

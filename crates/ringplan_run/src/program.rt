@@ -35,7 +35,7 @@ use std::rt::Files;
 use std::sync::Wait;
 use std::thread::Threads;
 
-// The line for lack of memory, which needs none.
+// The line if memory runs out. It needs no memory.
 pub(crate) const NO_MEMORY: &[u8; 6] = b"no 60\n";
 
 pub(crate) const FAILED: u8 = 3;
@@ -50,15 +50,15 @@ const STEPS: u8 = 4;
 /// - 1 for a refused or missing plan, a drive that broke off, and a history that is not a run.
 /// - 2 for a refused text or command line.
 /// - 3 if memory, an input or an output failed.
-/// - 4 for a plan with steps if `goal --exit-code` asks for that.
+/// - 4 for a plan with steps, if `goal --exit-code` asks.
 ///
 /// `plan`, `check`, `play`, `drive`, `replay` and `migrate` print refusals of a bundle on the output, other commands on
 /// standard error. Faults of a command line go to standard error.
 ///
-/// Words for people have colours if the screen or the line says so. Named files are read in order instead of the input,
-/// which `-` names.
+/// Words for people have colours if screen or line says so. Named files are read in order instead of the input, which
+/// `-` names.
 ///
-/// With `-o`, writes what would be printed with status 0 or 4 to the file.
+/// With `-o`, output with status 0 or 4 goes to the file.
 ///
 /// Waits for the threads of `drive` and `check --workers`; `run_alone` does other jobs.
 pub fn run<
@@ -105,7 +105,6 @@ fn seen_on(screen: Screen, target: &Option<String>) -> Screen {
     }
 }
 
-// Prints the result, or writes it to the target.
 fn run_to<RT: AllocGlobal + Files + Eprint + Threads + Wait + Sync, R: Read + Drop, W: Write>(
     rt: &RT,
     request: Request,
@@ -249,14 +248,14 @@ pub fn run_alone<R: Read + Drop, W: Write>(
     tell(alloc, found, output)
 }
 
-/// Says that memory ran out, and returns exit status 3.
+/// Says that memory ran out.
 pub fn end_without_memory<W: Write>(output: &mut W) -> u8
     ensures { Prints (W.contents output.old) (W.contents output.new) (line_of Refusal.OutOfMemory) 3 result }
 {
     finish(output, NO_MEMORY, FAILED)
 }
 
-/// Says that a command line is not text. Returns exit status 2.
+/// Says that a command line is not text.
 pub fn end_without_words<W: Write>(output: &mut W) -> u8
     ensures { Prints (W.contents output.old) (W.contents output.new) NO_WORDS.now 2 result }
 {
@@ -326,7 +325,7 @@ fn drive_of<RT: Threads + Wait + Sync, R: Read + Drop>(
     drive_bundle(rt, alloc, workers, form, bytes.as_slice())
 }
 
-// Prints the text, and returns the status, or 3 if the output fails.
+// Prints the text. Returns the status, or 3 if the output fails.
 pub(crate) fn finish<W: Write>(output: &mut W, text: &[u8], status: u8) -> u8
     ensures { Prints (W.contents output.old) (W.contents output.new) text.now status result }
 {

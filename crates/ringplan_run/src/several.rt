@@ -8,7 +8,7 @@ use std::io;
 use std::io::Read;
 use std::rt::Files;
 
-/// Files read in order, with nothing between them. The input may be among them.
+/// Files read in order, as one. The input may be among them.
 #[derive(Drop)]
 pub(crate) struct Several<'a, F, R> {
     // None is the input.
@@ -43,7 +43,7 @@ impl<'a, F: Read + Drop, R: Read + Drop> Read for Several<'a, F, R> {
     }
 }
 
-/// Opens the files to read in order, with `-` for the input. Fails as `open` does.
+/// Opens files to read in order, with `-` for the input. Fails as `open` does.
 pub(crate) fn open_all<'a, RT: AllocGlobal + Files + Eprint, R: Read + Drop>(
     rt: &RT,
     names: &[String],

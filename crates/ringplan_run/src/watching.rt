@@ -31,7 +31,7 @@ fn print_by<RT: AllocGlobal, B: Read + Drop, R: Read + Drop, W: Write>(
     }
 }
 
-/// Judges the history on the input by the named bundle. On failure says why.
+/// Judges the input's history by the named bundle. On failure says why.
 pub(crate) fn print_watch<RT: AllocGlobal + Files + Eprint, R: Read + Drop, W: Write>(
     rt: &RT,
     names: &[String],
