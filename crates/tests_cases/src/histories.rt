@@ -1,18 +1,16 @@
-//! What a replay says of a play's history, and of that history with a fault. What it should say is read off a
-//! play of the same events. Also whether a replay says yes to what a drive printed.
+//! Replays of a play's history, also with a fault. A play of the same events shows what is due. Also replays a drive's
+//! printed history.
 
 use ringplan_jobs::{play_bundle, replay_bundle};
 use std::alloc::{AllocError, Global};
 use std::str;
 
-/// An event of a script, and its reply.
 #[derive(Clone, Copy)]
 struct Told<'t> {
     event: &'t str,
     reply: &'t str,
 }
 
-// What a play prints of the bundle.
 fn played(alloc: Global, bundle: &[u8]) -> Result<Vec<u8>, AllocError> {
     match play_bundle(alloc, bundle) {
         Ok(text) => Ok(text),
@@ -24,7 +22,6 @@ fn played(alloc: Global, bundle: &[u8]) -> Result<Vec<u8>, AllocError> {
     }
 }
 
-// What a replay prints of the bundle.
 fn replayed(alloc: Global, bundle: &[u8]) -> Result<Vec<u8>, AllocError> {
     match replay_bundle(alloc, bundle) {
         Ok(text) => Ok(text),
@@ -36,7 +33,6 @@ fn replayed(alloc: Global, bundle: &[u8]) -> Result<Vec<u8>, AllocError> {
     }
 }
 
-// The bundle of a play of the events.
 fn script_of(alloc: Global, front: &str, told: &[Told]) -> Result<Vec<u8>, AllocError> {
     let mut text = Vec::from_slice(alloc, front.as_bytes())?;
     text.extend_from_slice(b"script 1\n")?;
@@ -48,7 +44,6 @@ fn script_of(alloc: Global, front: &str, told: &[Told]) -> Result<Vec<u8>, Alloc
     Ok(text)
 }
 
-// The bundle of a replay of the events with their replies.
 fn history_of(alloc: Global, front: &str, told: &[Told]) -> Result<Vec<u8>, AllocError> {
     let mut text = Vec::from_slice(alloc, front.as_bytes())?;
     text.extend_from_slice(b"history 1\n")?;
@@ -62,7 +57,6 @@ fn history_of(alloc: Global, front: &str, told: &[Told]) -> Result<Vec<u8>, Allo
     Ok(text)
 }
 
-// What stands behind the place in a play's line.
 fn answer(line: &str) -> &str {
     match line.split_once(' ') {
         Some((_, answer)) => answer,
@@ -70,7 +64,6 @@ fn answer(line: &str) -> &str {
     }
 }
 
-// The number of the refusal that is the answer, or 0.
 fn code(answer: &str) -> &str {
     match answer.strip_prefix("no ") {
         Some(rest) => match rest.split_once(' ') {
@@ -81,7 +74,7 @@ fn code(answer: &str) -> &str {
     }
 }
 
-// What the replay should say of the events with their replies, by what the play printed of the events.
+// What the replay should print, by what the play printed of the events.
 fn expected(alloc: Global, output: &str, told: &[Told]) -> Result<Vec<u8>, AllocError> {
     let mut lines = output.lines().skip(1);
     for (place, told) in told.iter().enumerate() {
@@ -100,7 +93,6 @@ fn expected(alloc: Global, output: &str, told: &[Told]) -> Result<Vec<u8>, Alloc
     Ok(text)
 }
 
-// Whether the replay says what it should of the events with their replies.
 fn agrees(alloc: Global, front: &str, told: &[Told]) -> Result<bool, AllocError> {
     let script = script_of(alloc, front, told)?;
     let output = played(alloc, script.as_slice())?;
@@ -110,7 +102,7 @@ fn agrees(alloc: Global, front: &str, told: &[Told]) -> Result<bool, AllocError>
     Ok(found.as_slice() == expected.as_slice())
 }
 
-// The events of the script that were answered, with their replies.
+// The script's answered events, with their replies.
 fn answered<'t>(
     alloc: Global,
     events: &'t str,
@@ -129,13 +121,11 @@ fn answered<'t>(
     Ok(told)
 }
 
-// A reply that is another one.
 fn other(reply: &str) -> &'static str {
     if reply == "ok" { "put 0" } else { "ok" }
 }
 
-// The history with a change at the place. The entry has another reply, is left out, comes after the next, or
-// again at the end.
+// The history with a change at the place: another reply, no entry, after the next, or again at the end.
 fn changed<'t>(
     alloc: Global,
     told: &[Told<'t>],
@@ -167,10 +157,10 @@ fn changed<'t>(
     Ok(changed)
 }
 
-/// Counts the histories of which a replay does not say what it should. They are the play's, by this bundle and
-/// output, and that with one fault.
+/// Counts the histories that a replay answers wrongly. They are the play's, by this bundle and output, and that with
+/// one fault.
 ///
-/// A fault is another reply, an entry left out, two exchanged, or an entry a second time at the end.
+/// A fault is another reply, a missing entry, two exchanged, or one repeated at the end.
 pub fn others(alloc: Global, bundle: &str, output: &str) -> Result<u32, AllocError> {
     let Some((front, events)) = bundle.split_once("script 1\n") else {
         return Ok(1);
@@ -191,7 +181,7 @@ pub fn others(alloc: Global, bundle: &str, output: &str) -> Result<u32, AllocErr
     Ok(others)
 }
 
-/// Whether a replay says yes to the history that a drive of the bundle printed.
+/// Whether a replay says yes to a drive's printed history.
 pub fn is_replayed(alloc: Global, bundle: &str, output: &str) -> Result<bool, AllocError> {
     let Some((front, _)) = bundle.split_once("script 1\n") else {
         return Ok(false);

@@ -1,15 +1,15 @@
-//! Runs the program on the bundles that its arguments name, and prints the name, the answer and the exit status
-//! of each. The words `check`, `migrate`, `play`, `plan`, `drive` and `replay` among them say which subcommand
-//! is meant from there on. At first it is `check`. `report` means a drive whose report is printed. `race` means
-//! a drive by three workers: its first line is printed, since the others are left to chance.
+//! Runs the program on the bundles that its arguments name. Prints each name, answer and exit status. The words `check`
+//! (the default), `migrate`, `play`, `plan`, `drive` and `replay` among them set the subcommand for what follows.
+//! `report` means a drive whose report is printed. `race` means a drive by three workers: only its first line is
+//! printed, since the others vary.
 //!
 //! Counts what goes wrong, and prints each count that is not 0:
-//! - first parts of an accepted bundle that are accepted;
-//! - checks by 1, 3 and 64 workers that say otherwise;
-//! - replays of a play's history, also with a fault at each place, that do not say what the play does;
-//! - replays of a drive's printed history that do not say yes.
+//! - Accepted first parts of an accepted bundle.
+//! - Checks by 1, 3 and 64 workers that differ.
+//! - Replays of a play's history, also with a fault at each place, that differ from the play.
+//! - Replays that refuse a drive's printed history.
 //!
-//! The words of `people.rt` ask for what is printed for people.
+//! The words of `people.rt` ask for output for people.
 #![tactic(auto)]
 
 mod histories;
@@ -26,7 +26,6 @@ use std::sync::Wait;
 use std::thread::Threads;
 use std::{env, fs, io, str};
 
-// What the program is asked to do with a bundle.
 #[derive(Clone, Copy)]
 enum Asked {
     Check,
@@ -39,7 +38,7 @@ enum Asked {
     Replay,
 }
 
-// What is asked of the bundles that follow: a job, or a report for people by those words.
+// What to do with the next bundles: a job, or a report for people by those words.
 #[derive(Clone, Copy)]
 enum Wanted {
     Job(Asked),
@@ -57,7 +56,6 @@ fn main(rt: HostRuntime) -> io::Result<()> {
     Ok(())
 }
 
-// What the word asks for, if it is not a bundle's name.
 fn wanted_of(word: &str) -> Option<Wanted> {
     let asked = match word {
         "check" => Asked::Check,
@@ -73,7 +71,6 @@ fn wanted_of(word: &str) -> Option<Wanted> {
     Some(Wanted::Job(asked))
 }
 
-// Prints what is asked of the bundle.
 fn show_wanted<RT: Runtime + AllocGlobal + Threads + Wait + Sync>(
     rt: &RT,
     wanted: Wanted,
@@ -85,14 +82,12 @@ fn show_wanted<RT: Runtime + AllocGlobal + Threads + Wait + Sync>(
     }
 }
 
-// What was written, and the exit status.
 #[derive(PartialEq, Eq, Drop)]
 struct Answer {
     bytes: Vec<u8>,
     status: u8,
 }
 
-// What the program says of the bundle to these words.
 fn said<RT: Runtime + AllocGlobal + Threads + Wait + Sync>(
     rt: &RT,
     words: &[&str],
@@ -104,7 +99,6 @@ fn said<RT: Runtime + AllocGlobal + Threads + Wait + Sync>(
     Ok(Answer { bytes, status })
 }
 
-// What the program says of the bundle.
 fn told<RT: Runtime + AllocGlobal + Threads + Wait + Sync>(
     rt: &RT,
     asked: Asked,
@@ -117,7 +111,6 @@ fn told<RT: Runtime + AllocGlobal + Threads + Wait + Sync>(
     }
 }
 
-// Prints the name of a bundle, the program's answer to it and the exit status.
 fn show<RT: Runtime + AllocGlobal + Threads + Wait + Sync>(
     rt: &RT,
     asked: Asked,
@@ -143,7 +136,6 @@ fn show<RT: Runtime + AllocGlobal + Threads + Wait + Sync>(
     }
 }
 
-// The subcommand.
 fn subcommand(asked: Asked) -> &'static str {
     match asked {
         Asked::Check => "check",
@@ -155,8 +147,8 @@ fn subcommand(asked: Asked) -> &'static str {
     }
 }
 
-// Whether a first part of a bundle is accepted. A migration accepts none, since it asks for no accepted plan. A
-// drive's bundle is not asked: its first part with fewer scripts may be accepted.
+// Whether a bundle's first part is accepted. Never for a migration, which needs no accepted plan, or a drive: a first
+// part with fewer scripts may be accepted.
 fn accepts(alloc: Global, asked: Asked, front: &[u8]) -> bool {
     match asked {
         Asked::Check => check_bundle(alloc, front).is_ok(),
@@ -167,7 +159,6 @@ fn accepts(alloc: Global, asked: Asked, front: &[u8]) -> bool {
     }
 }
 
-// Says how many first parts of the bundle are accepted, if some are.
 fn check_fronts<RT: Runtime + AllocGlobal>(rt: &RT, asked: Asked, path: &str) -> io::Result<()> {
     let bundle = fs::read(rt, path)?;
     let mut accepted = 0u64;
@@ -182,7 +173,6 @@ fn check_fronts<RT: Runtime + AllocGlobal>(rt: &RT, asked: Asked, path: &str) ->
     Ok(())
 }
 
-// Says of how many numbers of workers the check says otherwise than without, if it does of some.
 fn check_workers<RT: Runtime + AllocGlobal + Threads + Wait + Sync>(
     rt: &RT,
     path: &str,
@@ -200,7 +190,6 @@ fn check_workers<RT: Runtime + AllocGlobal + Threads + Wait + Sync>(
     Ok(())
 }
 
-// Says of how many histories of the play a replay says otherwise than it should, if it does of some.
 fn check_histories<RT: Runtime + AllocGlobal>(rt: &RT, path: &str, output: &str) -> io::Result<()> {
     let bundle = fs::read(rt, path)?;
     let text = str::from_utf8(bundle.as_slice()).unwrap_or("");
@@ -211,7 +200,6 @@ fn check_histories<RT: Runtime + AllocGlobal>(rt: &RT, path: &str, output: &str)
     Ok(())
 }
 
-// Says whether a replay says no to the history that the drive printed, if it does.
 fn check_drive<RT: Runtime + AllocGlobal>(rt: &RT, path: &str, output: &str) -> io::Result<()> {
     let bundle = fs::read(rt, path)?;
     let text = str::from_utf8(bundle.as_slice()).unwrap_or("");

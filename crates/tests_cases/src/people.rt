@@ -1,4 +1,4 @@
-//! What is printed for people.
+//! Output for people.
 
 use ringplan_command::{CommandLine, Request, parse};
 use ringplan_people::{Report, report_bundle};
@@ -6,7 +6,7 @@ use std::alloc::Global;
 use std::rt::Runtime;
 use std::{fs, io, str};
 
-/// Returns the command line that the word stands for. None if it names a bundle.
+/// Returns the word's command line. None if it names a bundle.
 pub fn words_of(word: &str) -> Option<&'static [&'static str]> {
     let words: &'static [&'static str] = match word {
         "why" => &["ringplan", "why"],
@@ -28,7 +28,7 @@ pub fn words_of(word: &str) -> Option<&'static [&'static str]> {
     Some(words)
 }
 
-// What is printed of the bundle, if memory is there and the words ask for a command for people.
+// The bundle's report, if memory suffices and the words are for people.
 fn report_of(alloc: Global, words: &[&str], bundle: &[u8]) -> Option<Report> {
     let CommandLine { request, .. } = parse(alloc, words);
     match request {
@@ -37,7 +37,7 @@ fn report_of(alloc: Global, words: &[&str], bundle: &[u8]) -> Option<Report> {
     }
 }
 
-/// Prints the command, the name of a bundle, what standard output and standard error have of it, and the exit status.
+/// Prints the command, a bundle's name, its standard output and error, and the exit status.
 pub fn show_report<RT: Runtime + AllocGlobal>(
     rt: &RT,
     words: &[&str],

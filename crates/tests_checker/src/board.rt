@@ -1,4 +1,4 @@
-//! The board: a step is claimed in turn, and two threads claim the same steps.
+//! The board: claims in turn, and by two threads at once.
 
 ghost use Rattle.std.specs.Prelude.{◌≡◌, true, is_some};
 
@@ -32,7 +32,6 @@ fn a_step_from_hand_to_hand(rt: HostRuntime) -> Result<(), Fail> {
     Ok(())
 }
 
-// Claims a step, and marks it done if that succeeds.
 fn took(board: &Board, seat: &mut Seat, step: u32) -> bool
     requires board { seat.old.board ≡ board.now.id }
     requires worker { is_some seat.old.worker ≡ true }

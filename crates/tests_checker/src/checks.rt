@@ -1,4 +1,4 @@
-//! The checker's parts on two moves, one after the other.
+//! The checker's parts on two successive moves.
 
 ghost use Rattle.plan_text.specs.Valid.{Suits};
 
@@ -75,7 +75,7 @@ fn partition(alloc: Global, ring: &Ring, plan: &Plan, cert: &[u8]) -> Result<(),
     partition_by(alloc, ring, plan, &cert)
 }
 
-// The copy from slot 1 needs the path from that slot's switch.
+// The copy from slot 1 needs the path from its switch.
 fn listed_copy<RT: AllocGlobal + Abort>(rt: &RT, ring: &Ring, plan: &Plan)
     requires { Suits ring.now plan.now }
 {
@@ -122,7 +122,7 @@ fn parties_of<RT: AllocGlobal + Abort>(rt: &RT, ring: &Ring, plan: &Plan) -> Res
     parties_are(rt, ring, plan, 3, &[])
 }
 
-// The slot went from b to d, and b still has its data.
+// The slot went from b, which still has its data, to d.
 fn is_moved<RT: Abort>(rt: &RT, stage: &Stage) {
     same!(rt; stage.owner, NodeId(3));
     same!(rt; stage.mirror, None);
@@ -181,7 +181,7 @@ fn nodes(alloc: Global, ring: &Ring, plan: &Plan, cert: &[u8]) -> Result<(), Ref
     nodes_by(alloc, ring, plan, &cert)
 }
 
-// Without the chain of d, no chain covers its copies.
+// No chain covers d's copies.
 const SHORT: &[u8] = b"cert 1\nfact 2 3 4 5\nchain b 2 5\nend\n";
 
 fn chains_needed<RT: AllocGlobal + Abort>(rt: &RT, ring: &Ring, plan: &Plan)

@@ -1,4 +1,4 @@
-//! Clocks and versions of three puts: two concurrent ones, and one of the same writers that has seen both.
+//! Clocks and versions of three puts: two concurrent ones, and one that has seen both.
 
 ghost use Rattle.std.specs.Prelude.{◌≡◌, ◌≢◌, [], IfOk, length};
 
@@ -94,7 +94,7 @@ pub fn listed(alloc: Global, set: &Versions) -> Result<Vec<Version>, Refusal> {
     Ok(out)
 }
 
-// Two concurrent versions stay; the third succeeds them, and they do not come back.
+// Two concurrent versions stay; the third succeeds both for good.
 fn merged<RT: Abort>(
     rt: &RT,
     alloc: Global,

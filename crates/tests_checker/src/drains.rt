@@ -10,21 +10,19 @@ use std::alloc::{AllocError, Global};
 use std::process::Abort;
 use std::test::Fail;
 
-// Nodes that leave, that stay, and that join.
 const LEAVERS: u32 = 5;
 
 const STAYERS: u32 = 30;
 
 const JOINERS: u32 = 100;
 
-// Leavers give one copy at a time.
 fn push_all_nodes(text: &mut Vec<u8>) -> Result<(), AllocError> {
     push_nodes(text, b"node l", 0, LEAVERS, &[b" 1 in\n"])?;
     push_nodes(text, b"node s", 0, STAYERS, &[b" 4 in\n"])?;
     push_nodes(text, b"node j", 0, JOINERS, &[b" 4 out\n"])
 }
 
-// Five slots are the leavers'; two belong to nodes that stay, in turn.
+// Five slots are the leavers'; two are staying nodes', in turn.
 fn push_row(text: &mut Vec<u8>, row: u32) -> Result<(), AllocError> {
     push_numbered(text, b"slots ", row)?;
     push_owners(text, b" l", row, LEAVERS, LEAVERS)?;
@@ -48,7 +46,7 @@ fn ring_text(alloc: Global, partitions: u32) -> Result<Vec<u8>, AllocError> {
     Ok(text)
 }
 
-// The copies need a quarter of the rounds that reading from the leavers would take.
+// Reading from the leavers would take four times as many rounds.
 fn is_quick<RT: AllocGlobal + Abort>(rt: &RT, plan: &Plan) -> Result<(), Fail> {
     same!(rt; moves(plan), 22_000);
     holds!(rt; !reads_owners(plan));
@@ -68,7 +66,6 @@ fn drain<RT: AllocGlobal + Abort>(rt: &RT, text: &[u8]) -> Result<(), Fail> {
     drained(rt, &ring)
 }
 
-// The most partitions of a ring.
 #[test]
 fn the_longest_drain(rt: HostRuntime) -> Result<(), Fail> {
     let text = ring_text(rt.alloc(), 4096)?;

@@ -1,4 +1,4 @@
-//! What a plan does: its moves, the final slots of each node, and the copies that must wait for one another.
+//! A plan's moves, final slots, and copies in a row.
 
 ghost use Rattle.std.specs.Prelude.{◌<◌};
 ghost use Rattle.plan_text.specs.Valid.{Suits};
@@ -41,7 +41,7 @@ pub fn nodes_from(alloc: Global, first: u32, count: u32) -> Result<Vec<NodeId>, 
     Ok(nodes)
 }
 
-/// Plans that the nodes below `leavers` leave, and `joiners` nodes join from number `first` on.
+/// Plans that nodes below `leavers` leave, and `joiners` nodes join from number `first` on.
 pub fn plan_of(
     alloc: Global,
     ring: &Ring,
@@ -54,7 +54,6 @@ pub fn plan_of(
     make(alloc, ring, joins.as_slice(), leaves.as_slice())
 }
 
-/// Divides and rounds up; 0 if the divisor is 0.
 fn parts(number: u32, size: u32) -> u32 {
     match number
         .saturating_add(size.saturating_sub(1))
@@ -101,7 +100,7 @@ fn count_row(
     Ok(())
 }
 
-/// Counts the slots of each node after the plan.
+/// Counts each node's slots after the plan.
 pub fn owned(alloc: Global, ring: &Ring, plan: &Plan) -> Result<Vec<u32>, Refusal> {
     let mut owned = zeros(alloc, ring.nodes().len())?;
     for partition in 0..ring.q() {
@@ -203,10 +202,9 @@ fn owned_below(row: &[NodeId], leavers: u32) -> u32 {
     owned
 }
 
-/// The fewest moves by which the nodes below `leavers` leave and each joiner gets `share` slots.
+/// The fewest moves by which nodes below `leavers` leave and each joiner gets `share` slots.
 ///
-/// They are the leavers' slots, and what joiners want besides. At most as many slots of a partition as joiners
-/// can go to joiners.
+/// They are the leavers' slots, and joiners' further wants. A joiner gets at most one slot of a partition.
 pub fn fewest_moves(ring: &Ring, leavers: u32, joiners: u32, share: u32) -> u32 {
     let mut left = 0u32;
     let mut kept = 0u32;

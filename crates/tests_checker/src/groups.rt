@@ -1,4 +1,4 @@
-//! Clocks of writers in different groups, whose entries are shared by groups.
+//! Clocks of writers in different groups, which share entries by group.
 
 use crate::clocks::{entry, raised};
 use crate::same::{holds, same};
@@ -22,7 +22,6 @@ fn clock_of(alloc: Global, writers: &[u32]) -> Result<Clock, Refusal> {
     raised_by(&Clock::new(alloc), writers)
 }
 
-// Both ways to list the entries give these.
 fn told<RT: Abort>(rt: &RT, alloc: Global, clock: &Clock, wanted: &[Entry]) -> Result<(), Fail> {
     same!(rt; clock.list(alloc)?.as_slice(), wanted);
     let mut walk = clock.entries();

@@ -1,5 +1,5 @@
-//! Tests the checker, the planner, and what they and the stores are made of, beyond contracts: calls succeed with
-//! enough memory, workers overlap, plans are good, texts and clocks are known ones. Nothing is exported.
+//! Tests checker, planner and their parts beyond contracts: calls succeed with enough memory, workers overlap, plans
+//! are good, texts and clocks are known.
 #![tactic(auto)]
 
 #[cfg(test)]

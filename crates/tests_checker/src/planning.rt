@@ -1,4 +1,4 @@
-//! Changes, and the plans made for them.
+//! Changes, and their plans.
 
 ghost use Rattle.plan_text.specs.Valid.{Suits};
 ghost use Rattle.change_text.specs.Valid.{IsChange};
@@ -108,7 +108,6 @@ fn owns(alloc: Global, ring: &Ring, plan: &Plan, node: NodeId) -> Result<u32, Re
     }
 }
 
-// By the plan d joins and owns slots, and b owns none and retires.
 fn exchanged<RT: AllocGlobal + Abort>(rt: &RT, ring: &Ring, plan: &Plan) -> Result<(), Fail> {
     holds!(rt; plan.is_joined(D));
     holds!(rt; plan.is_retired(B));
@@ -181,7 +180,6 @@ fn an_exchange_proposed(rt: HostRuntime) -> Result<(), Fail> {
     proposal_checked(&rt, text)
 }
 
-// The number of the refusal, or 0.
 fn refused(alloc: Global, ring: &Ring, joins: &[NodeId], leaves: &[NodeId]) -> u8 {
     match make(alloc, ring, joins, leaves) {
         Ok(_) => 0,
@@ -204,13 +202,13 @@ fn too_few_members_left(rt: HostRuntime) -> Result<(), Fail> {
 
 // ---- plans for many changes
 
-// A ring of `members`, then nodes that join; the first members leave.
+// A ring of `members`, then joiners; the first members leave.
 #[derive(Clone, Copy)]
 struct Case {
     format: u32,
     partitions: u32,
     slots: u32,
-    // the read and write quorums, and in format 3 the allowed losses
+    // read and write quorums, and in format 3 allowed losses
     quorum: &'static str,
     allowance: &'static str,
     members: u32,
@@ -218,7 +216,6 @@ struct Case {
     leaves: u32,
 }
 
-// A case of format 1 with three slots in a partition.
 fn plain(partitions: u32, allowance: &'static str, members: u32, joins: u32, leaves: u32) -> Case {
     Case {
         format: 1,
@@ -282,7 +279,6 @@ fn ring_text(alloc: Global, case: &Case) -> Result<Vec<u8>, AllocError> {
     Ok(text)
 }
 
-// Each joiner's share of all slots, rounded down.
 fn share(case: &Case) -> u32 {
     let after = case
         .members
@@ -300,7 +296,6 @@ fn moves_least<RT: Abort>(rt: &RT, case: &Case, ring: &Ring, plan: &Plan) {
     same!(rt; moves(plan), fewest);
 }
 
-// Each joiner owns its share, and no leaver owns a slot.
 fn are_shares<RT: Abort>(rt: &RT, case: &Case, owned: &[u32]) {
     let mut node = 0u32;
     for count in owned {
@@ -325,7 +320,7 @@ fn spreads<RT: AllocGlobal + Abort>(
     Ok(())
 }
 
-// No more copies wait for one another than allowances demand, or half as many again with listed slots.
+// No more copies in a row than allowances demand, or half as many again with listed slots.
 fn hurries<RT: AllocGlobal + Abort>(rt: &RT, ring: &Ring, plan: &Plan) -> Result<(), Fail>
     requires { Suits ring.now plan.now }
 {

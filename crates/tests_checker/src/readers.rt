@@ -1,4 +1,4 @@
-//! Texts are written as read, and have limits.
+//! Texts are written as read, within limits.
 
 ghost use Rattle.std.specs.Prelude.{◌≡◌, []};
 
@@ -14,7 +14,7 @@ use std::test::Fail;
 pub const RING: &[u8] =
     b"ring 1\nspace 4\nquorum 3 2 2\nnode a 4 in\nnode b 1 in\nnode c 4 in\nnode d 4 out\nslots 0 a b c\nslots 1 a b c\nslots 2 a b c\nslots 3 a b c\nend\n";
 
-// Moves slot 1 of two partitions from b to d, one after the other.
+// Moves slot 1 of two partitions from b to d, in turn.
 const TWO_MOVES: &[u8] =
     b"plan 1\njoin d\nmirror 0 1 d after 0\ncopy 0 1 owner after 1\nswitch 0 1 after 2\nmirror 1 1 d after 0 3\ncopy 1 1 owner after 4\nswitch 1 1 after 5\nend\n";
 
@@ -121,7 +121,6 @@ fn split_certificates_written(rt: HostRuntime) -> Result<(), Fail> {
     certs_written(&rt, &ring, &SPLIT_CERTS)
 }
 
-// A text of the first line, `count` times the line, and `end`.
 fn lines_of(alloc: Global, first: &[u8], line: &[u8], count: u32) -> Result<Vec<u8>, AllocError> {
     let mut text = Vec::from_slice(alloc, first)?;
     for _ in 0..count {
@@ -137,7 +136,6 @@ fn steps_read(alloc: Global, ring: &Ring, count: u32) -> Result<u32, Refusal> {
     Ok(plan.len())
 }
 
-// As many steps as a plan may have, and one more.
 #[test]
 fn longest_plans(rt: HostRuntime) -> Result<(), Fail> {
     let ring = read_ring(rt.alloc(), RING)?;
@@ -146,7 +144,6 @@ fn longest_plans(rt: HostRuntime) -> Result<(), Fail> {
     Ok(())
 }
 
-// The numbers of facts and chains of a certificate, or the refusal.
 fn sizes(alloc: Global, ring: &Ring, text: &[u8]) -> Result<(usize, usize), Refusal> {
     let cert = read_cert(alloc, ring, text)?;
     Ok((cert.facts.len(), cert.chains.len()))
@@ -162,7 +159,6 @@ fn sizes_of(
     sizes(alloc, ring, text.as_slice())
 }
 
-// As many facts and chains as a certificate may have, and one more.
 fn most_lines<RT: AllocGlobal + Abort>(rt: &RT, ring: &Ring) {
     let fact = b"fact 0 1\n";
     let chain = b"chain a 0\n";
@@ -193,7 +189,6 @@ fn fact_sizes(alloc: Global, ring: &Ring, count: u32) -> Result<(usize, usize), 
     sizes(alloc, ring, text.as_slice())
 }
 
-// As many steps as a fact may have, and one more.
 fn longest_facts<RT: AllocGlobal + Abort>(rt: &RT, ring: &Ring) {
     same!(rt; fact_sizes(rt.alloc(), ring, 1_024), Ok((1, 0)));
     same!(rt; fact_sizes(rt.alloc(), ring, 1_025), Err(Refusal::TooLarge(2)));
@@ -223,7 +218,7 @@ fn chains_kept(rt: HostRuntime) -> Result<(), Fail> {
     kept(&rt, &mut chains)
 }
 
-// A certificate with a chain of a node that the ring does not have.
+// A certificate with an unknown node's chain.
 fn strange_cert(alloc: Global) -> Result<Cert, Refusal> {
     let mut chains = Chains::new(alloc);
     chains.push(side_of(4, Side::Both), &[2])?;

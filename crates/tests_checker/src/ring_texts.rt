@@ -1,4 +1,4 @@
-//! Texts of rings with many nodes, named by a word and a number.
+//! Ring texts with many nodes, named by a word and a number.
 
 use ring_names::push_decimal;
 use std::alloc::AllocError;
@@ -9,7 +9,7 @@ pub fn push_numbered(text: &mut Vec<u8>, word: &[u8], number: u32) -> Result<(),
     push_decimal(text, number)
 }
 
-/// Adds a line for each node from `first` up to `end`.
+/// Adds lines of nodes from `first` to before `end`.
 pub fn push_nodes(
     text: &mut Vec<u8>,
     word: &[u8],
@@ -31,7 +31,7 @@ fn push_all(text: &mut Vec<u8>, parts: &[&[u8]]) -> Result<(), AllocError> {
     Ok(())
 }
 
-/// Adds owners: the nodes below `nodes` in turn, from `first` on.
+/// Adds owners: nodes below `nodes` in turn, from `first` on.
 pub fn push_owners(
     text: &mut Vec<u8>,
     word: &[u8],

@@ -1,4 +1,4 @@
-//! A ring of four nodes, a plan of two moves, and how many steps the checker approves.
+//! A ring of four nodes, a plan of two moves, and its approved steps.
 
 ghost use Rattle.std.specs.Prelude.{IfOk};
 ghost use Rattle.plan_text.specs.Valid.{Suits};
@@ -13,11 +13,11 @@ use std::alloc::Global;
 pub const RING: &[u8] =
     b"ring 1\nspace 4\nquorum 3 2 2\nnode a 4 in\nnode b 1 in\nnode c 4 in\nnode d 4 out\nslots 0 a b c\nslots 1 a b c\nslots 2 a b c\nslots 3 a b c\nend\n";
 
-// Moves slot 1 of two partitions from b to d, one after the other.
+// Moves slot 1 of two partitions from b to d, in turn.
 const TWO_MOVES: &[u8] =
     b"plan 1\njoin d\nmirror 0 1 d after 0\ncopy 0 1 owner after 1\nswitch 0 1 after 2\nmirror 1 1 d after 0 3\ncopy 1 1 owner after 4\nswitch 1 1 after 5\nend\n";
 
-// Texts are read only here: readers ensure much, which tests that own the result do not need.
+// Texts are read only here: readers ensure much that tests with the result do not need.
 
 pub fn ring_from(alloc: Global, text: &[u8]) -> Result<Ring, Refusal> {
     read_ring(alloc, text)
@@ -39,7 +39,7 @@ pub fn two_moves(alloc: Global, ring: &Ring) -> Result<Plan, Refusal>
     plan_from(alloc, ring, TWO_MOVES)
 }
 
-/// Checks the plan. Returns the number of its steps.
+/// Checks the plan. Returns its number of steps.
 pub fn approved(alloc: Global, ring: Ring, plan: Plan, cert: &Cert) -> Result<u32, Refusal>
     requires { Suits ring plan }
 {

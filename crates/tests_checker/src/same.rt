@@ -1,9 +1,9 @@
-//! Assertions by call: `assert!` and `assert_eq!` are proved again wherever they are written.
+//! Assertions by call: `assert!` and `assert_eq!` are proved again at each place.
 
 use std::fmt::Debug;
 use std::process::Abort;
 
-/// Fails with both values, and the text of the question, if they differ.
+/// Fails with both values and the asked text, if they differ.
 pub fn is_wanted<RT: Abort, T: Debug + PartialEq + Drop>(
     rt: &RT,
     asked: &str,

@@ -1,4 +1,4 @@
-//! What a running store keeps of nodes, steps, slots, keys, puts and gets: calls succeed with enough memory.
+//! What a running store keeps of nodes, steps, slots, keys, puts and gets.
 
 use crate::rings::{RING, ring_from};
 use crate::same::{holds, same};
@@ -44,7 +44,7 @@ fn parts_at_the_start(rt: HostRuntime) -> Result<(), Fail> {
     started(&rt, &ring)
 }
 
-// The key has that number, also if it was added before.
+// The key has that number, also if added before.
 fn key_is<RT: Abort>(rt: &RT, keys: &mut Keys, key: &[u8], number: usize) -> Result<(), Fail> {
     let added = keys.add(key)?;
     same!(rt; added, number);

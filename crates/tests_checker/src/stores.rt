@@ -1,4 +1,4 @@
-//! What nodes store and keep: calls succeed with enough memory.
+//! What nodes store and keep.
 
 ghost use Rattle.std.specs.Prelude.{◌≢◌, ◌<◌, [], IfOk};
 ghost use Rattle.ring_store.specs.Stores.{shared_space};
@@ -102,7 +102,6 @@ fn keepers_of_slots(rt: HostRuntime) -> Result<(), Fail> {
     kept(&rt, &mut pairs, &mut sets)
 }
 
-// One of many different pairs.
 fn numbered(number: u32) -> KeptFor {
     let slot = Slot {
         partition: number / 50,
@@ -114,7 +113,6 @@ fn numbered(number: u32) -> KeptFor {
     }
 }
 
-// The pairs are as in a plain list, and there are no others.
 fn stand_as<RT: Abort>(rt: &RT, pairs: &Pairs, list: &[KeptFor]) {
     for number in 0..3000u32 {
         same!(rt; pairs.nth(number), list.get(number as usize).copied());
@@ -129,7 +127,6 @@ fn take_from_both<RT: Abort>(rt: &RT, pairs: &mut Pairs, list: &mut Vec<KeptFor>
     }
 }
 
-// Appends a pair to both, unless present.
 fn add_to_both(pairs: &mut Pairs, list: &mut Vec<KeptFor>, pair: KeptFor) -> Result<(), Fail> {
     if !list.contains(&pair) {
         list.push(pair)?;
@@ -177,7 +174,7 @@ fn versions_of<RT: Abort>(rt: &RT, stores: &Stores, node: NodeId, count: usize) 
     same!(rt; found, count);
 }
 
-// Copies a chunk of one key from the first node to the second; then one of them gets another version, which the other lacks.
+// Copies a one-key chunk between nodes; then one of them gets another version.
 fn copied_apart<RT: Abort>(
     rt: &RT,
     stores: &mut Stores,
@@ -206,7 +203,7 @@ fn copies_of_chunks(rt: HostRuntime) -> Result<(), Fail> {
     copied_apart(&rt, &mut second, &set, &more, NodeId(1), NodeId(0))
 }
 
-// The second node gets the key with its slot or with its chunk, and loses it each time.
+// The second node gets the key with its slot or chunk, and loses it each time.
 fn given<RT: Abort>(rt: &RT, stores: &mut Stores, map: &SlotMap) -> Result<(), Fail>
     requires { 0 < shared_space stores.old }
 {
@@ -241,7 +238,7 @@ fn kept_by<RT: Abort>(rt: &RT, hints: &Hints, count: usize) {
     same!(rt; found, count);
 }
 
-// What one node keeps reads the same on every way to it.
+// What a node keeps reads the same in every way.
 fn kept_for<RT: Abort>(rt: &RT, hints: &Hints, pair: KeptFor) {
     kept_by(rt, hints, 1);
     holds!(rt; hints.keeps(pair.keeper, pair.slot));

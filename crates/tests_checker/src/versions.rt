@@ -1,5 +1,5 @@
-//! Sets of hundreds of concurrent versions with large shared clocks, merged with themselves, with newer ones and with
-//! ancestors. A walk over all pairs, by the writers' own counters, says what must stay.
+//! Merges of hundreds of concurrent versions with large shared clocks: with themselves, newer ones and ancestors. A
+//! walk over all pairs, by writers' own counters, says what must stay.
 
 use crate::clocks::{listed, raised, set_of};
 use ring_clock::Clock;
@@ -13,7 +13,7 @@ const SHARED: u32 = 500;
 
 const MANY: u32 = 600;
 
-// The clock of puts by many writers with odd numbers.
+// A clock of many writers with odd numbers.
 fn shared(alloc: Global) -> Result<Clock, Refusal> {
     let mut clock = Clock::new(alloc);
     for place in 0..SHARED {
@@ -22,7 +22,7 @@ fn shared(alloc: Global) -> Result<Clock, Refusal> {
     Ok(clock)
 }
 
-// A version by each of many writers with even numbers, who have seen the same, and are concurrent.
+// Concurrent versions by many writers with even numbers, who have seen the same.
 fn in_conflict(alloc: Global) -> Result<Versions, Refusal> {
     let seen = shared(alloc)?;
     let mut set = Versions::new(alloc);
@@ -33,7 +33,7 @@ fn in_conflict(alloc: Global) -> Result<Versions, Refusal> {
     Ok(set)
 }
 
-// The clock of a put after the version, by its writer, or by another that has seen the first too; none for each third.
+// A later clock by the version's writer, or by one who has seen the first too; none for each third.
 fn after(version: &Version, first: &Version) -> Result<Option<Clock>, Refusal> {
     match version.put % 3 {
         0 => Ok(Some(raised(&version.clock, version.clock.own().0)?)),
@@ -76,7 +76,7 @@ fn push_unseen(
     Ok(())
 }
 
-// The puts of both sets that no other one has seen.
+// The puts of both sets that no other has seen.
 fn unseen(alloc: Global, first: &[Version], second: &[Version]) -> Result<Vec<u32>, AllocError> {
     let mut puts = Vec::new(alloc);
     push_unseen(&mut puts, first, second)?;

@@ -1,4 +1,4 @@
-//! Wishes, and how good their owners are: moves, partitions with two slots in one rack, and balance.
+//! Wishes: their moves, partitions with two slots in one rack, and balance.
 
 use crate::ring_texts::{push_nodes, push_numbered, push_owners};
 use crate::rings::ring_from;
@@ -10,10 +10,10 @@ use std::alloc::{AllocError, Global};
 use std::process::Abort;
 use std::test::Fail;
 
-// The nodes in three racks by turns.
+// Nodes in three racks by turns.
 const RACKS: [u32; 14] = [0, 1, 2, 0, 1, 2, 0, 1, 2, 0, 1, 2, 0, 1];
 
-// A wish with these racks: no changes, equal weights.
+// Only racks: no changes, equal weights.
 fn racked(racks: &[u32]) -> WishedChange<'_> {
     WishedChange {
         joins: &[],
@@ -36,7 +36,7 @@ fn push_rows(text: &mut Vec<u8>) -> Result<(), AllocError> {
     text.extend_from_slice(b"end\n")
 }
 
-// 64 partitions with three slots: twelve members with 16 slots each, and two other nodes.
+// 64 partitions of three slots: twelve members with 16 each, and two other nodes.
 fn twelve(alloc: Global) -> Result<Ring, Refusal> {
     let mut text = Vec::from_slice(alloc, b"ring 1\nspace 64\nquorum 3 2 2\n")?;
     push_nodes(&mut text, b"node n", 0, 12, &[b" 4 in\n"])?;
@@ -91,7 +91,6 @@ fn load(rows: &[Listed<NodeId>], node: NodeId) -> u32 {
     load
 }
 
-// The fewest and the most slots of the final members.
 fn least_and_most(ring: &Ring, wish: &WishedChange, rows: &[Listed<NodeId>]) -> (u32, u32) {
     let (mut least, mut most) = (u32::MAX, 0u32);
     for number in 0..14u32 {
@@ -105,7 +104,7 @@ fn least_and_most(ring: &Ring, wish: &WishedChange, rows: &[Listed<NodeId>]) -> 
     (least, most)
 }
 
-// Checks the moves, the partitions with two slots in one rack, and the fewest and the most slots of a member.
+// Checks moves, partitions with two slots in one rack, and members' fewest and most slots.
 fn comes_to<RT: AllocGlobal + Abort>(
     rt: &RT,
     wish: &WishedChange,
@@ -126,7 +125,7 @@ fn is_refused<RT: AllocGlobal + Abort>(rt: &RT, wish: &WishedChange) -> Result<(
     Ok(())
 }
 
-// Two joiners take their parts, 13 slots each, and no partition gets two in one rack.
+// Both take their parts, 13 slots each; no partition gets two in one rack.
 #[test]
 fn two_join_apart(rt: HostRuntime) -> Result<(), Fail> {
     let wish = WishedChange {
@@ -146,7 +145,7 @@ fn one_leaves_its_rack(rt: HostRuntime) -> Result<(), Fail> {
     comes_to(&rt, &wish, (16, 0), (16, 22))
 }
 
-// Two joiners take all that two leavers had, each in its rack.
+// Joiners take the leavers' slots, each in its rack.
 #[test]
 fn two_for_two(rt: HostRuntime) -> Result<(), Fail> {
     let wish = WishedChange {
@@ -157,8 +156,8 @@ fn two_for_two(rt: HostRuntime) -> Result<(), Fail> {
     comes_to(&rt, &wish, (32, 0), (16, 16))
 }
 
-// Half of the partitions have no keys: two joiners take six slots each of the others, as their shares are 96 by 14.
-// Only their racks give.
+// Half of the partitions have no keys: joiners take six slots each of the others, as their shares are 96 by 14. Only
+// their racks give.
 #[test]
 fn two_join_by_size(rt: HostRuntime) -> Result<(), Fail> {
     let mut sizes = [0u64; 64];
@@ -173,7 +172,7 @@ fn two_join_by_size(rt: HostRuntime) -> Result<(), Fail> {
     comes_to(&rt, &wish, (12, 0), (6, 16))
 }
 
-// With two racks, each partition has two slots in one rack; a third one there moves.
+// Each partition has two slots in one rack; a third one there moves.
 #[test]
 fn two_racks_shared(rt: HostRuntime) -> Result<(), Fail> {
     let wish = racked(&[0, 0, 0, 0, 0, 0, 1, 1, 1, 1, 1, 1]);
@@ -187,7 +186,7 @@ fn racks_mended(rt: HostRuntime) -> Result<(), Fail> {
     comes_to(&rt, &wish, (96, 0), (16, 16))
 }
 
-// Weight 3 takes three times as much as weight 1.
+// Weight 3 takes three times as much as 1.
 #[test]
 fn weight_taken(rt: HostRuntime) -> Result<(), Fail> {
     let wish = WishedChange {

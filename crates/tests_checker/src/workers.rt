@@ -1,4 +1,4 @@
-//! The check by workers: they overlap, and a gate can stop one.
+//! Checks by workers: they overlap, and a gate can stop one.
 
 ghost use Rattle.plan_text.specs.Valid.{Suits};
 
@@ -97,7 +97,7 @@ fn moves<RT: AllocGlobal + Threads + Wait + Sync>(
     moves_by(rt, workers, gate, ring, &cert)
 }
 
-// Checks the two moves by workers, with a gate that waits for `awaited` of them.
+// With a gate that awaits `awaited` workers.
 fn whole<RT: AllocGlobal + Threads + Wait + Sync>(
     rt: &RT,
     workers: u32,

@@ -3,7 +3,7 @@
 use plan_runs::Reply;
 use ring_names::{Refusal, push_decimal};
 
-/// The line of a reply, or of a refusal, behind the event's place.
+/// The line of a reply or refusal, after the event's place.
 pub fn push_answer(
     out: &mut Vec<u8>,
     place: u32,
@@ -21,7 +21,7 @@ pub fn push_answer(
     Ok(())
 }
 
-/// A line that says so where the marks of a store before and behind what changes nothing are not the same.
+/// Adds a line if something changed although nothing should.
 pub fn push_changed(out: &mut Vec<u8>, before: u64, behind: u64) -> Result<(), Refusal> {
     if before != behind {
         out.extend_from_slice(b"changed\n")?;
@@ -29,7 +29,7 @@ pub fn push_changed(out: &mut Vec<u8>, before: u64, behind: u64) -> Result<(), R
     Ok(())
 }
 
-/// A line that says whether the two marks are the same.
+/// A line that says whether the marks are equal.
 pub fn push_same(out: &mut Vec<u8>, one: u64, other: u64) -> Result<(), Refusal> {
     let text: &[u8] = if one == other {
         b"the same\n"

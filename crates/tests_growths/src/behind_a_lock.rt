@@ -1,4 +1,4 @@
-//! What a store behind a lock answers.
+//! A locked store.
 
 ghost use Rattle.std.specs.Prelude.{◌≡◌, ◌<◌, ◌≤◌, length};
 
@@ -12,7 +12,7 @@ use std::alloc::AllocGlobal;
 use std::sync::Wait;
 use std::sync::ledger::Blank;
 
-/// What the events are answered by a store behind a lock, one line each.
+/// A locked store's answers to the events, one line each.
 pub fn submitted_answers<L: RunLedger, R: AllocGlobal + Wait>(
     rt: &R,
     blank: Blank,
@@ -49,8 +49,6 @@ fn push_answers<'a, L: RunLedger, R: Wait>(
     Ok(())
 }
 
-// The answer to an event, which is submitted again if memory was refused. Prints that something changed by the
-// refusal, if it did.
 fn answer<'a, L: RunLedger, R: Wait>(
     rt: &R,
     executor: &Executor<'a, L>,
@@ -78,7 +76,7 @@ fn reply<'a, L: RunLedger, R: Wait>(
     Ok(receipt.reply)
 }
 
-// A mark of what is told of the store from outside the lock.
+// A mark of what the lock tells of the store.
 fn mark_of<'a, L: RunLedger, R: Wait>(rt: &R, executor: &Executor<'a, L>, share: &Share<L>) -> u64 {
     let counts = mixed(mixed(NONE, share.count()), executor.left(rt) as u64);
     let mut mark = mixed(counts, step(executor.ready(rt, 0)));

@@ -1,4 +1,4 @@
-//! What a store with its history answers, and the store behind such a history.
+//! A store with its history.
 
 ghost use Rattle.std.specs.Prelude.{◌≡◌, ◌<◌, ◌≤◌, length};
 
@@ -11,14 +11,14 @@ use ring_names::Refusal;
 use std::alloc::Global;
 use std::sync::ledger::Blank;
 
-/// What was played: the history, and the mark of the store behind it.
+/// The history, and its store's mark.
 #[derive(Drop)]
 pub struct Played {
     pub entries: Vec<Entry>,
     pub mark: u64,
 }
 
-/// What the events are answered by a store with its history, one line each.
+/// The answers of a store with its history, one line each.
 pub fn ledgered_answers<L: RunLedger>(
     alloc: Global,
     blank: Blank,
@@ -40,7 +40,7 @@ pub fn ledgered_answers<L: RunLedger>(
     Ok(Played { entries, mark })
 }
 
-/// The mark of the store behind a history.
+/// The mark of a history's store.
 pub fn restored<L: RunLedger>(
     alloc: Global,
     blank: Blank,
@@ -57,7 +57,7 @@ pub fn restored<L: RunLedger>(
     mark_of(&ledgered, &share)
 }
 
-// The lines, and the mark behind the last event.
+// The lines, and the last mark.
 fn push_answers<'a, L: RunLedger>(
     ledgered: &mut Ledgered<'a, L>,
     share: &mut Share<L>,
@@ -73,8 +73,6 @@ fn push_answers<'a, L: RunLedger>(
     mark_of(ledgered, share)
 }
 
-// The answer to an event, which is applied again if memory was refused. Prints that something changed by the
-// refusal, if it did.
 fn answer<'a, L: RunLedger>(
     ledgered: &mut Ledgered<'a, L>,
     share: &mut Share<L>,
@@ -100,7 +98,7 @@ fn reply<'a, L: RunLedger>(
     Ok(receipt.reply)
 }
 
-// The mark of the store, with how many events the history has and how many the share counts.
+// The store's mark, with the history's and the share's counts of events.
 fn mark_of<'a, L: RunLedger>(ledgered: &Ledgered<'a, L>, share: &Share<L>) -> Result<u64, Refusal> {
     let counted = mixed(mark(ledgered.world())?, share.count());
     Ok(mixed(counted, ledgered.entries().len() as u64))

@@ -1,8 +1,8 @@
-//! Plays the script of a bundle on standard input by a store, by a store with its history and by a locked one.
-//! Also restores the store from that history. Prints the replies.
+//! Plays the script of a bundle on standard input by a store, by a store with its history and by a locked one. Also
+//! restores the store from that history. Prints the replies.
 //!
-//! What is refused for memory is tried again. A line says so if the refusal changed anything. So the output is
-//! the same, whichever growth was refused.
+//! Tries again what is refused for memory. A line says if the refusal changed anything. So the output is the same,
+//! whichever growth was refused.
 #![tactic(auto)]
 
 ghost use Rattle.std.specs.Prelude.{◌≡◌, ◌<◌, ◌≤◌, length};
@@ -37,7 +37,6 @@ fn main(rt: HostRuntime) -> io::Result<()> {
     }
 }
 
-// What the events of the bundle's script are answered.
 fn played<R: AllocGlobal + Wait>(rt: &R, bytes: &[u8]) -> Result<Vec<u8>, Refusal> {
     let alloc = rt.alloc();
     let bundle = read_bundle(alloc, Kind::Play, bytes)?;
@@ -47,8 +46,6 @@ fn played<R: AllocGlobal + Wait>(rt: &R, bytes: &[u8]) -> Result<Vec<u8>, Refusa
     }
 }
 
-// What each of the stores answers to the events, and whether the restored store is as the one with this
-// history.
 fn by_each<R: AllocGlobal + Wait>(
     rt: &R,
     approved: &Approved,
@@ -64,7 +61,6 @@ fn by_each<R: AllocGlobal + Wait>(
     Ok(out)
 }
 
-// Whether the store behind the history is as the one that has it. If memory was refused, it is restored again.
 fn push_restored(
     alloc: Global,
     approved: &Approved,
@@ -79,7 +75,6 @@ fn push_restored(
     push_same(out, played.mark, marked)
 }
 
-// The mark of the store behind the history.
 fn restored_mark(alloc: Global, approved: &Approved, entries: &[Entry]) -> Result<u64, Refusal> {
     restored::<Brand>(alloc, Blank::new(1), approved, entries)
 }

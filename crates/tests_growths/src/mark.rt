@@ -1,4 +1,4 @@
-//! A number made of all that a store tells of itself.
+//! Marks: numbers made of all that a store tells.
 
 use ring_core::World;
 use ring_names::{NodeId, Refusal};
@@ -6,12 +6,11 @@ use ring_names::{NodeId, Refusal};
 /// The mark of nothing.
 pub const NONE: u64 = 14_695_981_039_346_656_037;
 
-/// A mark with one more number (FNV-1a, by numbers for bytes).
+/// A mark with another number (FNV-1a, by numbers for bytes).
 pub fn mixed(mark: u64, number: u64) -> u64 {
     (mark ^ number).wrapping_mul(1_099_511_628_211)
 }
 
-// With the slots that hold each put.
 fn with_puts(world: &World, mark: u64) -> u64 {
     let mut mark = mark;
     for put in 0..world.puts() {
@@ -20,7 +19,6 @@ fn with_puts(world: &World, mark: u64) -> u64 {
     mark
 }
 
-// With the transfers that are open at each of the first eight nodes.
 fn with_transfers(world: &World, mark: u64) -> u64 {
     let mut mark = mark;
     for number in 0..8 {
@@ -32,7 +30,6 @@ fn with_transfers(world: &World, mark: u64) -> u64 {
     mark
 }
 
-// With the first sixteen nodes and slots for which something is kept.
 fn with_hints(world: &World, mark: u64) -> u64 {
     let mut mark = mark;
     for n in 0..16 {
@@ -45,7 +42,6 @@ fn with_hints(world: &World, mark: u64) -> u64 {
     mark
 }
 
-// With the owners of the slots.
 fn with_owners(world: &World, mark: u64) -> Result<u64, Refusal> {
     let table = world.table()?;
     let mut mark = mark;
@@ -57,7 +53,7 @@ fn with_owners(world: &World, mark: u64) -> Result<u64, Refusal> {
     Ok(mark)
 }
 
-/// The mark of a store: its puts, gets, steps, hints and open transfers, the slots that hold each put, and its table.
+/// A store's mark: puts, gets, steps, hints and open transfers, the slots of each put, and the table.
 pub fn mark(world: &World) -> Result<u64, Refusal> {
     let counts = mixed(mixed(NONE, world.puts() as u64), world.gets() as u64);
     let steps = mixed(mixed(counts, world.left() as u64), step(world.ready(0)));
@@ -67,7 +63,7 @@ pub fn mark(world: &World) -> Result<u64, Refusal> {
     )
 }
 
-/// The number of a step, or one that no step has.
+/// The step's number, or one that no step has.
 pub fn step(step: Option<u32>) -> u64 {
     match step {
         Some(step) => step as u64,

@@ -1,4 +1,4 @@
-//! What a store answers.
+//! A store's answers.
 
 ghost use Rattle.std.specs.Prelude.{◌≤◌, length};
 
@@ -10,10 +10,10 @@ use ring_core::World;
 use ring_names::Refusal;
 use std::alloc::Global;
 
-// The most puts and gets of a script.
+// A script's most puts and gets.
 const MOST: u32 = 1000;
 
-/// What the events are answered by a store, one line each.
+/// A store's answers to the events, one line each.
 pub fn answers(
     alloc: Global,
     approved: &Approved,
@@ -36,8 +36,6 @@ fn push_answers(world: &mut World, events: &[Event], out: &mut Vec<u8>) -> Resul
     Ok(())
 }
 
-// The answer to an event, which is applied again if memory was refused. Prints that the store changed by the
-// refusal, if it did.
 fn answer(
     world: &mut World,
     event: &Event,

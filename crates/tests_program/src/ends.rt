@@ -26,7 +26,7 @@ const DRIVE: &[u8] =
 // More than any of these runs makes.
 const MANY: usize = 4096;
 
-// A run that reads 16 bytes a call, and how many reads it made.
+// The reads of a run that reads 16 bytes a call.
 fn reads_of<RT: AllocGlobal + Files + Eprint + Threads + Wait + Sync + Abort>(
     rt: &RT,
     word: &str,
@@ -49,13 +49,11 @@ fn reads_of<RT: AllocGlobal + Files + Eprint + Threads + Wait + Sync + Abort>(
     MANY.saturating_sub(input.calls)
 }
 
-// The run ended with 3 and printed the text.
 fn failed<RT: Abort>(rt: &RT, ended: u8, shown: &[u8], text: &[u8]) {
     assert_eq!(rt; ended, 3);
     assert_eq!(rt; shown, text);
 }
 
-// Each read of the bundle fails in turn.
 fn reads_fail<RT: AllocGlobal + Files + Eprint + Threads + Wait + Sync + Abort>(
     rt: &RT,
     word: &str,
@@ -91,7 +89,6 @@ fn each_read_fails(rt: HostRuntime) {
     reads_fail(&rt, "migrate", CHECK);
 }
 
-// A run with this input, to this output.
 fn written<RT: AllocGlobal + Files + Eprint + Threads + Wait + Sync + Abort>(
     rt: &RT,
     word: &str,
@@ -106,7 +103,7 @@ fn written<RT: AllocGlobal + Files + Eprint + Threads + Wait + Sync + Abort>(
     run(rt, Screen::Plain, &["ringplan", word], &mut input, output)
 }
 
-// What the whole output is if a write takes a byte, and that the last call is not a write.
+// The whole output if a write takes one byte. The last call is not a write.
 fn output_of<RT: AllocGlobal + Files + Eprint + Threads + Wait + Sync + Abort>(
     rt: &RT,
     word: &str,
@@ -119,14 +116,13 @@ fn output_of<RT: AllocGlobal + Files + Eprint + Threads + Wait + Sync + Abort>(
     output.bytes
 }
 
-// The run ended with 3 and printed so much of the text.
 fn broke_off<RT: Abort>(rt: &RT, ended: u8, shown: &[u8], text: &[u8], count: usize) {
     assert_eq!(rt; ended, 3);
     assert_eq!(rt; shown.len(), count);
     assert!(rt; text.starts_with(shown));
 }
 
-// The call behind so many writes of a byte each fails, a write or the flush behind the last one.
+// The call after so many one-byte writes fails, a write or the final flush.
 fn call_fails<RT: AllocGlobal + Files + Eprint + Threads + Wait + Sync + Abort>(
     rt: &RT,
     word: &str,
@@ -139,7 +135,7 @@ fn call_fails<RT: AllocGlobal + Files + Eprint + Threads + Wait + Sync + Abort>(
     broke_off(rt, ended, output.bytes.as_slice(), text, calls);
 }
 
-// Each write fails in turn, and the flush behind them.
+// Each write and the final flush fail in turn.
 fn writes_fail<RT: AllocGlobal + Files + Eprint + Threads + Wait + Sync + Abort>(
     rt: &RT,
     word: &str,
@@ -152,7 +148,7 @@ fn writes_fail<RT: AllocGlobal + Files + Eprint + Threads + Wait + Sync + Abort>
     call_fails(rt, word, bundle, text, text.len());
 }
 
-// Each write but the first ones takes nothing, in turn: so much is out, and no further call is made.
+// Each write but the first ones takes nothing, in turn: so much is out, and no call follows.
 fn writes_take_nothing<RT: AllocGlobal + Files + Eprint + Threads + Wait + Sync + Abort>(
     rt: &RT,
     word: &str,
@@ -167,7 +163,6 @@ fn writes_take_nothing<RT: AllocGlobal + Files + Eprint + Threads + Wait + Sync 
     }
 }
 
-// Each write of the run fails in turn, or takes nothing.
 fn ends_fail<RT: AllocGlobal + Files + Eprint + Threads + Wait + Sync + Abort>(
     rt: &RT,
     word: &str,
@@ -188,10 +183,9 @@ fn each_write_fails(rt: HostRuntime) {
     ends_fail(&rt, "migrate", CHECK);
 }
 
-// A ring of one node, and a change that changes nothing.
 const REST: &[u8] = b"ring 1\nspace 1\nquorum 1 1 1\nnode a 1 in\nslots 0 a\nend\nchange 1\nend\n";
 
-// A goal whose status tells whether its plan has steps ends with that status.
+// A goal ends with the status that tells whether its plan has steps.
 fn goal_ends<RT: AllocGlobal + Files + Eprint + Threads + Wait + Sync + Abort>(
     rt: &RT,
     bundle: &[u8],

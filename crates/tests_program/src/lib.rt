@@ -1,4 +1,4 @@
-//! Tests of what no contract says, of the program: command lines, texts that are printed, and readers and writers that fail. Nothing is exported.
+//! Tests the program beyond contracts: command lines, printed texts, and failing readers and writers.
 #![tactic(auto)]
 
 #[cfg(test)]

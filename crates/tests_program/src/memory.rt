@@ -1,4 +1,4 @@
-//! A reader and a writer over memory, which can fail at a call and can take few bytes at a time.
+//! A reader and a writer over memory that can fail, or take few bytes at a time.
 
 ghost use Rattle.std.specs.Prelude.{◌<◌, Some};
 
@@ -6,7 +6,7 @@ use std::alloc::Global;
 use std::io;
 use std::io::{ErrorKind, Read, Write};
 
-/// Gives `rest`, at most `step` bytes a call, and fails once `calls` calls were made.
+/// Gives `rest`, at most `step` bytes a call, and fails after `calls` calls.
 #[derive(Drop)]
 pub struct MemoryReader<'a> {
     pub rest: &'a [u8],
@@ -28,7 +28,7 @@ impl<'a> Read for MemoryReader<'a> {
     }
 }
 
-/// Takes at most `step` bytes a call and `room` bytes in all, and fails once `calls` calls were made.
+/// Takes at most `step` bytes a call and `room` bytes in all, and fails after `calls` calls.
 #[derive(Drop)]
 pub struct MemoryWriter {
     pub bytes: Vec<u8>,
@@ -68,7 +68,7 @@ impl Write for MemoryWriter {
     }
 }
 
-/// Reads what the inner reader gives, and is interrupted by a signal in front of each read.
+/// Reads from the inner reader. A signal interrupts before each read.
 #[derive(Drop)]
 pub struct InterruptedReader<'a> {
     pub inner: MemoryReader<'a>,
@@ -87,7 +87,7 @@ impl<'a> Read for InterruptedReader<'a> {
     }
 }
 
-/// Writes to the inner writer, and is interrupted by a signal in front of each write and each flush.
+/// Writes to the inner writer. A signal interrupts before each write and flush.
 #[derive(Drop)]
 pub struct InterruptedWriter {
     pub inner: MemoryWriter,
@@ -114,7 +114,7 @@ impl Write for InterruptedWriter {
     }
 }
 
-/// Gives zeros without end.
+/// Gives endless zeros.
 #[derive(Drop)]
 pub struct Endless;
 
@@ -125,7 +125,6 @@ impl Read for Endless {
     }
 }
 
-// Fails if no call is left.
 fn use_call(calls: &mut usize) -> io::Result<()> {
     if *calls == 0 {
         return Err(io::Error::from(ErrorKind::BrokenPipe));

@@ -1,4 +1,4 @@
-//! Runs of the program whose command lines, inputs or outputs are not as they should be.
+//! Runs with faulty command lines, inputs or outputs.
 
 ghost use Rattle.std.specs.Prelude.{◌<◌};
 
@@ -16,26 +16,24 @@ const CHECK: [&str; 2] = ["ringplan", "check"];
 const BUNDLE: &[u8] =
     b"ring 1\nspace 1\nquorum 1 1 1\nnode a 1 in\nslots 0 a\nend\nplan 1\nend\ncert 1\nend\n";
 
-// The text contains the other. What owns an output drops it at each exit, which makes its proof dear. So
-// functions to which the output is lent assert this.
+// An owner of an output drops it at each exit, which is costly to prove. So functions that borrow the output assert
+// this.
 fn shows<RT: Abort>(rt: &RT, shown: &[u8], text: &str) -> Result<(), Fail> {
     let shown = str::from_utf8(shown)?;
     assert!(rt; shown.contains(text), "{shown}");
     Ok(())
 }
 
-// The run ended with the status.
 fn ends<RT: Abort>(rt: &RT, ended: u8, status: u8) {
     assert_eq!(rt; ended, status);
 }
 
-// The run ended with the status and printed the text.
 fn ends_with<RT: Abort>(rt: &RT, ended: u8, status: u8, shown: &[u8], text: &[u8]) {
     assert_eq!(rt; shown, text);
     assert_eq!(rt; ended, status);
 }
 
-// A command line of two words after the program's name ends with this status, and prints a text that contains the other.
+// Two words after the program's name end with this status, and print a text that contains the other.
 fn told<RT: AllocGlobal + Files + Eprint + Threads + Wait + Sync + Abort>(
     rt: &RT,
     first: &str,
@@ -77,7 +75,6 @@ fn helps_printed(rt: HostRuntime) -> Result<(), Fail> {
     told(&rt, "help", "check", 0, "Exit status")
 }
 
-// The command line ends with this status, and prints nothing.
 fn silent<RT: AllocGlobal + Files + Eprint + Threads + Wait + Sync + Abort>(
     rt: &RT,
     words: &[&str],
@@ -120,7 +117,6 @@ fn files_that_are_not_there(rt: HostRuntime) {
     silent(&rt, &["ringplan", "check", "one", "other"], 3);
 }
 
-// The text begins with the other.
 fn begins<RT: Abort>(rt: &RT, shown: &[u8], text: &str) -> Result<(), Fail> {
     let shown = str::from_utf8(shown)?;
     assert!(rt; shown.starts_with(text), "{shown}");
@@ -134,7 +130,7 @@ fn words_that_are_no_text(rt: HostRuntime) -> Result<(), Fail> {
     begins(&rt, output.bytes.as_slice(), "error: invalid UTF-8")
 }
 
-// The answer to the least bundle, if a read gives and a write takes so many bytes at most.
+// The answer to the least bundle, if reads give and writes take at most so many bytes.
 fn answered<RT: AllocGlobal + Files + Eprint + Threads + Wait + Sync + Abort>(rt: &RT, step: usize)
     requires { 0 < step }
 {
@@ -178,7 +174,6 @@ fn interrupted_reads_and_writes(rt: HostRuntime) {
     ends_with(&rt, ended, 0, output.inner.bytes.as_slice(), b"yes\n");
 }
 
-// Of nine calls eight are left.
 fn is_called_once<RT: Abort>(rt: &RT, calls: usize) {
     assert_eq!(rt; calls, 8);
 }

@@ -1,4 +1,4 @@
-//! Rings and plans of tests, and a store's replies to the events of a script.
+//! Rings and plans of tests, and a store's replies to a script's events.
 //!
 //! A store and its plan are dropped at each exit of their owner, which is costly to prove. So each function here owns
 //! one and lends it.
@@ -119,7 +119,7 @@ fn refusal_added<RT: Abort>(
     Ok(())
 }
 
-// Adds the line of the event's reply, which must be the one foretold.
+// Adds the event's reply, which must be the foretold one.
 #[tactic(auto, using(ring_core::proofs::SoundAfterEvent::has_number))]
 fn answer<RT: Abort>(
     rt: &RT,
@@ -169,7 +169,7 @@ fn script_answered<RT: AllocGlobal + Abort>(
     events_answered(rt, world, script.events(), lines)
 }
 
-/// The events of a script's text get these replies.
+/// A script's events get these replies.
 pub fn answered<RT: AllocGlobal + Abort>(
     rt: &RT,
     approved: &Approved,

@@ -10,7 +10,7 @@ use std::alloc::Global;
 use std::process::Abort;
 use std::test::Fail;
 
-// Each kind of reply, with the greatest number, and numbers in no order.
+// Each kind of reply, with the greatest number, and unordered numbers.
 const HISTORY: &[u8] = b"\
 history 1
 put w1 a x31 = put 0
@@ -90,7 +90,7 @@ fn signs_read<RT: AllocGlobal + Abort>(rt: &RT, ring: &Ring) {
     lines_read(rt, ring, "ack 0 = found 1 x\n", bad);
 }
 
-// In a line the fault of the least number decides, and of lines the first.
+// In a line the least number's fault decides; of lines the first.
 fn faults_read<RT: AllocGlobal + Abort>(rt: &RT, ring: &Ring) {
     lines_read(
         rt,
@@ -125,7 +125,6 @@ fn lines_refused(rt: HostRuntime) -> Result<(), Fail> {
     Ok(())
 }
 
-// A ring, a plan, a certificate and a history.
 const BUNDLE: &[u8] = b"\
 ring 1
 space 1

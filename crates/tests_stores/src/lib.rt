@@ -1,5 +1,4 @@
-//! Tests what no contract says of running stores and scripts: calls succeed with enough memory, and printed texts.
-//! Nothing is exported.
+//! Tests running stores and scripts beyond contracts: calls succeed with enough memory, and printed texts.
 #![tactic(auto)]
 
 #[cfg(test)]

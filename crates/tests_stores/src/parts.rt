@@ -1,4 +1,4 @@
-//! Histories cut into their partitions: the parts are runs exactly if the whole is one.
+//! Histories cut into partitions: the parts are runs exactly if the whole is.
 
 use crate::answering::{STAND_IN, approved};
 use history_parts::part;
@@ -11,8 +11,7 @@ use std::alloc::Global;
 use std::process::Abort;
 use std::test::Fail;
 
-// Puts in partitions 0 and 2, one of them hinted and handed off, and gets of both. A put names a get of its
-// key.
+// Puts in partitions 0 and 2, one hinted and handed off, and gets of both. A put names a get of its key.
 const RUN: &str = "\
 put w1 a x31 = put 0
 put w1 b x32 = put 1
@@ -38,7 +37,7 @@ put w2 b x33 seen 0 = put 2
 write 2 1 = ticket 2 1 0
 ";
 
-// One or two more entries, after which the history still is a run, or is not.
+// One or two more entries. The history is still a run, or not.
 const GOES_ON: [&str; 5] = [
     "write 2 2 = ticket 2 2 0\n",
     "get c = get 2\n",

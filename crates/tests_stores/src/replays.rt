@@ -10,7 +10,7 @@ use script_text::Script;
 use std::process::Abort;
 use std::test::Fail;
 
-// A slot moves from b to d; three of the events are refused.
+// A slot moves from b to d; three events are refused.
 const SCRIPT: &[u8] = b"\
 script 1
 do 1
@@ -49,7 +49,7 @@ ack 0
 end
 ";
 
-// The end of the script's play.
+// The play's end.
 const OWNERS: &[u8] = b"slots 0 a d c\nslots 1 a b c\nslots 2 a b c\nslots 3 a b c\nend\n";
 
 #[tactic(auto, using(ring_core::proofs::SoundAfterEvent::has_number))]
@@ -84,7 +84,7 @@ fn note_all<RT: AllocGlobal + Abort>(
     Ok(())
 }
 
-// The tables are the same, and d owns the slot that moved.
+// The tables are equal, and d owns the moved slot.
 fn are_same<RT: Abort>(rt: &RT, one: &[Listed<NodeId>], other: &[Listed<NodeId>]) {
     assert_eq!(rt; one.len(), 4);
     assert_eq!(rt; other.len(), 4);

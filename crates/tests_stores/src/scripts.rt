@@ -1,4 +1,4 @@
-//! Scripts are written as read, scripts are made event by event, and a bundle is played.
+//! Scripts are written as read, or made event by event, and a bundle is played.
 
 ghost use Rattle.plan_text.specs.Valid.{Suits};
 

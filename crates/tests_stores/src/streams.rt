@@ -1,4 +1,4 @@
-//! Bundles cut to a part while they are read: the part does not depend on the reads, and other inputs are refused.
+//! Bundles cut to a part while they are read: reads do not change the part, and other inputs are refused.
 
 ghost use Rattle.std.specs.Prelude.{◌<◌, Some};
 ghost use Rattle.history_parts.specs.Choices.{IsChoice};
@@ -34,7 +34,7 @@ impl<'a> Read for Steps<'a> {
     }
 }
 
-// Gives the bytes, and then fails.
+// Gives the bytes, then fails.
 #[derive(Drop)]
 struct Fails<'a> {
     rest: &'a [u8],
@@ -55,7 +55,7 @@ impl<'a> Read for Fails<'a> {
     }
 }
 
-// Gives the front, the turn several times, and the end.
+// Gives the front, several turns, and the end.
 #[derive(Drop)]
 struct Turns<'a> {
     front: &'a [u8],

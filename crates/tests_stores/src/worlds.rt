@@ -1,4 +1,4 @@
-//! Stores that run plans: their replies, and their state between.
+//! Stores that run plans: replies and state.
 
 use crate::answering::{LOSS, MOVE, SPLIT_MOVE, STAND_IN, Texts, answered, approved};
 use plan_check::Approved;
@@ -93,12 +93,11 @@ impl<'a, RT: AllocGlobal + Abort> Scene<'a, RT> {
         assert_eq!(self.rt; self.world.held_slots(0), mask);
     }
 
-    // The n-th keeper of a hint.
     fn keeper(&self, n: u32, kept: Option<(NodeId, Slot)>) {
         assert_eq!(self.rt; self.world.hint_at(n), kept);
     }
 
-    // How many copies of the node are open, how many of these it receives, and how many read from it.
+    // The node's open copies: all, received, given.
     fn transfers(&self, node: u32, counts: [u32; 3]) {
         let node = NodeId(node);
         let open = [
@@ -109,7 +108,6 @@ impl<'a, RT: AllocGlobal + Abort> Scene<'a, RT> {
         assert_eq!(self.rt; open.as_slice(), counts.as_slice());
     }
 
-    // The steps that are left, and the first that can begin.
     fn steps(&self, left: u32, next: Option<u32>) {
         assert_eq!(self.rt; self.world.left(), left);
         assert_eq!(self.rt; self.world.ready(0), next);
@@ -129,7 +127,7 @@ impl<'a, RT: AllocGlobal + Abort> Scene<'a, RT> {
         )
     }
 
-    // A put is acknowledged, a node loses its data, and a get finds the put.
+    // A get finds an acknowledged put after a node's loss.
     fn loss_survived(&mut self) -> Result<(), Fail> {
         self.answers(
             "put w1 a x31\nwrite 0 0\nwrite 0 1\nwrite 0 2\nack 0\nlose b\n",
@@ -142,7 +140,7 @@ impl<'a, RT: AllocGlobal + Abort> Scene<'a, RT> {
         )
     }
 
-    // A stand-in keeps a put that its slot's owner misses.
+    // A stand-in keeps a put that the owner misses.
     fn hint_kept(&mut self) -> Result<(), Fail> {
         self.answers(
             "put w1 a x31\ndown b\nwrite 0 1\nhint 0 1 d\nhint 0 2 d\nhandoff d 0 1\n",
@@ -154,7 +152,6 @@ impl<'a, RT: AllocGlobal + Abort> Scene<'a, RT> {
         Ok(())
     }
 
-    // The hint is handed over.
     fn hints_taken(&mut self) -> Result<(), Fail> {
         self.hint_kept()?;
         self.answers(
@@ -187,7 +184,7 @@ impl<'a, RT: AllocGlobal + Abort> Scene<'a, RT> {
         Ok(())
     }
 
-    // The other chunks, and the end of the copy.
+    // The other chunks, and the copy's end.
     fn copied(&mut self) -> Result<(), Fail> {
         self.answers(
             "chunk 2 6\nclose 2\nchunk 2 7\nchunk 2 8\nchunk 2 9\nchunk 2 10\nchunk 2 11\nchunk 2 12\nchunk 2 13\nchunk 2 14\nchunk 2 15\n",
@@ -198,7 +195,7 @@ impl<'a, RT: AllocGlobal + Abort> Scene<'a, RT> {
         Ok(())
     }
 
-    // The slot's new owner has what the old one had, and the drop comes last.
+    // The new owner has what the old one had; the drop comes last.
     fn moved(&mut self) -> Result<(), Fail> {
         self.steps(2, Some(3));
         self.owners(&[NodeId(0), NodeId(1), NodeId(2)])?;

@@ -65,7 +65,7 @@ fn put_and_get_without<'a, L: RunLedger, R: AllocGlobal + Wait>(
     put_and_get(rt, executor, share)
 }
 
-// Puts and gets the key at a new store in which these nodes are down.
+// Puts and gets the key at a new store with these nodes down.
 fn without<L: RunLedger, R: AllocGlobal + Wait>(
     rt: &R,
     blank: Blank,
@@ -90,7 +90,7 @@ fn with_down<R: AllocGlobal + Wait>(rt: &R, down: &[NodeId]) -> Result<(Came, Ca
 
 #[test]
 fn each_slot_answers(rt: HostRuntime) {
-    // The start, three writes and the acknowledgement; the start, two reads and the end.
+    // Start, three writes, acknowledgement; start, two reads, end.
     let came = with_down(&rt, &[]);
     assert_eq!(rt; came, Ok(((5, true, None), (4, true, None))));
 }
@@ -103,7 +103,7 @@ fn one_node_is_down(rt: HostRuntime) {
 
 #[test]
 fn two_nodes_are_down(rt: HostRuntime) {
-    // The start and a write in each of 64 rounds; the start and the one read.
+    // The start and a write in each of 64 rounds; the start and one read.
     let came = with_down(&rt, &[NodeId(1), NodeId(2)]);
     let put = (65, false, Some(Refusal::StaleTickets(1)));
     assert_eq!(rt; came, Ok((put, (2, false, Some(Refusal::TooFewSlots(1))))));

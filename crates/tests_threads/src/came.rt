@@ -1,4 +1,4 @@
-//! The results of drives.
+//! Results of drives.
 
 ghost use Rattle.std.specs.Prelude.{◌≡◌, ◌<◌, ◌≤◌, true};
 ghost use Rattle.std.specs.List.{list_all};
@@ -17,10 +17,10 @@ use std::slice;
 use std::sync::Wait;
 use std::thread::Threads;
 
-// The most puts and gets of a history to replay.
+// The most puts and gets to replay.
 const MOST: u32 = 1000;
 
-/// The history's length, the lists of receipts, whether the judge accepts them, and whether a store gives the same replies.
+/// The history's length, the receipt lists, whether the judge accepts them, and whether a store replies the same.
 #[derive(Clone, Copy, Debug, PartialEq, Eq)]
 pub struct Came {
     pub entries: usize,
@@ -29,7 +29,7 @@ pub struct Came {
     pub replays: bool,
 }
 
-/// The result of a successful drive.
+/// A successful drive's result.
 pub const fn well(entries: usize, lists: usize) -> Came {
     Came {
         entries,
@@ -114,7 +114,7 @@ pub fn drive_one<RT: AllocGlobal + Threads + Wait + Sync, G: Gate + Sync>(
     drive_all(rt, approved, slice::from_ref(script), workers, gate)
 }
 
-/// The length of the history and the refusal of a drive that breaks off.
+/// A broken drive's history length and refusal.
 pub fn broken_one<RT: AllocGlobal + Threads + Wait + Sync, G: Gate + Sync>(
     rt: &RT,
     approved: &Approved,

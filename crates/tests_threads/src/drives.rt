@@ -64,7 +64,6 @@ const fn copies(script: &[u8]) -> Texts {
     }
 }
 
-// A script over a ring, with no step.
 const fn still<'t>(ring: &'t [u8], script: &'t [u8]) -> Texts<'t> {
     Texts {
         ring,
@@ -129,7 +128,7 @@ fn nodes_that_stay_down(rt: HostRuntime) {
 
 #[test]
 fn nodes_that_are_all_down(rt: HostRuntime) {
-    // Put and get are started, without further replies.
+    // Put and get start, without further replies.
     let script = b"script 1\ndown a\ndown b\ndown c\nput w1 a x31\nget a\nend\n";
     let came = drive_texts(&rt, still(RING, script), 1, &OpenGate);
     assert_eq!(rt; came, Ok(well(5, 3)));
@@ -137,7 +136,7 @@ fn nodes_that_are_all_down(rt: HostRuntime) {
 
 #[test]
 fn a_stand_in_that_is_down(rt: HostRuntime) {
-    // The hint is left with e and stays there, since b is down.
+    // The hint stays with e, since b is down.
     let script = b"script 1\ndown b\ndown d\nput w1 a x31\nend\n";
     let came = drive_texts(&rt, still(FIVE, script), 1, &OpenGate);
     assert_eq!(rt; came, Ok(well(7, 3)));
@@ -145,7 +144,7 @@ fn a_stand_in_that_is_down(rt: HostRuntime) {
 
 #[test]
 fn a_gate_that_shuts_before_a_line(rt: HostRuntime) {
-    // The put of line 0 is the whole history.
+    // Line 0's put is the whole history.
     let script = b"script 1\nput w1 a x31\ndown b\nget a\nend\n";
     let gate = ShutAt {
         worker: 64,
@@ -157,7 +156,7 @@ fn a_gate_that_shuts_before_a_line(rt: HostRuntime) {
 
 #[test]
 fn a_gate_that_shuts_at_a_copy(rt: HostRuntime) {
-    // The worker shows the last copy that was opened.
+    // The worker shows the last opened copy.
     for (mark, entries) in [(2, 3), (5, 23)] {
         let gate = ShutAt { worker: 0, mark };
         let came = broken_texts(&rt, copies(SILENCE), 1, &gate);

@@ -103,7 +103,6 @@ fn can_begin<'a, L: RunLedger, RT: Wait + Abort>(
     Ok(())
 }
 
-// The first step is done, and the fourth waits for others.
 fn first_step<'a, L: RunLedger, RT: Wait + Abort>(
     rt: &RT,
     executor: &Executor<'a, L>,
@@ -122,7 +121,7 @@ fn first_step<'a, L: RunLedger, RT: Wait + Abort>(
     Ok(())
 }
 
-// Submits the row. Returns how many of its events succeeded, and the refusal of the next, if any.
+// Submits the row. Returns how many events succeeded, and the next one's refusal, if any.
 fn row_of<'a, L: RunLedger, R: AllocGlobal + Wait>(
     rt: &R,
     executor: &Executor<'a, L>,
@@ -138,7 +137,7 @@ fn row_of<'a, L: RunLedger, R: AllocGlobal + Wait>(
     }
 }
 
-// A row ends at its first refused event, and another goes on from there.
+// A row ends at its first refused event; another goes on from there.
 fn two_rows<'a, L: RunLedger, RT: AllocGlobal + Wait + Abort>(
     rt: &RT,
     executor: &Executor<'a, L>,
@@ -186,7 +185,7 @@ fn flapped<'a, L: RunLedger + Send + Sync, RT: AllocGlobal + Threads + Wait + Sy
     Ok(two(rt.alloc(), first, second)?)
 }
 
-// The shares of two threads, the first of which did the first step and two rows.
+// Two threads' shares. The first did the first step and two rows.
 fn run_two<'a, L: RunLedger + Send + Sync, RT: AllocGlobal + Threads + Wait + Sync + Abort>(
     rt: &RT,
     executor: &Executor<'a, L>,
@@ -228,7 +227,7 @@ fn by_two<L: RunLedger + Send + Sync, RT: AllocGlobal + Threads + Wait + Sync + 
     let (executor, share) = Executor::<L>::new(rt.alloc(), blank, approved)?;
     let done = run_two(rt, &executor, share);
     let ledgered = finished(executor, done)?;
-    // the first step, the four turns of the rows, and 2,000 turns of each node
+    // the first step, the rows' four turns, and each node's 2,000 turns
     same!(rt; ledgered.entries().len(), 4005);
     same!(rt; ledgered.world().left(), 4);
     let _history = ledgered.into_entries();

@@ -1,4 +1,4 @@
-//! Drives of eight clients during a plan that moves half of a ring's slots.
+//! Eight clients during a plan that moves half of the slots.
 
 ghost use Rattle.std.specs.Prelude.{◌<◌, ◌≤◌};
 ghost use Rattle.drive_text.specs.Drives.{IsDrive};
@@ -11,8 +11,8 @@ use std::process::Abort;
 use std::sync::Wait;
 use std::thread::Threads;
 
-// Each of eight partitions moves one or two slots. All slots of a, b and c, which retire, go to g, h and i,
-// which join. The eight scripts take seven of the nine nodes down and up.
+// Each of eight partitions moves one or two slots, all from a, b and c, which retire, to g, h and i, which join. The
+// scripts take seven of nine nodes down and up.
 const HALF: &[u8] =
     b"ring 1\nspace 8\nquorum 3 2 2\nnode a 4 in\nnode b 4 in\nnode c 4 in\nnode d 4 in\nnode e 4 in\nnode f 4 in\nnode g 4 out\nnode h 4 out\n\
     node i 4 out\nslots 0 a c e\nslots 1 b d f\nslots 2 c e a\nslots 3 d f b\nslots 4 e a c\nslots 5 f b d\nslots 6 a c e\nslots 7 b d f\nend\n\

@@ -1,4 +1,4 @@
-//! The rings, plans and scripts of drives.
+//! Rings, plans and scripts of drives.
 
 ghost use Rattle.std.specs.Prelude.{◌≡◌, true, IfOk};
 ghost use Rattle.std.specs.List.{list_all};
@@ -31,7 +31,7 @@ pub const TWO_COPIES: &[u8] =
 
 pub const TWO_CHAINS: &[u8] = b"cert 1\nchain b 2\nchain b 5\nchain d 2\nchain d 5\nend\n";
 
-/// A slot that moves from b to d, which joins.
+/// A slot moves from b to d, which joins.
 pub const MOVE: &[u8] =
     b"plan 1\njoin d\nmirror 0 1 d after 0\ncopy 0 1 owner after 1\nswitch 0 1 after 2\ndrop 0 1 b after 3\nend\n";
 

@@ -10,7 +10,6 @@ use script_text::Script;
 use std::alloc::{AllocError, Global};
 use std::slice;
 
-// The index, event and reply of a receipt.
 type Given = (u32, Event, Reply);
 
 fn step() -> Option<Given> {
@@ -77,7 +76,6 @@ fn judged(
     agrees(alloc, approved, slice::from_ref(script), 1, &outcome)
 }
 
-// Judges a run of one step and an empty script.
 fn judge(
     alloc: Global,
     work: Option<Given>,

@@ -1,5 +1,5 @@
-//! Tests the lock around a store, and drives, beyond contracts: threads overlap and fill one history, gates and full
-//! histories stop them, histories are restored, resumed or refused, and the judge refuses other lists. Nothing is exported.
+//! Tests the lock around a store, and drives, beyond contracts. Threads overlap and fill one history; gates and full
+//! histories stop them. Histories are restored, resumed or refused; the judge refuses other lists.
 #![tactic(auto)]
 
 #[cfg(test)]

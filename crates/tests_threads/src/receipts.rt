@@ -1,4 +1,4 @@
-//! The receipts of two threads, against the history.
+//! Two threads' receipts, against the history.
 
 ghost use Rattle.std.specs.Prelude.{◌≡◌, ◌≤◌};
 
@@ -22,20 +22,19 @@ const B: NodeId = NodeId(1);
 
 const D: NodeId = NodeId(3);
 
-// Slot 1 of the key's partition, which b owns.
+// Slot 1 of the key's partition, b's.
 const SLOT: Slot = Slot {
     partition: 0,
     index: 1,
 };
 
-// A thread's share and receipts.
 #[derive(Drop)]
 struct Client<L: RunLedger> {
     share: Share<L>,
     receipts: Vec<Receipt>,
 }
 
-// Submits the event and keeps its receipt. Returns the number of the put or get that it started.
+// Submits the event and keeps its receipt. Returns the number of its put or get.
 fn submit<'a, L: RunLedger, R: Wait>(
     rt: &R,
     executor: &Executor<'a, L>,
@@ -52,7 +51,7 @@ fn submit<'a, L: RunLedger, R: Wait>(
     Ok(number)
 }
 
-/// Starts a put of the key `a` that names no get.
+/// Starts a put of key `a` that names no get.
 pub fn a_put(alloc: Global, writer: WriterId) -> Result<Event, Refusal> {
     let Some(seen) = Seen::of(alloc, Vec::new(alloc))? else {
         return Err(Refusal::Disagree);
@@ -163,7 +162,7 @@ fn is_of(alloc: Global, entry: &Entry, receipt: &Receipt) -> Result<bool, AllocE
     Ok(noted.as_str() == given.as_str())
 }
 
-// Each receipt has an entry of its own, which is marked.
+// Each receipt has its own entry, which is marked.
 fn stands<RT: AllocGlobal + Abort>(
     rt: &RT,
     entries: &[Entry],

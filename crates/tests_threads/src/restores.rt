@@ -80,7 +80,6 @@ fn recorded<L: RunLedger>(
 
 // ---- a store that goes on
 
-// The next event comes after the history.
 fn next_event<'a, L: RunLedger, RT: AllocGlobal + Wait + Abort>(
     rt: &RT,
     executor: &Executor<'a, L>,
@@ -124,7 +123,6 @@ fn a_store_goes_on_behind_a_history(rt: HostRuntime) -> Result<(), Fail> {
 
 // ---- histories that are refused
 
-// The change to the history of a put and a get.
 #[derive(Clone, Copy)]
 enum Change {
     OtherReply,
@@ -199,7 +197,7 @@ fn changed_histories_are_refused(rt: HostRuntime) -> Result<(), Fail> {
     all_refused(&rt, &approved)
 }
 
-// Entries of which the second would be refused.
+// Entries whose second would be refused.
 fn downs(alloc: Global, count: u32) -> Result<Vec<Entry>, AllocError> {
     let mut history = Vec::with_capacity(alloc, count as usize)?;
     for _ in 0..count {

@@ -18,7 +18,8 @@ use std::sync::Wait;
 use std::test::Fail;
 use std::thread::Threads;
 
-// The result of a resume, and how many steps were finished before, if the first ones; or the refusal and the history's length.
+// A resume's result, and how many steps were finished before, if the first ones; or the refusal and the history's
+// length.
 type Ended = Result<(Came, Option<usize>), (Refusal, usize)>;
 
 fn done(alloc: Global, events: &[Event]) -> Result<Vec<Entry>, AllocError> {
@@ -32,7 +33,7 @@ fn done(alloc: Global, events: &[Event]) -> Result<Vec<Entry>, AllocError> {
     Ok(entries)
 }
 
-// A history that broke off in the copy, after its first chunk.
+// Broke off in the copy, after its first chunk.
 fn broken(alloc: Global) -> Result<Vec<Entry>, AllocError> {
     let events = [
         Event::Do(0),
@@ -43,7 +44,7 @@ fn broken(alloc: Global) -> Result<Vec<Entry>, AllocError> {
     done(alloc, events.as_slice())
 }
 
-// A history that broke off after the copy.
+// Broke off after the copy.
 fn copied(alloc: Global) -> Result<Vec<Entry>, AllocError> {
     let events = [Event::Do(0), Event::Do(1), Event::OpenCopy(2)];
     let mut entries = done(alloc, events.as_slice())?;
@@ -60,7 +61,8 @@ fn copied(alloc: Global) -> Result<Vec<Entry>, AllocError> {
     Ok(entries)
 }
 
-// How many steps were finished before a resume by one worker, if these are the first ones and the worker finished the others.
+// How many steps were finished before one worker's resume, if these are the first ones and the worker finished the
+// others.
 fn finished_before(finishers: &[u32]) -> Option<usize> {
     let mut before = 0usize;
     for (step, finisher) in finishers.iter().enumerate() {
@@ -103,7 +105,6 @@ fn resumed_from<RT: AllocGlobal + Threads + Wait + Sync, G: Gate + Sync>(
     resumed(rt, &approved, &script, entries, gate)
 }
 
-// The fault of a drive whose gate is shut.
 fn stopped<RT: AllocGlobal + Threads + Wait + Sync>(
     rt: &RT,
     approved: &Approved,
@@ -117,7 +118,6 @@ fn stopped<RT: AllocGlobal + Threads + Wait + Sync>(
     }
 }
 
-// Why the drive broke off, and the result of its resume.
 fn stopped_and_resumed<RT: AllocGlobal + Threads + Wait + Sync>(
     rt: &RT,
 ) -> Result<(Refusal, Ended), Refusal> {
@@ -133,7 +133,7 @@ fn stopped_and_resumed<RT: AllocGlobal + Threads + Wait + Sync>(
 
 #[test]
 fn a_copy_that_broke_off_is_done_again(rt: HostRuntime) -> Result<(), Fail> {
-    // The four entries, the abort, the copy with its fifteen other chunks, and the two last steps.
+    // Four entries, the abort, the copy with its fifteen other chunks, and the last two steps.
     let entries = broken(rt.alloc())?;
     let ended = resumed_from(&rt, entries.as_slice(), &OpenGate);
     assert_eq!(rt; ended, Ok(Ok((well(24, 4), Some(2)))));
@@ -142,7 +142,7 @@ fn a_copy_that_broke_off_is_done_again(rt: HostRuntime) -> Result<(), Fail> {
 
 #[test]
 fn a_copy_that_was_closed_stays_done(rt: HostRuntime) -> Result<(), Fail> {
-    // The twenty entries and the two last steps; the copy is not aborted.
+    // Twenty entries and the last two steps; the copy is not aborted.
     let entries = copied(rt.alloc())?;
     let ended = resumed_from(&rt, entries.as_slice(), &OpenGate);
     assert_eq!(rt; ended, Ok(Ok((well(22, 4), Some(3)))));
@@ -151,7 +151,7 @@ fn a_copy_that_was_closed_stays_done(rt: HostRuntime) -> Result<(), Fail> {
 
 #[test]
 fn a_resume_that_breaks_off(rt: HostRuntime) -> Result<(), Fail> {
-    // The four entries, the abort, and the copy opened again, at which the gate is shut.
+    // Four entries, the abort, and the copy opened again, where the gate is shut.
     let entries = broken(rt.alloc())?;
     let ended = resumed_from(&rt, entries.as_slice(), &Shut);
     assert_eq!(rt; ended, Ok(Err((Refusal::TurnsSpent, 6))));

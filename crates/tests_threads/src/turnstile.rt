@@ -1,4 +1,4 @@
-//! Gates that hold threads until others have come.
+//! Gates that hold threads until others come.
 
 use plan_check::Gate;
 use std::sync::atomic::{AtomicBool, Ordering};
@@ -47,7 +47,7 @@ impl Gate for Turnstile {
     }
 }
 
-/// Holds a worker until a client has come to this line, for at most a million looks.
+/// Holds a worker until a client has reached this line, for at most a million looks.
 #[derive(Drop)]
 pub struct Behind {
     come: AtomicBool,

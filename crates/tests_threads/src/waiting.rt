@@ -1,4 +1,4 @@
-//! A drive whose mirror waits until a hint is handed off.
+//! A drive whose mirror awaits a hint's handoff.
 
 ghost use Rattle.std.specs.Prelude.{◌≡◌, true};
 ghost use Rattle.std.specs.List.{list_all};
@@ -15,12 +15,12 @@ use std::slice;
 use std::sync::Wait;
 use std::thread::Threads;
 
-// The last step mirrors a slot of partition 0 to d, which it may not while d keeps a hint for another slot there.
+// The last step mirrors a slot of partition 0 to d. It must wait while d keeps a hint for another slot there.
 const PLAN: &[u8] = b"plan 1\nmirror 1 0 d\ncopy 1 0 owner after 0\nmirror 0 2 d after 1\nend\n";
 
 const CHAINS: &[u8] = b"cert 1\nchain a 1\nchain d 1\nend\n";
 
-// The key is in partition 0, so that d keeps a hint for b.
+// The key is in partition 0, so d keeps a hint for b.
 const SCRIPT: &[u8] = b"script 1\ndown b\nput w1 a x31\nup b\nend\n";
 
 fn is_behind_handoff(history: &[Entry], step: u32) -> bool {
@@ -39,7 +39,7 @@ fn is_behind_handoff(history: &[Entry], step: u32) -> bool {
     false
 }
 
-// Whether the last step comes after the handoff. The worker goes on from the copy once the client's put has ended.
+// Whether the last step follows the handoff. The worker goes on from the copy once the client's put has ended.
 fn drive_behind<RT: AllocGlobal + Threads + Wait + Sync>(
     rt: &RT,
     approved: &Approved,
