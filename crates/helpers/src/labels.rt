@@ -4,7 +4,7 @@ use crate::numbers::{NONE, at};
 use ring_names::{Names, Refusal};
 use std::alloc::Global;
 
-/// A name for each node, such as its rack; equal names have equal numbers.
+/// A name of each node, such as its rack. Equal names have equal numbers.
 #[derive(Drop)]
 pub struct Labels {
     names: Names,
@@ -13,7 +13,7 @@ pub struct Labels {
 }
 
 impl Labels {
-    /// Labels of no node.
+    /// Starts without nodes.
     pub fn new(alloc: Global) -> Labels {
         Labels {
             names: Names::new(alloc),
@@ -21,7 +21,7 @@ impl Labels {
         }
     }
 
-    /// Adds the next node, with that name.
+    /// Adds the next node, with a name.
     pub fn add(&mut self, name: &[u8]) -> Result<(), Refusal> {
         if self.names.len() == u32::MAX {
             return self.add_alone();
@@ -31,7 +31,7 @@ impl Labels {
         Ok(())
     }
 
-    /// Adds the next node, which has no name, and a number of its own.
+    /// Adds the next node, nameless, with its own number.
     pub fn add_alone(&mut self) -> Result<(), Refusal> {
         let node = crate::numbers::small(self.numbers.len());
         self.numbers.push(NONE.saturating_sub(node))?;
@@ -48,7 +48,7 @@ impl Labels {
         at(self.numbers.as_slice(), node as usize)
     }
 
-    /// The node's name, or no bytes if it has none.
+    /// The node's name, or no bytes.
     pub fn name(&self, node: u32) -> &[u8] {
         match self.names.name_of(self.of(node)) {
             Some(name) => name,
@@ -56,18 +56,18 @@ impl Labels {
         }
     }
 
-    /// How many names there are.
+    /// Counts the names.
     pub fn count(&self) -> u32 {
         self.names.len()
     }
 
-    /// The name of that number, if there is one.
+    /// The name with that number.
     pub fn name_of(&self, number: u32) -> Option<&[u8]> {
         self.names.name_of(number)
     }
 }
 
-/// What stands behind the last byte of that kind in a name, if there is something.
+/// Returns what follows the name's last such byte.
 pub fn suffix(name: &[u8], byte: u8) -> Option<&[u8]> {
     let mut start = None;
     let mut place = 0usize;

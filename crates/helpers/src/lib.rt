@@ -1,5 +1,4 @@
-//! Numbers and text for searches and for words. Lists of numbers are read and written by place, and text is
-//! written word by word.
+//! Numbers and text for searches and for words.
 #![tactic(auto)]
 
 mod labels;

@@ -9,7 +9,7 @@ use ring_names::{Refusal, push_decimal};
 use std::alloc::Global;
 use std::marker::Model;
 
-/// A text that is written word by word. Once memory is refused nothing more is written, and `end` says so.
+/// A text written word by word. If memory is refused, writes no more, and `end` fails.
 #[derive(Drop)]
 pub struct Words {
     bytes: Vec<u8>,
@@ -26,7 +26,7 @@ impl Model for Words {
 }
 
 impl Words {
-    /// Nothing is written yet.
+    /// Starts empty.
     pub fn new(alloc: Global) -> Words
         ensures { result ≡ Some [] }
     {
@@ -54,7 +54,7 @@ impl Words {
         }
     }
 
-    /// Adds the byte so many times.
+    /// Adds the byte `count` times.
     pub fn times(&mut self, byte: u8, count: usize)
         ensures { GoesOn self.old self.new (replicate count byte) }
     {
@@ -72,8 +72,7 @@ impl Words {
         }
     }
 
-    /// Adds the words, with the next name for each `@` and the next number for each `#`. Adds nothing for it if
-    /// there are too few.
+    /// Adds the words, with the next name for each `@` and number for each `#`, if any.
     #[tactic(auto, using(crate::proofs::Growing::still))]
     pub fn fill(&mut self, words: &[u8], names: &[&[u8]], numbers: &[u32])
         ensures { self.old ≡ None → self.new ≡ None }
@@ -103,7 +102,7 @@ impl Words {
         self.bytes.as_slice()
     }
 
-    /// Adds what the other text has.
+    /// Adds the other text.
     pub fn words(&mut self, other: &Words)
         ensures text { IfSome other.now (λ bytes. GoesOn self.old self.new bytes) }
         ensures refused { other.now ≡ None → self.new ≡ None }
@@ -112,7 +111,7 @@ impl Words {
         self.heed(other);
     }
 
-    /// Has been refused memory where the other text has.
+    /// Counts as refused if the other text was.
     pub fn heed(&mut self, other: &Words)
         ensures { IfSome self.new (λ bytes. (self.old ≡ Some bytes) × (other.now ≢ None)) }
     {
@@ -121,21 +120,21 @@ impl Words {
         }
     }
 
-    /// Has been refused memory.
+    /// Counts as refused from now on.
     pub fn lose(&mut self)
         ensures { self.new ≡ None }
     {
         self.is_whole = false;
     }
 
-    /// How many bytes there are so far.
+    /// Counts the bytes so far.
     pub fn len(&self) -> usize
         ensures { IfSome self.now (λ bytes. result ≡ length bytes) }
     {
         self.bytes.len()
     }
 
-    /// Takes all that is written away. A refusal of memory stays.
+    /// Removes all. A refusal of memory stays.
     pub fn clear(&mut self)
         ensures empty { IfSome self.new (λ bytes. bytes ≡ []) }
         ensures refused { self.old ≡ None → self.new ≡ None }
@@ -143,7 +142,7 @@ impl Words {
         self.bytes.clear();
     }
 
-    /// What was written, unless memory was refused.
+    /// Returns the text, unless memory was refused.
     pub fn end(self) -> Result<Vec<u8>, Refusal>
         ensures { Ends self result }
     {

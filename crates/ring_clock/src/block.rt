@@ -15,17 +15,17 @@ use std::marker::Model;
 use std::slice;
 use std::sync::Arc;
 
-// From so many entries of 16 bytes on, 260 bytes for all are not more.
+// From so many 16-byte entries on, 260 bytes for all are not more.
 const MANY: usize = 17;
 
-/// Returns the group of a writer: 64 consecutive ones, kept together.
+/// Returns a writer's group: 64 consecutive writers.
 pub fn group_of(writer: WriterId) -> u32
     ensures { result ≡ group writer.0 }
 {
     writer.0 / GROUP
 }
 
-/// A few entries, or all counters. One entry, as of a put without a get, is stored inline.
+/// A few entries, or all counters. One entry, as of a put without a get, is inline.
 #[derive(Drop)]
 pub enum Form {
     One(Entry),
@@ -51,7 +51,7 @@ impl Form {
         }
     }
 
-    // Raises the counters in place. Does nothing, and returns false, if not full or if a counter is too great.
+    // Raises the counters in place. Returns false if not full or if a counter is too great.
     fn raise(&mut self, other: &Form) -> bool
         requires first { IsBlock (entries_in self.old) }
         requires second { IsBlock (entries_in other.now) }
@@ -185,7 +185,7 @@ impl Block {
         }
     }
 
-    /// Whether each counter is at most the other's, of any group. Fast if both are full, the usual case.
+    /// Whether each counter is at most the other's, of any group. Fast if both are full, as usual.
     pub fn passes(&self, other: &Block) -> bool
         requires first { IsBlock self.now }
         requires second { IsBlock other.now }
@@ -221,7 +221,7 @@ impl Block {
         }
     }
 
-    // Raises the counters in place. Does nothing, and returns false, if shared, not full, or if a counter is too great.
+    // Raises the counters in place. Returns false if shared, not full, or if a counter is too great.
     fn raise_here(&mut self, other: &Block) -> bool
         requires first { IsBlock self.old }
         requires second { IsBlock other.now }
@@ -237,7 +237,7 @@ impl Block {
 
     /// Raises the counters to the other's. Costs the entries of both.
     ///
-    /// Takes memory as `join` does, but none if the block is full and unshared, and no counter is too great for it.
+    /// Takes memory as `join`, but none if full and unshared, and if each counter fits.
     pub fn raise(&mut self, alloc: Global, other: &Block) -> Result<(), AllocError>
         requires first { IsBlock self.old }
         requires second { IsBlock other.now }
@@ -254,7 +254,7 @@ impl Block {
 
     /// Merges entries into a new block. Costs the entries of both.
     ///
-    /// Takes 260 bytes if full, or 16 for each entry if some counter is too great for that.
+    /// Takes 260 bytes if full, or 16 for each entry if some counter is too great.
     pub fn merge(&self, alloc: Global, entries: &[Entry]) -> Result<Block, AllocError>
         requires first { IsBlock self.now }
         requires second { IsBlock entries.now }

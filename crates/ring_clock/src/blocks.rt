@@ -13,7 +13,7 @@ use std::alloc::{AllocError, Global};
 use std::slice;
 use std::sync::Arc;
 
-/// Blocks ordered by group. One is stored inline, more are shared.
+/// Blocks by group. One is inline, more are shared.
 #[derive(Drop)]
 pub enum Blocks {
     Empty,
@@ -127,8 +127,8 @@ fn are_reached(but: Option<u32>, first: &[Block], second: &[Block]) -> bool
 
 /// Whether each counter is at most the second's.
 ///
-/// Costs the entries of common groups. Each block of the first costs a look, or the logarithm of the second's blocks if
-/// lesser groups lack one there.
+/// Costs the entries of common groups. A block of the first costs a look, or the logarithm of the second's blocks if
+/// those lack lesser groups.
 pub fn are_at_most(first: &[Block], second: &[Block]) -> bool
     requires first { AreBlocks first.now }
     requires second { AreBlocks second.now }
@@ -140,7 +140,7 @@ pub fn are_at_most(first: &[Block], second: &[Block]) -> bool
     }
 }
 
-// Takes the next block of the least group. Joins two of one group.
+// Takes the least group's block. Joins two.
 fn take_joined<'a>(
     alloc: Global,
     first: &mut &'a [Block],
@@ -202,7 +202,7 @@ fn push_joined(
     Ok(())
 }
 
-/// Returns the greater counters of two clocks. Costs the blocks and the entries of common groups.
+/// Returns the greater counters. Costs the blocks and the entries of common groups.
 ///
 /// Takes memory for a list of several blocks, and for each block greater than both.
 pub fn joined(alloc: Global, first: &[Block], second: &[Block]) -> Result<Blocks, AllocError>
@@ -226,7 +226,7 @@ pub fn joined(alloc: Global, first: &[Block], second: &[Block]) -> Result<Blocks
     }
 }
 
-/// Raises the writer's counter to the entry's. Remakes the block of its group, and the list if there are several.
+/// Raises the writer's counter to the entry's. Remakes its group's block, and a list of several.
 pub fn raised(alloc: Global, blocks: &[Block], entry: Entry) -> Result<Blocks, AllocError>
     requires valid { AreBlocks blocks.now }
     requires some { 0 < entry.counter }
@@ -245,8 +245,8 @@ pub fn raised(alloc: Global, blocks: &[Block], entry: Entry) -> Result<Blocks, A
     }
 }
 
-/// Raises the block of one group in place, if both have it. Returns whether the others are reached; if not, nothing has
-/// changed.
+/// Raises one group's block in place, if both have it. Returns whether the others are reached; otherwise changes
+/// nothing.
 ///
 /// Costs both clocks' blocks, and memory only for that block, if shared or with few entries.
 pub fn raise_one(
@@ -276,7 +276,7 @@ pub fn raise_one(
     Ok(true)
 }
 
-/// Lists the entries. Costs their number, in memory too.
+/// Lists the entries. Costs their number, also in memory.
 pub fn list(alloc: Global, blocks: &[Block]) -> Result<Vec<Entry>, AllocError>
     ensures { IfOk result (λ v. v.items ≡ entries_of blocks.now) }
 {

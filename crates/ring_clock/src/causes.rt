@@ -13,7 +13,7 @@ use ring_names::{Refusal, WriterId};
 use std::alloc::Global;
 use std::collections::HashMap;
 
-/// What a put knows: its writer's earlier puts, and seen ones.
+/// A put's causes: its writer's earlier puts, and those seen.
 #[derive(Debug, Drop)]
 pub struct Cause {
     pub writer: WriterId,
@@ -127,9 +127,9 @@ fn push_clocks(
     Ok(())
 }
 
-/// Returns the clocks of one key's puts, by start. Costs what each joins.
+/// Returns the clocks of a key's puts, by start. Costs each join.
 ///
-/// Each joins those seen and the writer's last, and counts one more (DeCandia et al. 2007, section 4.4).
+/// A put joins those seen and its writer's last, and counts one more (DeCandia et al. 2007, section 4.4).
 pub fn clocks(alloc: Global, causes: &[Cause]) -> Result<Vec<Clock>, Refusal>
     requires { IsEarlier causes.now }
     ensures each { IfOk result (λ clocks. length clocks.items ≡ length causes.now) }

@@ -20,10 +20,10 @@ use std::sync::Arc;
 /// Each 64 consecutive writers have a block: 16 bytes for each counter above 0, or 260 bytes from 17 on, if all are
 /// below 2^31.
 ///
-/// Copies, `bump` and `join` share the blocks of unchanged groups.
+/// Copies, `bump` and `join` share unchanged blocks.
 pub struct Clock {
     alloc: Global,
-    // The writer of the last raise. Its put knows the whole clock, so its counter mostly decides a comparison.
+    // The writer of the last raise. Its put knows the whole clock: its counter mostly decides comparisons.
     own: WriterId,
     blocks: Blocks,
 }
@@ -40,7 +40,7 @@ impl Model for Clock {
     ghost invariant = { λ a. AreBlocks (listed a.blocks) };
 }
 
-// Dropping is a call, so crates above need not check the cases.
+// So crates above need not check the cases.
 impl Drop for Clock {
     fn drop(self) {
         let Clock {
@@ -79,7 +79,7 @@ impl Clock {
         Walk::of(self.blocks())
     }
 
-    /// Lists the counters above 0, by writer. Costs their number, in memory too.
+    /// Lists the counters above 0, by writer. Costs their number, also in memory.
     pub fn list(&self, alloc: Global) -> Result<Vec<Entry>, Refusal>
         ensures value { IfOk result (λ entries. entries.items ≡ self.now) }
         ensures memory { IfErr result (λ e. e ≡ OutOfMemory) }
@@ -105,13 +105,12 @@ impl Clock {
     ///
     /// Costs the entries of both, and `has_group` for each group.
     ///
-    /// With several groups, costs only the logarithm of the entries if the last raised writer's counter is less in the
-    /// other.
+    /// Several groups cost only the logarithm of the entries if the last raised writer's counter is less in the other.
     pub fn le(&self, other: &Clock) -> bool
         ensures { IsTrue result ↔ IsAtMost self.now other.now }
     {
         let (blocks, others) = (self.blocks(), other.blocks());
-        // One block each has at most 64 counters: compare them at once.
+        // One block has at most 64 counters: compares at once.
         if (blocks.len() > 1 || others.len() > 1)
             && counter_in(others, self.own) < counter_in(blocks, self.own)
         {
@@ -124,7 +123,7 @@ impl Clock {
     ///
     /// Shares a group's entries if one clock's are at least the other's.
     ///
-    /// Each other group takes 260 bytes, or 16 for each entry if these are few or a counter is 2^31 or more.
+    /// Each other group takes 260 bytes, or 16 for each entry if few or a counter is 2^31 or more.
     ///
     /// Several groups take 8 bytes each besides, or up to 16 if neither clock has all.
     pub fn join(&self, other: &Clock) -> Result<Clock, Refusal>
@@ -139,8 +138,8 @@ impl Clock {
         })
     }
 
-    // Raises in place the group of the other's last raised writer, if the list of blocks is unshared. Returns whether
-    // the clock then reaches the other.
+    // Raises in place the group of the other's last raised writer, if the blocks are unshared. Returns whether the
+    // other is reached.
     fn raise_own(&mut self, other: &Clock) -> Result<bool, Refusal>
         ensures raised { IfOk result (λ done. done ≡ true
             → (w : ℕ) → counter self.new w ≡ max (counter self.old w) (counter other.now w)) }
@@ -158,14 +157,14 @@ impl Clock {
         Ok(raise_one(alloc, blocks, other.blocks(), group_of(other.own))?)
     }
 
-    /// Raises the clock to another. Costs what `le` and `join` do.
+    /// Raises the clock to another. Costs as `le` and `join`.
     ///
-    /// Takes the memory of `join`, but none if one is at most the other.
+    /// Takes memory as `join`, but none if one is at most the other.
     ///
-    /// If only the group of the other's last raised writer is behind, takes memory only for it, and none for unshared
-    /// 260 bytes.
+    /// If only the other's last raised writer's group is behind, takes memory only for it, and none for unshared 260
+    /// bytes.
     ///
-    /// For this, both must have the group, and the list of groups must be unshared.
+    /// Both must have it then, and the groups must be unshared.
     pub fn raise(&mut self, other: &Clock) -> Result<(), Refusal>
         ensures ok { OnOk result ((w : ℕ) → counter self.new w ≡ max (counter self.old w) (counter other.now w)) }
         ensures err { OnErr result (self.new ≡ self.old) }
@@ -183,7 +182,7 @@ impl Clock {
 
     /// Returns the clock with the writer's counter raised by one. Costs its group's entries, and the groups.
     ///
-    /// Takes memory for these entries, at most 260 bytes, or 1,024 if a counter is 2^31 or more. Shares the others.
+    /// Takes memory for these entries, at most 260 bytes, or 1,024 if a counter is 2^31 or more.
     ///
     /// Several groups take 8 bytes each besides, or up to 16 if the group is new.
     pub fn bump(&self, writer: WriterId) -> Result<Clock, Refusal>
@@ -200,7 +199,7 @@ impl Clock {
         })
     }
 
-    /// Copies the clock without memory, sharing entries. Fails only if 2^64 clocks would share them.
+    /// Copies the clock without memory, sharing entries. Fails only at 2^64 copies.
     pub fn try_copy(&self) -> Result<Clock, Refusal>
         ensures same { IfOk result (λ c. c ≡ self.now) }
         ensures memory { IfErr result (λ e. e ≡ OutOfMemory) }

@@ -5,10 +5,10 @@ ghost use Rattle.ring_clock.specs.Clock.{IsClock, counter};
 
 use ring_names::WriterId;
 
-/// How many consecutive writers share a group.
+/// How many consecutive writers a group has.
 pub const GROUP: u32 = 64;
 
-/// How often a writer put, as a clock knows it: above 0.
+/// How often a writer put, as a clock knows: above 0.
 #[derive(Clone, Copy, Debug, PartialEq, Eq)]
 pub struct Entry {
     pub writer: WriterId,

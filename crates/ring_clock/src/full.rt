@@ -14,7 +14,7 @@ use std::marker::Model;
 
 const PLACES: usize = GROUP as usize;
 
-// Counters are below this, so that the top bit of a difference shows the greater one.
+// Counters are below this: the top bit of a difference shows the greater.
 const LIMIT: u32 = 1 << 31;
 
 /// All counters of a group, each below 2^31, 0 by default. Takes 260 bytes.
@@ -224,7 +224,7 @@ pub fn are_low(entries: &[Entry]) -> bool
     entries.iter().all(|entry| entry.counter < u64::from(LIMIT))
 }
 
-// Looks at all places, so that several are compared at once. Inlined: a call costs a tenth of the work.
+// Looks at all places, several at once. Inlined: a call costs a tenth of the work.
 #[inline(always)]
 fn are_below(first: &[u32; PLACES], second: &[u32; PLACES]) -> bool
     requires first { (k : ℕ) → slice_index first.now k < 2147483648 }

@@ -1,4 +1,4 @@
-//! Laws of clocks made one at a time. Each is the contract of an empty function.
+//! Laws of clocks made one at a time: contracts of empty functions.
 
 ghost use Rattle.std.specs.Prelude.{ℕ, List, [], ◌∷◌, ◌++◌, length, Option};
 ghost use Rattle.ring_clock.specs.declared.entry.Entry.{Entry as TheEntry};
@@ -8,7 +8,7 @@ ghost use Rattle.ring_clock.specs.Built.{IsInput, IsLast, IsNext, AreClocks, wit
 
 /// A further put's clock joins those seen and the writer's last.
 ///
-/// It counts one more for the writer. Other clocks stay.
+/// It counts one more. Other clocks stay.
 pub fn clocks_grow()
     ensures { (causes : List TheCause) (cause : TheCause) (clock : ℕ → List TheEntry) (last : Option ℕ)
         (c : List TheEntry)

@@ -7,7 +7,7 @@ ghost use Rattle.ring_clock.specs.Merge.{EntriesStandFor};
 use crate::entry::{Entry, GROUP};
 use std::alloc::{AllocError, Global};
 
-// Counts leading places with the same writers. None if the first has a greater counter there.
+// Counts leading places with equal writers. None if the first has a greater counter there.
 fn aligned(first: &[Entry], second: &[Entry]) -> Option<usize>
     requires first { IsClock first.now }
     requires second { IsClock second.now }
@@ -55,7 +55,7 @@ fn unaligned(first: &[Entry], second: &[Entry]) -> bool
     true
 }
 
-/// Whether each counter is at most the second's. Mostly their writers have the same places.
+/// Whether each counter is at most the second's. Their writers mostly have the same places.
 pub fn is_at_most(first: &[Entry], second: &[Entry]) -> bool
     requires first { IsClock first.now }
     requires second { IsClock second.now }
@@ -124,7 +124,7 @@ fn merge_into(out: &mut Vec<Entry>, first: &[Entry], second: &[Entry]) -> Result
     Ok(())
 }
 
-/// Returns the greater counters. For one group, takes memory once, for at most as many entries.
+/// Returns the greater counters. For one group, takes memory once, at most for its entries.
 pub fn merged(alloc: Global, first: &[Entry], second: &[Entry]) -> Result<Vec<Entry>, AllocError>
     requires first { IsClock first.now }
     requires second { IsClock second.now }

@@ -11,16 +11,15 @@ use crate::clock::Clock;
 use crate::entry::Entry;
 
 impl Clock {
-    /// Whether some writer of the group has a counter. Costs the logarithm of the groups, or one look if all lesser
-    /// groups have one.
+    /// Whether the group has a counter. Costs the logarithm of the groups, or one look if all lesser groups have one.
     pub fn has_group(&self, group: u32) -> bool
         ensures { IsTrue result ↔ HasGroup group self.now }
     {
         block_of(self.blocks(), group).is_some()
     }
 
-    /// Whether these writers' counters are all below their entries. Costs the entries, for each the logarithm of its
-    /// group's if few, and `has_group` for each change of the group.
+    /// Whether each writer's counter is below its entry. Costs the entries, for each the logarithm of its group's if
+    /// few, and `has_group` for each change of group.
     pub fn is_below_each(&self, entries: &[Entry]) -> bool
         ensures { IsTrue result ↔ All (λ e. counter self.now e.writer.0 < e.counter) entries.now }
     {

@@ -8,16 +8,14 @@ use crate::noted::{FREE, Noted, find, note};
 use std::alloc::{AllocError, Global};
 use std::collections::BTreeMap;
 
-/// Finds bytes in a list, by a checksum.
+/// Finds bytes in a list by a checksum, or by order if too many are close.
 ///
-/// If too many checksums are close, finds them by order.
-///
-/// So bytes chosen to collide cost their length times the logarithm of their number, others their length.
+/// Bytes chosen to collide cost their length times the logarithm of their number, others their length.
 #[derive(Drop)]
 pub struct Finder {
     alloc: Global,
     table: Vec<Noted>,
-    // Those without a place in the table.
+    // without a place in the table
     others: BTreeMap<Vec<u8>, usize>,
 }
 
@@ -47,8 +45,7 @@ impl Finder {
         }
     }
 
-    /// Adds the list's next bytes. If refused, nothing changes. Costs the bytes of the list when their number has
-    /// doubled.
+    /// Adds the list's next bytes. Costs the list's bytes if their number has doubled.
     pub fn add(&mut self, list: &[Vec<u8>], bytes: &[u8]) -> Result<(), AllocError>
         requires knows { Knows self.old (map (λ b. b.items) list.now) }
         requires new { place (map (λ b. b.items) list.now) bytes.now ≡ None }
@@ -78,13 +75,13 @@ impl Finder {
         Ok(())
     }
 
-    // Makes a larger table once the list fills half.
+    // Makes a larger table if the list fills half.
     fn make_room(&mut self, list: &[Vec<u8>]) -> Result<(), AllocError>
         requires { Knows self.old (map (λ b. b.items) list.now) }
         ensures { Knows self.new (map (λ b. b.items) list.now) }
     {
         let count = list.len();
-        // Above the second bound memory cannot suffice; below it the sum stays in range.
+        // Above 2^40 memory cannot suffice; up to it the sum stays in range.
         if count < self.table.len() / 2 || count > 1 << 40 {
             return Ok(());
         }

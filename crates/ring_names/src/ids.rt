@@ -8,7 +8,7 @@ pub struct NodeId(pub u32);
 #[derive(Clone, Copy, Debug, PartialEq, Eq)]
 pub struct WriterId(pub u32);
 
-/// Slot `index` of partition `partition`, both from 0. It keeps the partition's keys.
+/// Slot `index` of partition `partition`, both from 0. Keeps the partition's keys.
 #[derive(Clone, Copy, Debug, PartialEq, Eq, PartialOrd, Ord, Hash)]
 pub struct Slot {
     pub partition: u32,

@@ -1,4 +1,4 @@
-//! What every crate names: refusals, numbers of nodes, writers and slots, and names.
+//! Refusals, names, and numbers of nodes, writers and slots.
 //!
 //! A function without a `Result` takes no memory.
 #![tactic(auto)]

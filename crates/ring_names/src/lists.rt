@@ -9,9 +9,9 @@ use std::alloc::Global;
 use std::collections::HashMap;
 use std::hash::Hash;
 
-/// A list of values for each key, empty by default.
+/// A list of values for each key, by default empty.
 ///
-/// Keys are hashed with a fixed seed: use it for few keys, such as nodes, not for keys chosen by a text's author.
+/// Hashes with a fixed seed: for few keys, such as nodes, not for keys that a text's author chose.
 #[derive(Drop)]
 pub struct Lists<K: Eq + Hash, V> {
     alloc: Global,
@@ -29,7 +29,7 @@ impl<K: Eq + Hash + Drop, V: Drop> Lists<K, V> {
         }
     }
 
-    /// Returns the key's values, in the order of addition.
+    /// Returns the key's values, in order of addition.
     #[inline(always)]
     pub fn items(&self, key: &K) -> &[V]
         ensures { result.now ≡ list_at K.eq self.now key.now }

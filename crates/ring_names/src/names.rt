@@ -14,7 +14,7 @@ pub struct Names {
     names: Numbered,
 }
 
-// Dropping is a call, so crates above need not check the parts.
+// So crates above need not check the parts.
 impl Drop for Names {
     fn drop(self) {
         let Names { names } = self;
@@ -71,7 +71,7 @@ impl Names {
         }
     }
 
-    /// Returns a number's name, if any.
+    /// Returns a number's name.
     pub fn name_of(&self, number: u32) -> Option<&[u8]>
         ensures { option_map (λ name. name.now) result ≡ slice_get self.now number }
     {

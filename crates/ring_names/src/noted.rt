@@ -4,7 +4,7 @@ ghost use Rattle.std.specs.Prelude.{◌≡◌, ℕ, List, Some, true, false, len
 ghost use Rattle.std.specs.List.{fold};
 ghost use Rattle.ring_names.specs.Noted.{IsNoted, first_place, next_sum, noted_at, sum_of, sum_of_words};
 
-/// A checksum of bytes, and 1 plus their number, or 0 if free.
+/// A checksum of bytes, and their number plus 1, or 0 if free.
 #[derive(Clone, Copy)]
 pub struct Noted {
     sum: u32,
@@ -25,7 +25,6 @@ fn next_sum(sum: u64, word: u64) -> u64
     product ^ (product >> 32)
 }
 
-// Sums fewer than 8 bytes.
 fn sum_of_few(bytes: &[u8]) -> u64
     ensures { result ≡ fold next_sum 0 bytes.now }
 {
@@ -76,7 +75,7 @@ fn number_at(table: &[Noted], place: usize, sum: u32) -> Option<usize>
     }
 }
 
-/// Returns the number's bytes, if any.
+/// Returns the number's bytes.
 pub fn bytes_at(list: &[Vec<u8>], number: usize) -> Option<&[u8]>
     ensures { option_map (λ bytes. bytes.now) result ≡ slice_get (map (λ b. b.items) list.now) number }
 {
@@ -146,7 +145,7 @@ fn put(table: &mut [Noted], place: usize, noted: Noted) -> bool
     false
 }
 
-/// Notes the bytes' number, if a place near their checksum's is free. Earlier notes stay.
+/// Notes the bytes' number if a place near their checksum's is free.
 pub fn note(table: &mut [Noted], bytes: &[u8], number: usize) -> bool
     ensures noted { result ≡ true → IsNoted table.new bytes.now number }
     ensures same { result ≡ false → table.new ≡ table.old }

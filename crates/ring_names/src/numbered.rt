@@ -12,7 +12,7 @@ use std::marker::Model;
 
 /// Bytes, numbered by first sight from 0.
 ///
-/// Authors of texts choose them: a look-up mostly costs their length, at worst times the logarithm of their number.
+/// Texts' authors choose them: a look-up mostly costs their length, at worst times the logarithm of their number.
 #[derive(Drop)]
 pub struct Numbered {
     alloc: Global,
@@ -76,7 +76,7 @@ impl Numbered {
         self.finder.number_of(self.list.as_slice(), bytes)
     }
 
-    /// Returns the number's bytes, if any.
+    /// Returns the number's bytes.
     pub fn get(&self, number: usize) -> Option<&[u8]>
         ensures { option_map (λ bytes. bytes.now) result ≡ slice_get self.now number }
     {

@@ -22,43 +22,43 @@ pub enum Refusal {
     UnknownNode(u32),
     /// 4 (line): declared, joined, retired or named twice.
     Repeated(u32),
-    /// 10 (line): not 1 <= R <= N, 1 <= W <= N and R + W > N + f. Up to f nodes may lose their data.
+    /// 10 (line): not 1 <= R <= N, 1 <= W <= N and R + W > N + f, if f nodes may lose their data.
     QuorumTooSmall(u32),
     /// 11 (line): one owner twice in a partition.
     SharedNode(u32),
-    /// 12 (line, or node for events): not a member.
+    /// 12 (line; events: node): not a member.
     NotMember(u32),
     /// 20 (line): the dependency is not an earlier step.
     LaterDependency(u32),
-    /// 21 (step): the step does not fit the slot's stage.
+    /// 21 (step): does not fit the slot's stage.
     WrongStage(u32),
     /// 22 (step): not ordered after the slot's previous step.
     UnorderedSlot(u32),
     /// 23 (step): a listed slot twice, or fewer than R listed.
     BadSource(u32),
-    /// 24 (step): a switch of a listed slot neither before nor after the copy.
+    /// 24 (step): a listed slot's switch neither before nor after the copy.
     MovingSource(u32),
     /// 25 (step): the node may still serve another slot of the partition, from the start or since an earlier step.
     SharedInPlan(u32),
-    /// 26 (step): the node is declared `out`, and no join of it is ordered before the step that mirrors or retires it.
+    /// 26 (step): the node is `out`, without a join ordered before the mirror or retirement.
     NotJoined(u32),
-    /// 27 (step): something the node held, from the start or since a mirror, has no drop ordered before its retirement.
+    /// 27 (step): a slot held at the start or since a mirror, without a drop ordered before the retirement.
     RetiredInUse(u32),
     /// 28: the planner found none.
     NoPlan,
     /// 30 (fact): fewer than two steps, or a link that is not a direct dependency.
     BadPath(u32),
-    /// 32 (node, step): no chain of the node has the copy, although the node takes part.
+    /// 32 (node, step): no chain of the node has the copy, although it takes part.
     CoverMissing(u32, u32),
-    /// 33 (chain): an unordered link, or an entry that is not a copy in which the node takes part.
+    /// 33 (chain): an unordered link, or an entry that is not a copy with the node.
     ChainBroken(u32),
-    /// 34 (node): more chains than the allowance, on one side if it has two.
+    /// 34 (node): more chains than the allowance of a side.
     TooManyChains(u32),
     /// 40: a dependency is not done, or a named get has not ended.
     NotReady,
     /// 41: already done.
     AlreadyDone,
-    /// 42 (node): the node must be up.
+    /// 42 (node): not up.
     NodeDown(u32),
     /// 43: the keeper has a hint for another slot of the partition.
     KeeperTaken,
@@ -68,17 +68,17 @@ pub enum Refusal {
     StaleTickets(u32),
     /// 46 (read): fewer than R slots read.
     TooFewSlots(u32),
-    /// 47: no such step of that kind, put, get, partition, slot or chunk.
+    /// 47: no such step, put, get, partition, slot or chunk.
     UnknownNumber,
     /// 48: hints must be handed off first.
     HintsLeft,
     /// 49: the copy is not open.
     NotOpen,
-    /// 50 (left): that many chunks are unmarked.
+    /// 50 (left): so many chunks are unmarked.
     ChunksLeft(u32),
     /// 51: the history has 1,000,000 entries.
     HistoryFull,
-    /// 52: as many nodes lost their data as the ring allows.
+    /// 52: the allowed number of nodes lost their data.
     LossesSpent,
     /// 60: memory ran out.
     OutOfMemory,
@@ -86,16 +86,16 @@ pub enum Refusal {
     ReadFailed,
     /// 62: the output failed.
     WriteFailed,
-    /// 70 (index, code): the first entry whose event is refused (code: that refusal) or has another reply (code 0).
+    /// 70 (index, code): the first entry refused (with that code), or with another reply (code 0).
     Mismatch(u32, u32),
-    /// 70: the records of a run disagree.
+    /// 70: the run's records disagree.
     Disagree,
-    /// 71: a stated limit of turns is used up.
+    /// 71: a limit of turns is used up.
     TurnsSpent,
 }
 
 impl Refusal {
-    /// Returns the number used by formats and programs.
+    /// Returns the number that formats and programs use.
     pub fn number(&self) -> u8
         ensures { result ≡ number_of self.now }
     {
@@ -160,7 +160,7 @@ impl Refusal {
         }
     }
 
-    /// Adds the refusal's line: `no`, its number and values, and a newline.
+    /// Adds the line: `no`, number, values, newline.
     pub fn write_line(&self, out: &mut Vec<u8>) -> Result<(), AllocError>
         ensures ok { OnOk result (out.new.items ≡ out.old.items ++ line_of self.now) }
     {

@@ -8,15 +8,15 @@ use crate::refusal::Refusal;
 use std::alloc::Global;
 use std::marker::Model;
 
-/// Rows in one vector, so that a row needs no allocation.
+/// Rows in one vector: a row needs no allocation.
 #[derive(Debug)]
 pub struct Rows {
-    // Where each row ends.
+    // Each row's end.
     ends: Vec<usize>,
     numbers: Vec<u32>,
 }
 
-// Dropping is a call, so crates above need not check the parts.
+// So crates above need not check the parts.
 impl Drop for Rows {
     fn drop(self) {
         let Rows { ends, numbers } = self;
@@ -85,7 +85,7 @@ impl Rows {
         row_at(self.ends.as_slice(), self.numbers.as_slice(), place)
     }
 
-    /// Adds a row. If refused, nothing changes.
+    /// Adds a row.
     #[inline(always)]
     pub fn push(&mut self, row: &[u32]) -> Result<(), Refusal>
         ensures ok { OnOk result (self.new ≡ self.old ++ row.now ∷ []) }

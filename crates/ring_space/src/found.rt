@@ -1,6 +1,6 @@
 //! The place of a key.
 
-/// The place of a key: its partition, from 0 to q-1, and its chunk of that partition, from 0 to 15.
+/// A key's partition, 0 to q-1, and its chunk of that partition, 0 to 15.
 #[derive(Clone, Copy, Debug, PartialEq, Eq)]
 pub struct Place {
     pub partition: u32,

@@ -1,4 +1,4 @@
-//! The places of a store's keys: each key's partition of the hash space, and its chunk of the partition.
+//! A key's partition of the hash space, and chunk of the partition.
 #![tactic(auto)]
 
 mod found;

@@ -7,14 +7,13 @@ ghost use Rattle.ring_space.specs.Place.{place_of, place_at, log2};
 use crate::found::Place;
 use md5::{Digest, Md5};
 
-// The place of a key of this digest.
 fn place_by(q: u32, digest: [u8; 16]) -> Place
     requires { is_space q ≡ true }
     ensures place { result ≡ place_at (log2 12 q) digest }
     ensures partition { result.partition < q }
     ensures chunk { result.chunk < 16 }
 {
-    // So many digests share a chunk.
+    // Digests in a chunk.
     let width = (1 << 124) / u128::from(q);
     let chunks = (u128::from_be_bytes(digest) / width) as u32;
     Place {
@@ -23,11 +22,10 @@ fn place_by(q: u32, digest: [u8; 16]) -> Place
     }
 }
 
-/// Returns a key's place among q partitions; q is a power of two from 1 to 4,096. The key's MD5 digest (RFC
-/// 1321), read big-endian, decides.
+/// Returns a key's place among q partitions; q is a power of two from 1 to 4,096. The key's MD5 digest (RFC 1321), read
+/// big-endian, decides.
 ///
-/// The partition is the digest's first log2 q bits, and the chunk the next four (DeCandia et al. 2007, sections
-/// 4.1 and 6.2). Takes no memory.
+/// Its first log2 q bits are the partition, and the next four the chunk (DeCandia et al. 2007, sections 4.1 and 6.2).
 pub fn place(q: u32, key: &[u8]) -> Place
     requires { is_space q ≡ true }
     ensures place { result ≡ place_of q key.now }

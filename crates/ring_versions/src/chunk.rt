@@ -15,7 +15,7 @@ use std::alloc::Global;
 use std::marker::Model;
 use std::sync::Arc;
 
-/// A part shared by copies. Its group is kept outside, so that a search reads only the parts it needs.
+/// A part that copies share. Its group is outside: a search reads only needed parts.
 #[derive(Drop)]
 pub struct Chunk {
     group: Group,
@@ -63,7 +63,7 @@ impl Chunk {
         self.group.number
     }
 
-    /// Adds a copy in place, raising the join. Returns false, without changes, if the chunk is shared.
+    /// Adds a copy in place, raising the join. Returns false if the chunk is shared.
     pub fn add(&mut self, version: &Version, join: &mut Clock) -> Result<bool, Refusal>
         ensures added { IfOk result (λ done. done ≡ true → self.new ≡ self.old ++ version.now ∷ []) }
         ensures raised { IfOk result (λ done. done ≡ true
@@ -87,7 +87,7 @@ impl Chunk {
         &self.shared
     }
 
-    /// Returns true only if no version's clock is at most this one.
+    /// True only if no version's clock is at most this one.
     pub fn is_beyond(&self, top: &Clock) -> bool
         ensures { IsTrue result → (v : TheVersion) → IsIn v self.now → IsAtMost v.clock top.now → ⊥ }
     {

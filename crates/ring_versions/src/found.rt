@@ -13,7 +13,7 @@ use ring_names::{Listed, Refusal};
 use std::alloc::Global;
 use std::marker::Model;
 
-/// Versions found, and the join of their clocks.
+/// Versions, and the join of their clocks.
 #[derive(Drop)]
 pub struct Found {
     versions: Versions,
@@ -76,7 +76,7 @@ impl Found {
         Ok(join)
     }
 
-    /// Returns the merge with another set. Costs a merge, and both joins' entries if the other brings a version.
+    /// Merges another set. Costs a merge, and both joins' entries if versions come.
     pub fn with(&self, more: &Versions) -> Result<Found, Refusal>
         ensures ok { IfOk result (IsMerge self.now more.now) }
         ensures memory { IfErr result (λ e. e ≡ OutOfMemory) }

@@ -1,10 +1,10 @@
-//! A merge before it is taken in.
+//! A prepared merge.
 
 ghost use Rattle.std.specs.Prelude.{◌↔◌, IsTrue};
 
 use crate::versions::Versions;
 
-/// A merge made aside, so that taking it in cannot fail. Empty if the set covers the other.
+/// A prepared merge: taking it in cannot fail. Empty if the set covers the other.
 #[derive(Drop)]
 pub struct Fresh {
     pub(crate) merged: Versions,

@@ -37,9 +37,7 @@ impl Group {
         }
     }
 
-    /// Whether the group shows that no added clock is at most this one.
-    ///
-    /// Each counts in the group, this one does not.
+    /// Whether the group shows that no added clock is at most this one, which has no counter there.
     pub fn is_beyond(self, top: &Clock) -> bool
         ensures { IsTrue result → (vs : List TheVersion) → AreOf self vs
             → (v : TheVersion) → IsIn v vs → IsAtMost v.clock top.now → ⊥ }

@@ -74,7 +74,6 @@ fn keep_all(alloc: Global, left: &mut Left, chunk: &Chunk, fresh: Held) -> Resul
     Ok(())
 }
 
-// Keeps a chunk's uncovered versions.
 fn keep(
     alloc: Global,
     left: &mut Left,
@@ -101,7 +100,7 @@ fn keep(
 
 /// Returns the uncovered versions. `top` is at least each fresh clock.
 ///
-/// Costs a look at each version, and copies those of chunks that change.
+/// Costs a look at each version, and copies changed chunks' versions.
 pub fn left_of(alloc: Global, chunks: &[Chunk], fresh: Held, top: &Clock) -> Result<Left, Refusal>
     requires apart { IsApart (all_of chunks.now) }
     requires top { (v : TheVersion) → IsIn v (looked_at fresh) → IsAtMost v.clock top.now }

@@ -1,4 +1,4 @@
-//! Versions of a key's value, none an ancestor of another (DeCandia et al. 2007, section 4.4).
+//! Versions of a key, none an ancestor of another (DeCandia et al. 2007, section 4.4).
 //!
 //! A function without a `Result` takes no memory.
 #![tactic(auto)]

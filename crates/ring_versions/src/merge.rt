@@ -65,7 +65,7 @@ fn is_beside(versions: &[Version], clock: &Clock) -> bool
     versions.iter().all(|version| !clock.le(&version.clock) && !version.clock.le(clock))
 }
 
-/// Adds a copy if the version conflicts with each listed one. Returns whether it did.
+/// Adds a copy if the version conflicts with each listed one, and says whether.
 ///
 /// Costs at most two comparisons with each, and memory for one version.
 pub fn add_beside(list: &mut Vec<Version>, version: &Version) -> Result<bool, Refusal>
@@ -84,7 +84,7 @@ pub fn add_beside(list: &mut Vec<Version>, version: &Version) -> Result<bool, Re
     Ok(true)
 }
 
-/// Merges two single versions. Empty if the held one covers the other; if the other covers it, shares the other's set.
+/// Merges two versions. Empty if the held covers the other; shares the other's set if that covers it.
 pub fn merged_one(
     alloc: Global,
     held: &Version,
@@ -107,7 +107,7 @@ pub fn merged_one(
     Versions::of_list(alloc, both)
 }
 
-/// Returns the merge. Empty, without memory, if those held cover the others. Shares the others if they cover all.
+/// Returns the merge. Empty, without memory, if the held cover the others. Shares the others if they cover all.
 pub fn merged(alloc: Global, held: Held, others: &Versions) -> Result<Versions, Refusal>
     requires { IsApart (looked_at held) }
     ensures ok { IfOk result (Brings (looked_at held.entry) others.now) }

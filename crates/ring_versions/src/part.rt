@@ -1,4 +1,4 @@
-//! Versions with what a search needs first.
+//! Versions with what a search reads first.
 
 ghost use Rattle.std.specs.Prelude.{◌≡◌, ◌↔◌, ◌∷◌, ◌++◌, [], ℕ, max, IsTrue, IfOk, IfErr, OnOk, OnErr};
 ghost use Rattle.ring_names.specs.declared.refusal.Refusal.TheVariants.{OutOfMemory};
@@ -14,7 +14,7 @@ use ring_names::Refusal;
 use std::alloc::Global;
 use std::marker::Model;
 
-/// Versions of one group, each with its writer's entry. The join is at least each clock.
+/// One group's versions, each with its writer's entry. The join is at least each clock.
 #[derive(Drop)]
 pub struct Part {
     group: Group,
@@ -127,7 +127,7 @@ impl Part {
         })
     }
 
-    /// Adds a copy. If refused, nothing changes.
+    /// Adds a copy.
     pub fn put(&mut self, version: &Version) -> Result<(), Refusal>
         ensures ok { OnOk result (self.new ≡ self.old ++ version.now ∷ []) }
         ensures err { OnErr result (self.new ≡ self.old) }
@@ -143,7 +143,7 @@ impl Part {
         Ok(())
     }
 
-    /// Adds a copy, and raises the join. If refused, neither changes.
+    /// Adds a copy, and raises the join.
     pub fn put_under(&mut self, version: &Version, join: &mut Clock) -> Result<(), Refusal>
         ensures ok { OnOk result (self.new ≡ self.old ++ version.now ∷ []) }
         ensures raised { OnOk result

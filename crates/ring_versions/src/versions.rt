@@ -27,7 +27,7 @@ use std::marker::Model;
 use std::slice;
 use std::sync::Arc;
 
-// From this many versions on, a set has chunks. Fewer are searched as fast without.
+// From so many versions on, a set has chunks. Fewer are searched as fast without.
 const MANY: usize = 8;
 
 /// A set of unordered versions, shared by copies.
@@ -35,9 +35,9 @@ const MANY: usize = 8;
 /// Costs are for clocks of puts, and eight versions or more. Such a clock covers a version exactly if it reaches the
 /// own writer's counter. Other clocks may cost a comparison with each version.
 ///
-/// From eight versions on, each is in a chunk for the group of its own writer. A set takes 16 bytes for each chunk.
+/// From eight versions on, each is in a chunk for its writer's group. A set takes 16 bytes for each chunk.
 ///
-/// A shared chunk takes about 100 bytes, 16 for each version besides the version, and the unshared entries of its join.
+/// A shared chunk takes about 100 bytes, 16 besides for each version, and the unshared entries of its join.
 pub struct Versions {
     alloc: Global,
     shared: Shared,
@@ -56,7 +56,7 @@ impl Model for Versions {
     ghost invariant = { λ a. IsApart (shared_versions a.shared) };
 }
 
-// Dropping is a call, so crates above need not check the cases.
+// So crates above need not check the cases.
 impl Drop for Versions {
     fn drop(self) {
         let Versions { alloc: _, shared } = self;
@@ -89,7 +89,7 @@ impl Versions {
         Versions::of_left(alloc, join_of(alloc, list.as_slice())?, Left { kept, made })
     }
 
-    // Makes the set, given the join of its clocks.
+    // Makes the set with the join of its clocks.
     pub(crate) fn of_left(alloc: Global, join: Clock, left: Left) -> Result<Versions, Refusal>
         requires apart { IsApart (all_left left) }
         requires join { RaisesTo [] (IsClockIn (all_left left)) join }
@@ -130,7 +130,7 @@ impl Versions {
         self.held().walk()
     }
 
-    /// Returns some version, if any.
+    /// Returns some version.
     pub fn first(&self) -> Option<&Version>
         ensures value { option_map (λ v. v.now) result ≡ slice_get self.now 0 }
         ensures apart { IsApart self.now }
@@ -158,27 +158,26 @@ impl Versions {
 
     /// Whether some version covers the clock. Costs a look at the join.
     ///
-    /// If that reaches the clock, also looks at each chunk's group and one chunk's entries, and compares once.
+    /// If the join reaches the clock, also looks at each chunk's group and one chunk's entries, and compares once.
     pub fn covers(&self, clock: &Clock) -> bool
         ensures { IsTrue result ↔ Covers self.now clock.now }
     {
         self.held().covers(clock)
     }
 
-    /// Merges another set: the result covers what either covered, without ancestors. If refused, nothing changes.
+    /// Merges another set: covers what either covered, without ancestors.
     ///
-    /// Costs a look for each version of the other set, and for each own chunk one at its group.
+    /// Costs a look for each version of the other set, and one at each own chunk's group.
     ///
-    /// If new versions have counters there, a chunk costs looks at the versions' own entries instead, or one look if
-    /// these may cover it.
+    /// If new versions have counters there, a chunk costs looks at the versions' own entries, or one look if these may
+    /// cover it.
     ///
-    /// Takes no memory if this set covers the other. One version that conflicts with all is added in place if no set
-    /// shares them, for one version's memory.
+    /// Takes no memory if this set covers the other. A version that conflicts with all is added in place, for its
+    /// memory, if no set shares them.
     ///
-    /// A set below eight compares the version at most twice with each; a larger one raises two joins (`Clock::raise`).
+    /// A set below eight compares it at most twice with each; a larger one raises two joins (`Clock::raise`).
     ///
-    /// Otherwise copies new and staying versions; from eight on only those in chunks that change, the chunks and the
-    /// join.
+    /// Otherwise copies new and staying versions; from eight on only those in changed chunks, the chunks and the join.
     pub fn merge(&mut self, other: &Versions) -> Result<(), Refusal>
         ensures ok { OnOk result (IsMerge self.old other.now self.new) }
         ensures err { OnErr result (self.new ≡ self.old) }
@@ -194,8 +193,8 @@ impl Versions {
         Ok(())
     }
 
-    // Merges one version in place. Returns false, without changes, unless it conflicts with each and the changed part
-    // is unshared. A list never reaches eight here.
+    // Merges one version in place. Returns false unless it conflicts with each and the changed part is unshared. A list
+    // never reaches eight here.
     fn add(&mut self, version: &Version) -> Result<bool, Refusal>
         ensures added { IfOk result (λ done. done ≡ true → IsMerge self.old (version.now ∷ []) self.new) }
         ensures same { IfOk result (λ done. done ≡ false → self.new ≡ self.old) }
@@ -215,7 +214,7 @@ impl Versions {
         }
     }
 
-    /// Prepares a merge, empty if this set covers the other. Costs what `merge` does.
+    /// Prepares a merge, empty if this set covers the other. Costs as `merge`.
     pub fn fresh_of(&self, other: &Versions) -> Result<Fresh, Refusal>
         ensures ok { IfOk result (λ f. IsFreshFor self.now other.now f) }
         ensures memory { IfErr result (λ e. e ≡ OutOfMemory) }
@@ -235,7 +234,7 @@ impl Versions {
         }
     }
 
-    /// Completes a merge prepared for this set. Cannot fail. Costs dropping the old versions.
+    /// Completes a prepared merge. Costs dropping the old versions.
     pub fn absorb(&mut self, fresh: Fresh)
         requires { FitsIn self.old fresh }
         ensures { (other : List Version) → IsFreshFor self.old other fresh → IsMerge self.old other self.new }
@@ -254,7 +253,7 @@ impl Versions {
         puts_of(self.alloc, self.versions())
     }
 
-    // Free from eight versions on, otherwise costs the entries.
+    // Free from eight versions on; otherwise costs the entries.
     pub(crate) fn join(&self) -> Result<Clock, Refusal>
         ensures ok { IfOk result (RaisesTo [] (IsClockIn self.now)) }
         ensures memory { IfErr result (λ e. e ≡ OutOfMemory) }
@@ -276,7 +275,7 @@ impl Versions {
         }
     }
 
-    /// Copies the set without memory, sharing versions. Fails only if 2^64 sets would share them.
+    /// Copies the set without memory, sharing versions. Fails only at 2^64 copies.
     pub fn try_copy(&self) -> Result<Versions, Refusal>
         ensures same { IfOk result (λ s. s ≡ self.now) }
         ensures apart { IsApart self.now }

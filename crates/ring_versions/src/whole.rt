@@ -113,13 +113,12 @@ impl Whole {
         self.chunks.as_slice()
     }
 
-    /// Whether some chunk has the group. Costs a look at each, not into them.
+    /// Whether some chunk has the group. Costs a look at each, not into it.
     pub fn has_group(&self, group: u32) -> bool {
         self.chunks.iter().any(|chunk| chunk.group() == group)
     }
 
-    /// Whether some version covers the clock. Mostly its own writer decides: by the join if no version covers it,
-    /// otherwise by that writer's version.
+    /// Whether some version covers the clock. The join mostly decides if none does, otherwise the own writer's version.
     pub fn covers(&self, clock: &Clock) -> bool
         ensures { IsTrue result ↔ Covers self.now clock.now }
     {
@@ -139,10 +138,10 @@ impl Whole {
         self.join.counter(own) < clock.counter(own) && are_beyond(self.chunks.as_slice(), clock)
     }
 
-    /// Merges one version in place. Returns false, without changes, unless it clearly conflicts with each and its
-    /// group's chunk is unshared.
+    /// Merges one version in place. Returns false unless it clearly conflicts with each and its group's chunk is
+    /// unshared.
     ///
-    /// Costs the entries of two joins, and a look at each chunk's group, or at its versions' own entries if the version
+    /// Costs two joins' entries, and a look at each chunk's group, or at its versions' own entries if the version
     /// counts there.
     pub fn add(&mut self, version: &Version) -> Result<bool, Refusal>
         requires { IsApart self.old }

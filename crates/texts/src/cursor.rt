@@ -24,14 +24,14 @@ impl<'a> Model for Cursor<'a> {
 }
 
 impl<'a> Cursor<'a> {
-    /// Returns all parts of a line without its last byte 0A.
+    /// Returns a line's parts, without its last byte 0A.
     pub fn of(line: &'a [u8]) -> Cursor<'a>
         ensures { result ≡ fields_of line.now }
     {
         Cursor { rest: Some(line) }
     }
 
-    /// Takes the next part, if any.
+    /// Takes the next part.
     #[inline(always)]
     pub fn next(&mut self) -> Option<&'a [u8]>
         ensures { MatchOption result ((self.old ≡ []) × (self.new ≡ [])) (λ field. self.old ≡ field.now ∷ self.new) }
@@ -42,7 +42,7 @@ impl<'a> Cursor<'a> {
         Some(field)
     }
 
-    /// Takes the next part if it is this word. Returns whether it was.
+    /// Takes the next part if it is this word, and says whether.
     #[inline(always)]
     pub fn takes(&mut self, word: &[u8]) -> bool
         ensures taken { result ≡ true → self.old ≡ word.now ∷ self.new }
@@ -64,7 +64,7 @@ impl<'a> Cursor<'a> {
         true
     }
 
-    /// Splits the parts at the first such word, if any.
+    /// Splits the parts at the first such word.
     pub fn split(self, word: &[u8]) -> (Cursor<'a>, Option<Cursor<'a>>)
         ensures front { result.0 ≡ front_of word.now self.entry }
         ensures behind { result.1 ≡ behind_of word.now self.entry }

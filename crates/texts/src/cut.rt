@@ -7,7 +7,7 @@ ghost use Rattle.texts.specs.Parts.{until};
 
 use memchr::memchr;
 
-// Cuts at the first separator, if any.
+// Cuts at the first separator.
 #[inline(always)]
 pub fn cut(bytes: &[u8], separator: u8) -> (&[u8], Option<&[u8]>)
     ensures { MatchOption result.1
@@ -20,7 +20,7 @@ pub fn cut(bytes: &[u8], separator: u8) -> (&[u8], Option<&[u8]>)
     }
 }
 
-// Cuts at a near separator, four bytes at a time: faster than a search there.
+// Cuts at a near separator, four bytes at a time: faster there than a search.
 #[inline(always)]
 pub fn cut_near(bytes: &[u8], separator: u8) -> (&[u8], Option<&[u8]>)
     ensures { MatchOption result.1
@@ -44,7 +44,7 @@ pub fn cut_near(bytes: &[u8], separator: u8) -> (&[u8], Option<&[u8]>)
     (bytes, None)
 }
 
-// Whether the bytes before the first space or `end` are this word. Byte by byte, since callers pass known words.
+// Whether this word ends at the first space or `end`. Goes byte by byte: callers pass known words.
 #[inline(always)]
 pub fn stands_in_front(bytes: &[u8], word: &[u8], end: u8) -> bool
     ensures { result ≡ bytes_eq (until (λ b. (b == 32) || (b == end)) bytes.now) word.now }

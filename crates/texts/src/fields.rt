@@ -13,7 +13,7 @@ use crate::number_row::NumberRow;
 use ring_names::Refusal;
 use std::marker::Model;
 
-/// The remaining fields of a line, and its number.
+/// A line's remaining fields, and its number.
 #[derive(Drop)]
 pub struct Fields<'a> {
     line: u32,
@@ -29,7 +29,7 @@ impl<'a> Model for Fields<'a> {
 }
 
 impl<'a> Fields<'a> {
-    /// Returns all fields of a line without its last byte 0A.
+    /// Returns a line's fields, without its last byte 0A.
     #[inline(always)]
     pub fn of(line: u32, text: &'a [u8]) -> Fields<'a>
         ensures { result ≡ record { number = line; fields = fields_of text.now } }
@@ -47,7 +47,7 @@ impl<'a> Fields<'a> {
         self.line
     }
 
-    /// Takes the next field, if any.
+    /// Takes the next field.
     #[inline(always)]
     pub fn next(&mut self) -> Option<&'a [u8]>
         ensures field { MatchOption result ((self.old.fields ≡ []) × (self.new.fields ≡ []))
@@ -57,7 +57,7 @@ impl<'a> Fields<'a> {
         self.rest.next()
     }
 
-    /// Takes the next field if it is this word. Returns whether it was.
+    /// Takes the next field if it is this word, and says whether.
     #[inline(always)]
     pub fn takes(&mut self, word: &[u8]) -> bool
         ensures taken { result ≡ true → self.old.fields ≡ word.now ∷ self.new.fields }
@@ -81,7 +81,7 @@ impl<'a> Fields<'a> {
         Err(Refusal::BadLine(self.line))
     }
 
-    /// Takes the next field. Returns its number, at most `CAP`: decimal, any length, no sign or leading zeros.
+    /// Takes the next field. Returns its decimal number, at most `CAP`: any length, no sign or leading zeros.
     #[inline(always)]
     pub fn value(&mut self) -> Option<u64>
         ensures value { result ≡ option_map capped (first_value self.old.fields) }
@@ -101,7 +101,7 @@ impl<'a> Fields<'a> {
         self.rest.again().next_number().is_some()
     }
 
-    /// Takes a number. Fails with `BadLine` for another field, and with `TooLarge` above the limit.
+    /// Takes a number. Fails with `BadLine`, or with `TooLarge` above the limit.
     #[inline(always)]
     pub fn number(&mut self, limit: u32) -> Result<u32, Refusal>
         ensures { Does (λ k. number_at k limit) self.old result self.new }
@@ -113,7 +113,7 @@ impl<'a> Fields<'a> {
         }
     }
 
-    /// Takes the next fields that are numbers.
+    /// Takes the next numbers.
     #[inline(always)]
     pub fn numbers(&mut self) -> NumberRow<'a>
         ensures numbers { result ≡ numbers_of self.old.fields }
@@ -133,7 +133,7 @@ impl<'a> Fields<'a> {
         }
     }
 
-    /// Splits the fields at the first such word, if any.
+    /// Splits the fields at the first such word.
     pub fn split(self, word: &[u8]) -> (Fields<'a>, Option<Fields<'a>>)
         ensures front { result.0 ≡ record { number = self.entry.number; fields = front_of word.now self.entry.fields } }
         ensures behind { result.1 ≡ option_map (λ fs. record { number = self.entry.number; fields = fs })

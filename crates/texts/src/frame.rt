@@ -1,4 +1,4 @@
-//! The first and last line of a text's sections.
+//! The first and last line of sections.
 
 ghost use Rattle.std.specs.Prelude.{◌≡◌, IfErr, OnOk};
 ghost use Rattle.texts.specs.Left.{Answers, one_line, next_number};

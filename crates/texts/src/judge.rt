@@ -54,7 +54,7 @@ pub fn finish<A: Drop>(item: Result<A, Refusal>, fields: Fields) -> Result<A, Re
     }
 }
 
-/// Joins the faults of three parts and of remaining fields. Returns the last two values.
+/// Joins the faults of three parts and remaining fields. Returns the last two values.
 #[tactic(auto, unfolding(crate::specs::Judging::both_of))]
 pub fn finish_both<Z: Drop, A: Drop, B: Drop>(
     before: Result<Z, Refusal>,

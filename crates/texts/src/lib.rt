@@ -1,4 +1,4 @@
-//! What all texts share: lines of fields, which are words, names and numbers. All readers use it.
+//! All texts' lines of fields: words, names and numbers.
 #![tactic(auto)]
 
 mod compare;

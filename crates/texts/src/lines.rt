@@ -18,7 +18,7 @@ fn behind(line: u32) -> u32
     if line < u32::MAX { line + 1 } else { line }
 }
 
-/// The remaining lines, and the next one's number, from 1. Lines from 2^32 - 1 on all have that number.
+/// The remaining lines, and the next one's number, from 1, at most 2^32 - 1.
 #[derive(Drop)]
 pub struct Lines<'a> {
     line: u32,
@@ -72,7 +72,7 @@ impl<'a> Lines<'a> {
         }
     }
 
-    /// Whether the next line begins with this field.
+    /// Whether this field begins the next line.
     #[inline(always)]
     pub fn begins(&self, word: &[u8]) -> bool
         ensures { result ≡ begins_with word.now self.now.lines }
@@ -88,7 +88,7 @@ impl<'a> Lines<'a> {
         self.rest
     }
 
-    /// Goes on to the next line: `rest` has its bytes and those after it.
+    /// Goes on to the next line, which `rest` begins with.
     #[inline(always)]
     pub fn go_on(&mut self, rest: &'a [u8])
         ensures { self.new ≡ record { line = next_number self.old.line; lines = lines_of rest.now } }
@@ -106,7 +106,7 @@ impl<'a> Lines<'a> {
         self.rest.is_empty()
     }
 
-    /// Fails with `BadLine` at the next line unless the text is over.
+    /// Fails with `BadLine` unless the text is over.
     pub fn ended(&self) -> Result<(), Refusal>
         ensures { result ≡ over_at self.now }
     {

@@ -8,13 +8,13 @@ ghost use Rattle.texts.specs.KeptRow.{Measures};
 
 use crate::number::CAP;
 
-/// What is known of successive numbers.
+/// Facts about successive numbers.
 #[derive(Clone, Copy, Drop)]
 pub(crate) struct Measure {
     pub(crate) count: u64,
-    // One more than the greatest number, which counts as at most `CAP`; 0 without numbers.
+    // The greatest number plus one, at most `CAP` plus one; 0 without numbers.
     pub(crate) bound: u64,
-    // Known only if all are below `CAP`.
+    // Only known if all are below `CAP`.
     pub(crate) ascends: bool,
     // Those from `CAP` on are not exact.
     pub(crate) first: [u32; 8],
@@ -47,7 +47,7 @@ impl Measure {
         }
     }
 
-    /// Takes the next number, given as at most `CAP`.
+    /// Adds a number, given as at most `CAP`.
     #[inline(always)]
     pub(crate) fn add(&mut self, value: u64)
         requires { value ≤ 4294967296 }
@@ -59,7 +59,7 @@ impl Measure {
         self.bound = self.bound.max(value + 1);
     }
 
-    /// Returns the numbers, if at most 8 and each is a `u32`.
+    /// Returns the numbers, if at most 8 and each a `u32`.
     pub(crate) fn kept(&self) -> Option<&[u32]>
         ensures some { (xs : List ℕ) → Measures xs self.now → is_some result ≡ (nat_le (length xs) 8 && are_small xs) }
         ensures same { IfSome result (λ s. (xs : List ℕ) → Measures xs self.now → s.now ≡ xs) }

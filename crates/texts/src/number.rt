@@ -7,17 +7,17 @@ ghost use Rattle.texts.specs.Kept.{fields_left};
 ghost use Rattle.texts.specs.Number.{value_from, is_number, capped};
 ghost use Rattle.texts.specs.Numbers.{numbers_of};
 
-/// Above every limit of a text. Greater numbers count as this one.
+/// Above every limit of a text. Greater numbers count as this.
 pub const CAP: u64 = 4_294_967_296;
 
-/// A number at the start of some bytes.
+/// A number in front of some bytes.
 #[derive(Drop)]
 pub(crate) struct Front<'a> {
     /// Decimal, of any length, without sign or leading zeros.
     pub(crate) digits: &'a [u8],
     /// At most `CAP`.
     pub(crate) value: u64,
-    /// What follows the space that ends the number, if any.
+    /// What follows the number's space.
     pub(crate) rest: Option<&'a [u8]>,
 }
 
@@ -43,7 +43,7 @@ fn capped_value(digits: &[u8]) -> u64
     value
 }
 
-// Returns the value, at most `CAP`, given that of up to 9 digits.
+// Returns the value, at most `CAP`, given the value of up to 9 digits.
 #[inline(always)]
 fn value_of(digits: &[u8], short: u64) -> u64
     requires digits { all_ascii_digits digits.now ≡ true }

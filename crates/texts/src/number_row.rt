@@ -36,14 +36,13 @@ impl<'a> Model for NumberRow<'a> {
 }
 
 impl<'a> Cursor<'a> {
-    // Copies the cursor.
     pub(crate) fn again(&self) -> Cursor<'a>
         ensures { result ≡ self.now }
     {
         Cursor { rest: self.rest }
     }
 
-    // Takes the next part if it is a number. Returns its value, at most `CAP`.
+    // Takes the next part if a number. Returns its value, at most `CAP`.
     #[tactic(auto, using(crate::proofs::InFront::none_beyond))]
     #[inline(always)]
     pub(crate) fn next_number(&mut self) -> Option<(&'a [u8], u64)>
@@ -63,7 +62,7 @@ impl<'a> Cursor<'a> {
         }
     }
 
-    /// Takes the next parts that are numbers.
+    /// Takes the next numbers.
     #[inline(always)]
     pub fn numbers(&mut self) -> NumberRow<'a>
         ensures numbers { result ≡ numbers_of self.old }
@@ -152,7 +151,7 @@ impl<'a> NumberRow<'a> {
         true
     }
 
-    /// Returns the numbers, if at most 8 and each is a `u32`.
+    /// Returns the numbers, if at most 8 and each a `u32`.
     pub fn kept(&self) -> Option<&[u32]>
         ensures some { is_some result ≡ (nat_le (length self.now) 8 && are_small self.now) }
         ensures same { IfSome result (λ kept. kept.now ≡ self.now) }

@@ -1,6 +1,6 @@
-//! Reads plainly spelled parts of a text, without cutting it into lines and fields.
+//! Reads plainly spelled text, uncut.
 //!
-//! A reader that gets `None` reads the line by its fields, which names a fault.
+//! A reader that gets `None` reads the line by its fields, to name a fault.
 
 ghost use Rattle.std.specs.Prelude.{◌≡◌, ◌++◌, map, IfSome};
 ghost use Rattle.std.specs.Fmt.{decimal};
@@ -8,7 +8,7 @@ ghost use Rattle.texts.specs.Parts.{spaced};
 
 use crate::number::are_number;
 
-/// Returns the text after this word, if it begins so.
+/// Returns the text after this leading word.
 #[inline(always)]
 pub fn after_word<'a>(text: &'a [u8], word: &[u8]) -> Option<&'a [u8]>
     ensures { IfSome result (λ rest. text.now ≡ word.now ++ rest.now) }
@@ -24,7 +24,7 @@ pub fn after_word<'a>(text: &'a [u8], word: &[u8]) -> Option<&'a [u8]>
     Some(&text[word.len()..])
 }
 
-/// Returns the bytes before the first space or line end, and the rest.
+/// Splits before the first space or line end.
 #[inline(always)]
 pub fn plain_word(text: &[u8]) -> (&[u8], &[u8])
     ensures { text.now ≡ result.0.now ++ result.1.now }
@@ -37,7 +37,7 @@ pub fn plain_word(text: &[u8]) -> (&[u8], &[u8])
     (text, &text[text.len()..])
 }
 
-/// Returns the number at the start, at most 9 digits, and the rest.
+/// Returns the leading number, at most 9 digits, and the rest.
 #[inline(always)]
 pub fn plain_number(text: &[u8]) -> Option<(u32, &[u8])>
     ensures { IfSome result (λ x. text.now ≡ decimal x.0 ++ x.1.now) }
@@ -57,7 +57,7 @@ pub fn plain_number(text: &[u8]) -> Option<(u32, &[u8])>
     None
 }
 
-/// Adds numbers, each after a space, and returns the text after them. None if more than `most`.
+/// Adds numbers, each after a space, and returns the rest. None if more than `most`.
 #[inline(always)]
 pub fn plain_numbers<'a>(text: &'a [u8], most: usize, out: &mut Vec<u32>) -> Option<&'a [u8]>
     ensures { IfSome result (λ rest. text.now ≡ spaced (map decimal out.new.items) ++ rest.now) }
