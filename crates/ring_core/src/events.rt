@@ -1,4 +1,4 @@
-//! What each event is answered, and what it changes.
+//! The answer to each event, and its effect.
 
 ghost use Rattle.std.specs.Prelude.{◌≡◌, false, IfOk, IfErr, OnErr};
 ghost use Rattle.ring_names.specs.declared.refusal.Refusal.TheVariants.{OutOfMemory};
@@ -18,7 +18,7 @@ use store_events::{
 };
 use store_tells::Parts;
 
-/// Why the event is refused now, if it is. Takes no memory.
+/// Returns the event's refusal now.
 #[inline(always)]
 pub(crate) fn refusal(parts: &Parts, event: &Event) -> Option<Refusal>
     requires { IsSound parts.now }
@@ -44,7 +44,7 @@ pub(crate) fn refusal(parts: &Parts, event: &Event) -> Option<Refusal>
     }
 }
 
-/// The event, which nothing refuses now. Refused for want of memory, all is as it was.
+/// Applies an event that passes.
 pub(crate) fn happen(parts: &mut Parts, event: &Event) -> Result<Reply, Refusal>
     requires sound { IsSound parts.old }
     requires number { HasNumber parts.old event.now }
@@ -75,7 +75,6 @@ pub(crate) fn happen(parts: &mut Parts, event: &Event) -> Result<Reply, Refusal>
     }
 }
 
-// A reply that lists no puts, once more.
 fn copy_of(reply: &Reply) -> Reply
     requires { lists_puts reply.now ≡ false }
     ensures { result ≡ reply.now }
@@ -89,7 +88,7 @@ fn copy_of(reply: &Reply) -> Reply
     }
 }
 
-/// As `happen`, with a copy of the reply beside it.
+/// Applies as `happen`, and copies the reply.
 pub(crate) fn happen_with_copy(parts: &mut Parts, event: &Event) -> Result<(Reply, Reply), Refusal>
     requires sound { IsSound parts.old }
     requires number { HasNumber parts.old event.now }

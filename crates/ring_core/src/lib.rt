@@ -1,5 +1,4 @@
-//! A store in one process that runs an approved plan, and the replay of a history: each event is applied in order to a store that nothing has
-//! happened to, and must be answered with the reply that the history has of it.
+//! A store in one process that runs an approved plan, and the replay of a history, event by event, on a fresh store.
 #![tactic(auto)]
 
 mod events;

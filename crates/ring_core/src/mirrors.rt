@@ -1,4 +1,4 @@
-//! What nodes store for slots, and who mirrors them.
+//! What nodes store for slots, and the slots' mirrors.
 
 use crate::world::World;
 use ring_clock::Clock;
@@ -15,7 +15,7 @@ impl<'a> World<'a> {
     ghost use Rattle.ring_core.specs.Mirrors.{nodes_now, is_stored};
     ghost use Rattle.ring_core.specs.World.{ring_of, plan_of, Meets};
 
-    /// The slot's owner and its mirror now; none if the ring does not have the slot. Takes no memory.
+    /// Returns the slot's owner and mirror now; none if the ring lacks the slot.
     pub fn nodes_of(&self, slot: Slot) -> Option<(NodeId, Option<NodeId>)>
         ensures { (w : TheWorld) → Meets self.now w → is_ring_slot (ring_of self.now) slot ≡ true
             → result ≡ Some (nodes_now (ring_of self.now) (plan_of self.now) w slot) }
@@ -26,7 +26,6 @@ impl<'a> World<'a> {
         }
     }
 
-    // Whether the versions that the node stores for the slot cover the clock.
     fn node_covers(&self, node: NodeId, at: &SlotKey, clock: &Clock) -> bool
         ensures { IsTrue result
             ↔ Covers (held_at self.now.parts.stores node.0 at.now.slot at.now.key) clock.now }
@@ -37,7 +36,7 @@ impl<'a> World<'a> {
         }
     }
 
-    /// The slot of that index of the put's partition. Takes no memory.
+    /// Returns the indexed slot of the put's partition.
     pub fn put_slot(&self, put: u32, index: u32) -> Slot
         requires { put < length self.now.parts.puts }
         ensures slot { (w : TheWorld) → Meets self.now w → result ≡ put_slot (ring_of self.now) w put index }
@@ -54,7 +53,8 @@ impl<'a> World<'a> {
         }
     }
 
-    /// Whether the node stores the put or a successor for that slot of the put's partition. Hints do not count. Costs a look-up.
+    /// Whether the node stores the put or a successor for the indexed slot of the put's partition. Hints do not count.
+    /// Costs a look-up.
     pub fn is_stored(&self, node: NodeId, put: u32, index: u32) -> bool
         requires { put < length self.now.parts.puts }
         ensures { (w : TheWorld) → Meets self.now w

@@ -1,13 +1,13 @@
-//! Items that are given up one after the other.
+//! Items given up one after another.
 
 ghost use Rattle.std.specs.Prelude.{◌≡◌, ◌∷◌, [], length, MatchOption};
 
 use std::marker::Model;
 
-// After how many items memory that they had is given back.
+// After so many items, their memory is freed.
 const MANY: usize = 65536;
 
-/// Items that are taken in order. Memory of taken items is freed now and then, so that what grows can use it.
+/// Items that are taken in order. Now and then frees taken items' memory, for things that grow.
 #[derive(Drop)]
 pub struct Queue<T> {
     last_first: Vec<T>,
@@ -22,7 +22,7 @@ impl<T> Model for Queue<T> {
 }
 
 impl<T> Queue<T> {
-    /// These items. Takes no memory.
+    /// Wraps the items.
     pub fn of(items: Vec<T>) -> Queue<T>
         ensures { result ≡ items.items }
     {
@@ -31,14 +31,14 @@ impl<T> Queue<T> {
         Queue { last_first }
     }
 
-    /// How many items are left.
+    /// Counts the items left.
     pub fn len(&self) -> usize
         ensures { result ≡ length self.now }
     {
         self.last_first.len()
     }
 
-    /// Takes the next item, if there is one.
+    /// Takes the next item.
     pub fn next(&mut self) -> Option<T>
         ensures { MatchOption result ((self.old ≡ []) × (self.new ≡ [])) (λ item. self.old ≡ item ∷ self.new) }
     {

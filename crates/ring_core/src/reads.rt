@@ -1,4 +1,4 @@
-//! What is asked of a running store without changing it.
+//! Questions to a running store.
 
 use crate::world::World;
 use ring_clock::Clock;
@@ -27,7 +27,7 @@ impl<'a> World<'a> {
     ghost use Rattle.plan_check.specs.Safe.{GroupsAreApart};
     ghost use Rattle.ring_core.specs.Promises.{MeetsEveryRead};
 
-    /// How many puts there are. Takes no memory.
+    /// Counts the puts.
     pub fn puts(&self) -> u32
         ensures count { result ≡ put_count self.now }
         ensures world { (w : TheWorld) → Meets self.now w → result ≡ length w.puts }
@@ -35,8 +35,8 @@ impl<'a> World<'a> {
         self.parts.puts.len() as u32
     }
 
-    /// A law, which costs nothing: a put's clock is at most that of another put of its key exactly if the other
-    /// succeeds it (DeCandia et al. 2007, section 4.4).
+    /// A law: a put's clock is at most another's of its key exactly if the other succeeds it (DeCandia et al. 2007,
+    /// section 4.4).
     pub fn clocks_tell_succession(&self)
         ensures { (w : TheWorld) → Meets self.now w → (u v : ℕ) → u < length w.puts → v < length w.puts
             → key_of_put w u ≡ key_of_put w v
@@ -45,14 +45,14 @@ impl<'a> World<'a> {
         let _ = self.parts.losses;
     }
 
-    /// A law, which costs nothing: two slots of a partition share no node, keepers of hints included.
+    /// A law: two slots of a partition share no node, keepers of hints included.
     pub fn groups_stay_apart(&self)
         ensures { (w : TheWorld) → Meets self.now w → GroupsAreApart (ring_of self.now) (plan_of self.now) w }
     {
         let _ = self.parts.losses;
     }
 
-    /// How many gets there are. Takes no memory.
+    /// Counts the gets.
     pub fn gets(&self) -> u32
         ensures count { result ≡ get_count self.now }
         ensures world { (w : TheWorld) → Meets self.now w → result ≡ length w.gets }
@@ -60,14 +60,14 @@ impl<'a> World<'a> {
         self.parts.gets.len() as u32
     }
 
-    /// How many steps are not done. Takes no memory and no look-up.
+    /// Counts the steps not done, without a look-up.
     pub fn left(&self) -> u32
         ensures { (w : TheWorld) → Meets self.now w → result ≡ left_of (plan_of self.now) w }
     {
         self.parts.steps.left()
     }
 
-    /// The n-th node with a slot for which it keeps a hint, in an order that stays while the hints do. Takes no memory.
+    /// Returns the n-th node with a slot for which it keeps a hint. The order stays while the hints do.
     pub fn hint_at(&self, n: u32) -> Option<(NodeId, Slot)>
         ensures some { IfSome result (λ pair. (w : TheWorld) → Meets self.now w → keeps w pair.0.0 pair.1 ≡ true) }
         ensures value { result
@@ -77,7 +77,7 @@ impl<'a> World<'a> {
         self.parts.hints.nth(n)
     }
 
-    /// The node that owns the slot now. Takes no memory.
+    /// Returns the slot's owner now.
     pub fn owner(&self, slot: Slot) -> NodeId
         requires { is_ring_slot (ring_of self.now) slot ≡ true }
         ensures now { (w : TheWorld) → Meets self.now w
@@ -90,14 +90,13 @@ impl<'a> World<'a> {
         owner
     }
 
-    /// Whether the node is a member now. Takes no memory.
+    /// Whether the node is a member now.
     pub fn is_member(&self, node: NodeId) -> bool
         ensures { (w : TheWorld) → Meets self.now w → result ≡ is_member_now (ring_of self.now) (plan_of self.now) w node.0 }
     {
         self.parts.nodes.is_member(node)
     }
 
-    // The owners of a partition's slots now, by index.
     fn row(&self, partition: u32) -> Result<Listed<NodeId>, Refusal>
         requires { partition < (ring_of self.now).q }
         ensures ok { IfOk result (λ row. row
@@ -113,8 +112,8 @@ impl<'a> World<'a> {
         Ok(Listed::from_vec(owners))
     }
 
-    /// The owners of all slots now, by partition and index. Once every step is done these are the owners after each slot's last step, in
-    /// whatever order the steps were done.
+    /// Returns all owners now, by partition and index. If every step is done, these are the last owners, in whatever
+    /// order steps were done.
     pub fn table(&self) -> Result<Vec<Listed<NodeId>>, Refusal>
         ensures now { IfOk result (λ rows. (w : TheWorld) → Meets self.now w
             → rows.items ≡ owners_now (ring_of self.now) (plan_of self.now) w) }
@@ -131,7 +130,6 @@ impl<'a> World<'a> {
         Ok(rows)
     }
 
-    // Whether the versions that some node keeps for the slot as hints cover the clock.
     fn hints_cover(&self, at: &SlotKey, clock: &Clock) -> bool
         ensures { IsTrue result
             ↔ ((x : ℕ) × Covers (hinted_at self.now.parts.hints x at.now.slot at.now.key) clock.now) }
@@ -153,7 +151,6 @@ impl<'a> World<'a> {
         false
     }
 
-    // Whether the versions that the owner has cover the clock.
     fn owner_covers(&self, at: &SlotKey, clock: &Clock) -> bool
         requires { is_ring_slot (ring_of self.now) at.now.slot ≡ true }
         ensures { IsTrue result ↔ Covers (held_at self.now.parts.stores
@@ -165,7 +162,6 @@ impl<'a> World<'a> {
         }
     }
 
-    // Whether the slot of that index of the put's partition holds the put.
     fn holds(&self, put: u32, index: u32) -> bool
         requires put { put < length self.now.parts.puts }
         requires index { index < (ring_of self.now).n }
@@ -192,8 +188,8 @@ impl<'a> World<'a> {
 
     /// Returns the slots of the put's partition that hold the put or a successor: bit i for index i.
     ///
-    /// Any R slots include one whose bit is set, once the put is acknowledged. Takes no memory. Looks at each slot's
-    /// owner and at those that keep a hint for it.
+    /// Any R slots include one whose bit is set, if the put is acknowledged. Looks at each slot's owner and keepers of
+    /// hints.
     pub fn held_slots(&self, put: u32) -> u32
         requires { put < length self.now.parts.puts }
         ensures acknowledged { (w : TheWorld) → Meets self.now w → is_acked w put ≡ true
@@ -212,7 +208,6 @@ impl<'a> World<'a> {
         mask
     }
 
-    // Whether the step can begin.
     fn can_begin(&self, step: u32) -> bool
         requires { step < length (plan_of self.now) }
         ensures { result ≡ can_begin_kept (plan_of self.now) self.now.parts.steps step }
@@ -222,7 +217,7 @@ impl<'a> World<'a> {
     }
 
     /// Returns the least step from that number on that can begin: neither done nor open, with its dependencies done.
-    /// Takes no memory. Looks at each step up to it.
+    /// Looks at each step up to it.
     pub fn ready(&self, from: u32) -> Option<u32>
         ensures some { IfSome result (λ n. (w : TheWorld) → Meets self.now w → IsNextStep (plan_of self.now) w from n) }
         ensures none { IfNone result ((w : TheWorld) → Meets self.now w → NoNextStep (plan_of self.now) w from) }

@@ -16,7 +16,6 @@ use plan_runs::Entry;
 use ring_names::Refusal;
 use std::alloc::Global;
 
-// All entries in order.
 fn follow_all(world: &mut World, history: &[Entry]) -> Result<(), Refusal>
     requires few { length history.now ≤ 1000000 }
     requires puts { put_count world.old ≡ 0 }
@@ -31,7 +30,6 @@ fn follow_all(world: &mut World, history: &[Entry]) -> Result<(), Refusal>
     Ok(())
 }
 
-// Follows an entry that is given up.
 fn follow_given(world: &mut World, place: u32, entry: Entry) -> Result<(), Refusal>
     requires { HasNumber world.old entry.event }
     ensures ok { OnOk result (Answers world.old entry.event entry.reply world.new) }
@@ -47,8 +45,7 @@ fn follow_given(world: &mut World, place: u32, entry: Entry) -> Result<(), Refus
     }
 }
 
-/// Follows all entries in order, and frees each one then. If it fails as `replay` does, the entries before have
-/// changed the store.
+/// Follows all entries in order, and frees each. If it fails as `replay`, the entries before have changed the store.
 pub fn follow_queue(world: &mut World, entries: &mut Queue<Entry>) -> Result<(), Refusal>
     requires few { length entries.old ≤ 1000000 }
     requires puts { put_count world.old ≡ 0 }
@@ -65,7 +62,7 @@ pub fn follow_queue(world: &mut World, entries: &mut Queue<Entry>) -> Result<(),
     Ok(())
 }
 
-/// Returns the store after the history, if the history is a run of the plan.
+/// Returns the store after the history, if a run of the plan.
 ///
 /// Otherwise fails with `Mismatch`: the place, from 0, of the first entry refused or with another reply, and the
 /// refusal's number or 0. Each entry costs a `World::apply`. Out of memory comes last at each entry.
@@ -80,7 +77,6 @@ pub fn replay<'a>(
     ensures plan { IfOk result (λ a. plan_of a ≡ approved.now.plan) }
     ensures err { IfErr result (λ e. e ≢ OutOfMemory
         → IsFirstFault approved.now.ring approved.now.plan (opening_world approved.now.ring) 0 history.now e) }
-    // No run is refused.
     ensures only { IfErr result
         (λ e. e ≢ OutOfMemory → (w : TheWorld) → IsRun approved.now.ring approved.now.plan history.now w → ⊥) }
 {

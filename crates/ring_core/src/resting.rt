@@ -1,4 +1,4 @@
-//! A store at rest: what it keeps, apart from the plan that it borrows.
+//! A store at rest, without its borrowed plan.
 
 use plan_check::Approved;
 use ring_hints::Hints;
@@ -7,7 +7,7 @@ use std::alloc::Global;
 use store_tables::{Gets, Keys, Lasts, Nodes, Puts, Slots, Steps};
 use store_tells::Parts;
 
-/// What a store keeps while it is at rest. It borrows nothing, and `World::resume` makes a store of it again.
+/// A store at rest. It borrows nothing, and `World::resume` makes a store of it.
 pub struct Rest {
     pub(crate) alloc: Global,
     pub(crate) nodes: Nodes,
@@ -22,7 +22,7 @@ pub struct Rest {
     pub(crate) losses: u32,
 }
 
-// Dropped by a call, so that no crate above goes through all that a store keeps.
+// So crates above need not check the parts.
 impl Drop for Rest {
     fn drop(self) {
         let Rest {
@@ -54,7 +54,7 @@ impl Rest {
     ghost use Rattle.std.specs.Prelude.{◌≡◌};
     ghost use Rattle.ring_core.specs.Resting.{rest_in};
 
-    /// Parts what a store keeps from its plan.
+    /// Parts a store from its plan.
     pub(crate) fn of(parts: Parts) -> Rest
         ensures { result ≡ rest_in parts.entry }
     {
@@ -87,7 +87,7 @@ impl Rest {
         }
     }
 
-    /// Returns what a store of this plan keeps.
+    /// Returns the parts of a store of this plan.
     pub(crate) fn parts(self, approved: &Approved) -> Parts<'_>
         ensures approved { result.approved.now ≡ approved.now }
         ensures rest { rest_in result ≡ self }

@@ -1,4 +1,4 @@
-//! The open copies of a node.
+//! A node's open copies.
 
 use crate::world::World;
 use plan_text::{Source, Step};
@@ -16,7 +16,6 @@ impl<'a> World<'a> {
     ghost use Rattle.ring_core.specs.Transfers.{owns_kept, mirrors_kept, part_kept, is_open_kept};
     ghost use Rattle.ring_core.specs.World.{ring_of, plan_of, Meets};
 
-    // Whether the node owns the slot.
     fn owns(&self, slot: Slot, node: NodeId) -> bool
         ensures { result ≡ owns_kept self.now.parts.slots node.0 slot }
     {
@@ -26,7 +25,6 @@ impl<'a> World<'a> {
         }
     }
 
-    // Whether the node mirrors the slot.
     fn mirrors(&self, slot: Slot, node: NodeId) -> bool
         ensures { result ≡ mirrors_kept self.now.parts.slots node.0 slot }
     {
@@ -46,7 +44,6 @@ impl<'a> World<'a> {
         self.owns(Slot { partition, index }, node)
     }
 
-    // Whether the node owns one of these slots of a partition.
     fn owns_some(&self, partition: u32, indexes: &[u8], node: NodeId) -> bool
         ensures { result ≡ list_any (λ i. owns_kept self.now.parts.slots node.0 (slot_at partition i)) indexes.now }
     {
@@ -55,7 +52,6 @@ impl<'a> World<'a> {
             .any(|index| self.owns_at(partition, *index, node))
     }
 
-    // Whether the node owns a slot that the copy reads.
     fn gives(&self, slot: Slot, from: &Source, node: NodeId) -> bool
         ensures { result ≡ list_any (owns_kept self.now.parts.slots node.0) (source_slots slot from.now) }
     {
@@ -65,7 +61,6 @@ impl<'a> World<'a> {
         }
     }
 
-    // Whether the node takes part in a copy on that side.
     fn takes_part(&self, slot: Slot, from: &Source, node: NodeId, side: Side) -> bool
         ensures { result ≡ part_kept self.now.parts.slots node.0 side slot from.now }
     {
@@ -76,7 +71,6 @@ impl<'a> World<'a> {
         }
     }
 
-    // Whether the step is an open copy in which the node takes part on that side.
     fn is_open_part(&self, step: u32, node: NodeId, side: Side) -> bool
         requires { step < length (plan_of self.now) }
         ensures { result ≡ is_open_kept (plan_of self.now) self.now.parts.steps self.now.parts.slots node.0 side step }
@@ -90,7 +84,6 @@ impl<'a> World<'a> {
         }
     }
 
-    // How many open copies the node takes part in on that side.
     #[tactic(auto, using(store_tables::proofs::Counting::count_next, store_tables::proofs::Counting::count_most))]
     fn transfers(&self, node: NodeId, side: Side) -> u32
         ensures { result ≡ length (passing_below (length (plan_of self.now))
@@ -106,8 +99,7 @@ impl<'a> World<'a> {
         count
     }
 
-    /// Counts the open copies in which the node takes part: never more than its one allowance, if it has one. Looks
-    /// at each step of the plan.
+    /// Counts the node's open copies: at most its one allowance, if any. Looks at each step.
     pub fn open_transfers(&self, node: NodeId) -> u32
         ensures most { (a : ℕ) → allowance_of (ring_of self.now) node.0 Both ≡ Some a → result ≤ a }
         ensures now { (w : TheWorld) → Meets self.now w
@@ -117,8 +109,7 @@ impl<'a> World<'a> {
         self.transfers(node, Side::Both)
     }
 
-    /// Counts the open copies that the node receives: never more than its allowance for them, if it has one. Looks at
-    /// each step of the plan.
+    /// Counts the open copies to the node: at most the allowance for them, if any. Looks at each step.
     pub fn open_take(&self, node: NodeId) -> u32
         ensures most { (a : ℕ) → allowance_of (ring_of self.now) node.0 Take ≡ Some a → result ≤ a }
         ensures now { (w : TheWorld) → Meets self.now w
@@ -128,8 +119,7 @@ impl<'a> World<'a> {
         self.transfers(node, Side::Take)
     }
 
-    /// Counts the open copies that read from the node: never more than its allowance for them, if it has one. Looks
-    /// at each step of the plan.
+    /// Counts the open copies from the node: at most the allowance for them, if any. Looks at each step.
     pub fn open_give(&self, node: NodeId) -> u32
         ensures most { (a : ℕ) → allowance_of (ring_of self.now) node.0 Give ≡ Some a → result ≤ a }
         ensures now { (w : TheWorld) → Meets self.now w

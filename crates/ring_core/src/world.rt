@@ -19,7 +19,7 @@ pub struct World<'a> {
     ghost gets: { length parts.gets ≤ 4294967295 },
 }
 
-// Dropped by a call, so that no crate above goes through all that a store has wherever a world ends.
+// So crates above need not check the parts.
 impl Drop for World<'_> {
     fn drop(self) {
         let World { parts } = self;
@@ -38,7 +38,7 @@ impl<'a> World<'a> {
     ghost use Rattle.ring_core.specs.Numbers.{may_need_memory};
     ghost use Rattle.ring_core.specs.Promises.{IsFresh};
 
-    /// The store before the first event: members are up, nothing is stored, and no step is done.
+    /// Starts before the first event: members are up, nothing is stored, and no step is done.
     pub fn start(alloc: Global, approved: &'a Approved) -> Result<World<'a>, Refusal>
         ensures ring { IfOk result (λ a. ring_of a ≡ approved.now.ring) }
         ensures plan { IfOk result (λ a. plan_of a ≡ approved.now.plan) }
@@ -50,7 +50,7 @@ impl<'a> World<'a> {
         Ok(World { parts })
     }
 
-    /// Why the event would be refused now, if it would, but for want of memory. Takes no memory.
+    /// Returns the event's refusal now, if any, apart from lack of memory.
     #[inline(always)]
     pub fn allows(&self, event: &Event) -> Result<(), Refusal>
         ensures ok { OnOk result (Passes self.now event.now) }
@@ -62,9 +62,9 @@ impl<'a> World<'a> {
         }
     }
 
-    /// Applies the event and returns its reply. If it is refused, nothing changes.
+    /// Applies the event and returns its reply.
     ///
-    /// The reply of a get that ends has each put of its key acknowledged before the get started, or a successor.
+    /// An ended get's reply has each put of its key acknowledged before the get started, or a successor.
     ///
     /// Out of memory comes last, and only for a chunk, put, write, hint, get, read, end of a get or handoff.
     pub fn apply(&mut self, event: &Event) -> Result<Reply, Refusal>
@@ -84,8 +84,7 @@ impl<'a> World<'a> {
         happen(&mut self.parts, event)
     }
 
-    /// Applies an event that is allowed now, and returns the reply twice: to note one and give the other. Fails only
-    /// if memory runs out, and then nothing changes.
+    /// Applies an allowed event, and returns the reply twice: to note one and give the other.
     pub fn apply_with_copy(&mut self, event: &Event) -> Result<(Reply, Reply), Refusal>
         requires number { HasNumber self.old event.now }
         requires passes { Passes self.old event.now }
@@ -101,7 +100,7 @@ impl<'a> World<'a> {
         happen_with_copy(&mut self.parts, event)
     }
 
-    /// Parts the store from its plan. Takes no memory.
+    /// Parts the store from its plan.
     pub fn rest(self) -> Rest
         ensures rest { result ≡ rest_of self.entry }
         ensures ready { IsReady (ring_of self.entry) (plan_of self.entry) result }
@@ -110,7 +109,7 @@ impl<'a> World<'a> {
         Rest::of(parts)
     }
 
-    /// Makes a store of one at rest. With the same ring and plan it is in each world in which the store was before. Takes no memory.
+    /// Makes a store of one at rest. With the same ring and plan, it is in each world of the earlier store.
     pub fn resume(approved: &'a Approved, rest: Rest) -> World<'a>
         requires { IsReady approved.now.ring approved.now.plan rest }
         ensures ring { ring_of result ≡ approved.now.ring }

@@ -14,7 +14,7 @@ use std::alloc::Global;
 use std::sync::ledger::Blank;
 use std::sync::{Mutex, Wait};
 
-/// A running store with its history, shared by threads with `&`. One event is applied at a time.
+/// A running store with its history, shared by threads with `&`. Applies one event at a time.
 #[derive(Drop)]
 pub struct Executor<'a, L: RunLedger> {
     approved: &'a Approved,
@@ -48,7 +48,7 @@ impl<'a, L: RunLedger> Executor<'a, L> {
     ghost use Rattle.ring_exec.specs.Replies.{fits_reply};
     ghost use Rattle.ring_exec.specs.Rows.{AddsRow};
 
-    /// A store before the first event, and the only share of its ledger.
+    /// Makes a store before the first event, and its ledger's only share.
     pub fn new(
         alloc: Global,
         blank: Blank,
@@ -70,11 +70,10 @@ impl<'a, L: RunLedger> Executor<'a, L> {
         Ok((executor, share))
     }
 
-    /// Restores the store from a history, as `Ledgered::restore` does, and makes the only share of its ledger,
-    /// which counts all entries.
+    /// Restores the store as `Ledgered::restore`, with its ledger's only share, which counts all entries.
     ///
-    /// Over 1,000,000 entries are refused first; then `Mismatch` names the first entry that is not part of a
-    /// run. Lack of memory comes last at each entry.
+    /// Over 1,000,000 entries are refused first; then `Mismatch` names the first entry outside a run. Lack of memory
+    /// comes last at each entry.
     pub fn restore(
         alloc: Global,
         blank: Blank,
@@ -108,7 +107,7 @@ impl<'a, L: RunLedger> Executor<'a, L> {
         self.approved
     }
 
-    /// Applies the event under the lock, as `Ledgered::apply` does. If refused, the share stays as it was.
+    /// Applies the event under the lock, as `Ledgered::apply`. If refused, the share stays.
     pub fn submit<R: Wait>(
         &self,
         rt: &R,
@@ -125,10 +124,9 @@ impl<'a, L: RunLedger> Executor<'a, L> {
         self.inside.lock(rt).apply(event, share)
     }
 
-    /// Applies the events in order under one lock, up to the first refusal, and keeps the receipts of those
-    /// before.
+    /// Applies the events in order under one lock, up to the first refusal, and keeps earlier receipts.
     ///
-    /// Room is reserved before the lock is taken; if there is none, no event is applied.
+    /// Reserves room before locking; without room, applies nothing.
     pub fn submit_row<R: Wait>(
         &self,
         rt: &R,
@@ -154,21 +152,22 @@ impl<'a, L: RunLedger> Executor<'a, L> {
         self.inside.lock(rt).world().ready(from)
     }
 
-    /// Counts the steps that were not done at that moment.
+    /// Counts the steps not done at that moment.
     pub fn left<R: Wait>(&self, rt: &R) -> u32
         ensures { result ≤ length L.plan }
     {
         self.inside.lock(rt).world().left()
     }
 
-    /// Returns the n-th pair, at that moment, of a node and a slot for which it kept a hint.
+    /// Returns the n-th pair, at that moment, of a node and a slot of its hints.
     pub fn hint_at<R: Wait>(&self, rt: &R, n: u32) -> Option<(NodeId, Slot)>
         ensures { IfSome result (λ pair. (pair.0.0 < length L.ring.nodes) × (is_ring_slot L.ring pair.1 ≡ true)) }
     {
         self.inside.lock(rt).world().hint_at(n)
     }
 
-    /// Returns the first node from `from` on that could keep the put as a hint at that moment. Looks at each node up to it.
+    /// Returns the first node from `from` on that could keep the put as a hint at that moment. Looks at each node up to
+    /// it.
     pub fn keeper_from<R: Wait>(&self, rt: &R, put: u32, index: u32, from: u32) -> Option<NodeId>
         ensures { IfSome result (λ x. (from ≤ x.0) × (x.0 < length L.ring.nodes)) }
     {
@@ -183,11 +182,11 @@ impl<'a, L: RunLedger> Executor<'a, L> {
         self.inside.lock(rt).entries().len() as u32
     }
 
-    /// Gives up the store and its history, for example if its threads could not start.
+    /// Gives up store and history, for example if threads could not start.
     pub fn give_up(self) {}
 
-    /// Returns the store and its history, if the shares count its events; otherwise fails with 70. With all parts of
-    /// the ledger they do.
+    /// Returns the store and its history, if the shares count its events, as all parts of the ledger do. Otherwise
+    /// fails with 70.
     pub fn finish(self, shares: Vec<Share<L>>) -> Result<Ledgered<'a, L>, Refusal>
         ensures ok { IfOk result (λ a. vec_len a.history ≡ sum_by (λ s. s.count) shares.items) }
         ensures err { IfErr result (λ e. e ≡ Disagree) }

@@ -20,7 +20,7 @@ pub const MAX_ENTRIES: usize = 1_000_000;
 
 /// A store that follows an approved plan, with its history: each accepted event and its reply.
 ///
-/// The history is a run that leads to the store's world, and the book counts its entries.
+/// The history is a run that leads to the store's world; the book counts its entries.
 #[derive(Drop)]
 pub struct Ledgered<'a, L: RunLedger> {
     world: World<'a>,
@@ -49,7 +49,7 @@ impl<'a, L: RunLedger> Ledgered<'a, L> {
     ghost use Rattle.ring_exec.specs.Replies.{fits_reply};
     ghost use Rattle.ring_exec.specs.Rows.{AddsRow};
 
-    /// A store before the first event, and the only share of its ledger.
+    /// Makes a store before the first event, and its ledger's only share.
     pub fn new(
         alloc: Global,
         blank: Blank,
@@ -75,13 +75,12 @@ impl<'a, L: RunLedger> Ledgered<'a, L> {
         Ok((ledgered, Share { count: 0, token }))
     }
 
-    /// Restores the store from a history, and makes the only share of its ledger, which counts all entries.
+    /// Restores the store from a history, with its ledger's only share, which counts all entries.
     ///
-    /// Over 1,000,000 entries are refused first. Then the history is replayed. Each entry costs a `follow` and
-    /// a copy of the event.
+    /// Over 1,000,000 entries are refused first. Each entry then costs a `follow` and a copy of the event.
     ///
-    /// `Mismatch` has the place, from 0, of the first entry refused or with another reply, and that refusal's
-    /// number or 0. Lack of memory comes last at each entry.
+    /// `Mismatch` has the place, from 0, of the first entry refused or with another reply, and that refusal's number or
+    /// 0. Lack of memory comes last at each entry.
     pub fn restore(
         alloc: Global,
         blank: Blank,
@@ -121,7 +120,7 @@ impl<'a, L: RunLedger> Ledgered<'a, L> {
         &self.world
     }
 
-    /// Returns the history in order: a run of the plan, of at most 1,000,000 entries, that leads to the store's world.
+    /// Returns the history in order: a run of at most 1,000,000 entries that leads to the store's world.
     pub fn entries(&self) -> &[Entry]
         ensures items { result.now ≡ self.now.history.items }
         ensures run { Replays L.ring L.plan self.now.world result.now }
@@ -130,7 +129,7 @@ impl<'a, L: RunLedger> Ledgered<'a, L> {
         self.history.as_slice()
     }
 
-    /// Whether every step of the plan is done.
+    /// Whether the plan's steps are all done.
     pub fn is_finished(&self) -> bool
         ensures { (w : TheWorld) → Meets self.now.world w → IsTrue result ↔ AllDone L.plan w }
     {
@@ -149,10 +148,9 @@ impl<'a, L: RunLedger> Ledgered<'a, L> {
         history
     }
 
-    /// Applies the event, counts it in the share, and appends event and reply to the history. If refused,
-    /// nothing changes.
+    /// Applies the event, counts it in the share, and appends event and reply to the history.
     ///
-    /// A history of 1,000,000 entries comes before other refusals, and lack of memory last.
+    /// A full history comes before other refusals, and lack of memory last.
     pub fn apply(&mut self, event: &Event, share: &mut Share<L>) -> Result<Receipt, Refusal>
         ensures entry { IfOk result
             (λ r. self.new.history.items ≡ self.old.history.items ++ entry event.now r.reply ∷ []) }
@@ -193,7 +191,7 @@ impl<'a, L: RunLedger> Ledgered<'a, L> {
         })
     }
 
-    /// Applies the events in order, up to the first refusal, and appends the receipts, which takes no memory.
+    /// Applies the events in order, up to the first refusal, and appends receipts, without memory.
     pub(crate) fn apply_row(
         &mut self,
         events: &[Event],

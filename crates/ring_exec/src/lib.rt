@@ -1,5 +1,5 @@
-//! A running store with its history, and the lock by which threads share it. Threads count their accepted events in
-//! shares of one ledger. A store can also be restored from a history.
+//! A running store with its history, and the lock by which threads share it. Threads count accepted events in shares of
+//! one ledger.
 #![tactic(auto)]
 
 mod executor;

@@ -13,7 +13,7 @@ use ring_core::{World, follow};
 use ring_names::Refusal;
 use std::alloc::Global;
 
-// Applies the entry again, and returns a copy, if the store gives the same reply. Lack of memory comes last.
+// Applies the entry again, and copies it, if the store gives the same reply. Lack of memory comes last.
 fn retell(world: &mut World, place: u32, entry: &Entry) -> Result<Entry, Refusal>
     requires { HasNumber world.old entry.now.event }
     ensures entry { IfOk result (λ x. x ≡ entry.now) }
@@ -46,7 +46,7 @@ fn retell_all(world: &mut World, history: &mut Vec<Entry>, entries: &[Entry]) ->
     Ok(())
 }
 
-/// Returns the store after the entries, and a copy of them.
+/// Returns the store after the entries, and their copy.
 pub(crate) fn retold<'a>(
     alloc: Global,
     approved: &'a Approved,

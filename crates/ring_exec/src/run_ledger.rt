@@ -1,4 +1,4 @@
-//! The ledger of a run.
+//! A run's ledger.
 
 ghost use Rattle.std.specs.Prelude.{List, []};
 ghost use Rattle.ring_table.specs.Value.{RingValue};
@@ -8,7 +8,7 @@ ghost use Rattle.ring_exec.specs.Ledgers.{no_ring};
 use std::marker::Brand;
 use std::sync::ledger::Ledger;
 
-/// The ledger of one run's events. Its type names the ring and the plan, also for what comes out of a lock or from a thread.
+/// The ledger of a run's events. Its type names the ring and the plan, also for values from locks or threads.
 pub trait RunLedger: Ledger {
     ghost ring: { RingValue };
 

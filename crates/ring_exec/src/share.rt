@@ -5,7 +5,7 @@ ghost use Rattle.std.specs.List.{sum_by};
 
 use std::sync::ledger::{Book, Ledger, Share as Token};
 
-/// A ledger's count of one thread's accepted events. One thread has it at a time.
+/// A ledger's count of a thread's accepted events. One thread has it at a time.
 #[derive(Drop)]
 pub struct Share<L: Ledger> {
     pub(crate) count: u64,
@@ -15,14 +15,14 @@ pub struct Share<L: Ledger> {
 }
 
 impl<L: Ledger> Share<L> {
-    /// Returns how many events it counts.
+    /// Returns the count of events.
     pub fn count(&self) -> u64
         ensures { result ≡ self.now.count }
     {
         self.count
     }
 
-    /// Splits off a share without events and with one part. This one keeps the count and the other parts.
+    /// Splits off a share without events, with one part. This one keeps the rest.
     pub fn split(&mut self) -> Share<L>
         requires { 2 ≤ self.old.token.parts }
         ensures new { (result.count ≡ 0) × (result.token.parts ≡ 1) }
@@ -34,7 +34,7 @@ impl<L: Ledger> Share<L> {
     }
 }
 
-/// Returns how many events the shares count together. If they have all parts of the ledger, that is the book's total.
+/// Returns the shares' count of events. With all parts of the ledger, it is the book's total.
 pub(crate) fn count_of<L: Ledger>(book: &mut Book<L>, mut shares: Vec<Share<L>>) -> u64
     requires { book.old.total ≤ 1000000 }
     ensures count { result ≡ sum_by (λ s. s.count) shares.items }

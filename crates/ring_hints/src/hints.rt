@@ -11,10 +11,9 @@ use std::alloc::Global;
 use std::collections::BTreeSet;
 use store_maps::{KeyId, KeyMap, SlotMap};
 
-/// The versions that stand-ins keep for slots with unreachable nodes, by keeper, slot and key. A refused call
-/// changes no reading.
+/// Stand-ins' versions for slots with unreachable nodes, by keeper, slot and key. Refused calls change no reading.
 ///
-/// A look-up costs the logarithm of the pairs and that of the chunk's keys.
+/// A look-up costs the logarithm of the pairs and of the chunk's keys.
 #[derive(Drop)]
 pub struct Hints {
     kept: Maps,
@@ -37,7 +36,7 @@ impl Hints {
     ghost use Rattle.ring_hints.specs.Hints.{AddsHints, AreSameHints, Keeps, TakesHints};
     ghost use Rattle.ring_hints.specs.Views.{pair_of, in_keepers};
 
-    /// No hints.
+    /// Starts empty.
     pub fn new(alloc: Global) -> Hints
         ensures { (x : ℕ) (s : Slot) (k : KeyId) → hinted_at result x s k ≡ [] }
     {
@@ -47,7 +46,7 @@ impl Hints {
         }
     }
 
-    /// Whether the node keeps anything for the slot. One look-up.
+    /// Whether the node keeps anything for the slot. Costs one look-up.
     pub fn keeps(&self, keeper: NodeId, slot: Slot) -> bool
         ensures { (result ≡ false) ↔ ((k : KeyId) → hinted_at self.now keeper.0 slot k ≡ []) }
     {
@@ -61,7 +60,7 @@ impl Hints {
         self.kept.keeps_any(keeper)
     }
 
-    /// Whether the node keeps anything for another slot of the partition. At most seven look-ups.
+    /// Whether the node keeps anything for the partition's other slots. Costs at most seven look-ups.
     pub fn keeps_other(&self, keeper: NodeId, slot: Slot) -> bool
         ensures { (result ≡ false) ↔ ((s : Slot) → s.partition ≡ slot.partition → s.index ≢ slot.index → (k : KeyId)
             → hinted_at self.now keeper.0 s k ≡ []) }
@@ -69,7 +68,7 @@ impl Hints {
         self.kept.keeps_other(keeper, slot)
     }
 
-    /// Returns the key's versions that the pair's node keeps for its slot, if any.
+    /// Returns the key's versions that the pair's node keeps for its slot.
     pub fn key_versions_in(&self, pair: KeptFor, key: KeyId) -> Option<&Versions>
         ensures some { IfSome result
             (λ v. (v.now ≡ hinted_at self.now pair.keeper.0 pair.slot key) × (v.now ≢ [])) }
@@ -87,7 +86,7 @@ impl Hints {
         self.kept.keepers(slot)
     }
 
-    /// Returns the n-th pair of a keeper and a slot. The order stays until something is added or taken.
+    /// Returns the n-th pair. The order stays until something is added or taken.
     pub fn nth(&self, n: u32) -> Option<(NodeId, Slot)>
         ensures value { result ≡ option_map (λ pair. (pair.keeper, pair.slot)) (slice_get (kept_pairs self.now) n) }
         ensures some { IfSome result (λ pair. Keeps self.now pair.0.0 pair.1) }
@@ -96,7 +95,7 @@ impl Hints {
         self.kept.nth(n)
     }
 
-    /// Returns all that the pair's node keeps for its slot, if anything.
+    /// Returns all that the pair's node keeps for its slot.
     pub fn map(&self, pair: KeptFor) -> Option<&SlotMap>
         ensures some { IfSome result
             (λ m. (k : KeyId) → held_for m.now k ≡ hinted_at self.now pair.keeper.0 pair.slot k) }
@@ -105,7 +104,7 @@ impl Hints {
         self.kept.map(pair)
     }
 
-    /// Returns the map of a chunk that the pair's node keeps for its slot, if it keeps anything.
+    /// Returns a chunk's map that the pair's node keeps for its slot, if anything.
     pub fn chunk_map(&self, pair: KeptFor, chunk: u32) -> Option<&KeyMap>
         ensures some { IfSome result
             (λ m. (n : ℕ) → held m.now n ≡ hinted_at self.now pair.keeper.0 pair.slot (id chunk n)) }
@@ -115,14 +114,14 @@ impl Hints {
         self.kept.chunk_map(pair, chunk)
     }
 
-    /// Whether the node keeps anything of a chunk for the slot. One look-up.
+    /// Whether the node keeps anything of a chunk for the slot. Costs one look-up.
     pub fn keeps_chunk(&self, keeper: NodeId, slot: Slot, chunk: u32) -> bool
         ensures { (result ≡ false) ↔ ((n : ℕ) → hinted_at self.now keeper.0 slot (id chunk n) ≡ []) }
     {
         self.kept.keeps_chunk(keeper, slot, chunk)
     }
 
-    /// Returns the nodes that keep the key for the slot, ascending. Looks at no other keeper.
+    /// Returns the key's keepers for the slot, ascending. Looks at no other keeper.
     pub fn key_keepers(&self, slot: Slot, key: KeyId) -> Option<&BTreeSet<NodeId>>
         ensures some { IfSome result (λ nodes. (x : ℕ)
             → (in_keepers x nodes.now.keys ≡ false) ↔ (hinted_at self.now x slot key ≡ [])) }
@@ -131,7 +130,7 @@ impl Hints {
         self.holders.of(slot, key)
     }
 
-    /// Merges versions of a key into what the pair's node keeps for its slot.
+    /// Merges a key's versions into what the pair's node keeps for its slot.
     pub fn add_set(&mut self, pair: KeptFor, key: KeyId, more: &Versions) -> Result<(), Refusal>
         requires chunk { key.chunk < 16 }
         requires some { more.now ≢ [] }
@@ -149,7 +148,7 @@ impl Hints {
         added
     }
 
-    /// Removes and returns what the node keeps for the slot. Costs a look-up for each of its keys.
+    /// Removes and returns what the node keeps for the slot. Costs a look-up for each key.
     pub fn take(&mut self, keeper: NodeId, slot: Slot) -> Option<SlotMap>
         ensures some { IfSome result (λ m. (k : KeyId) → held_for m k ≡ hinted_at self.old keeper.0 slot k) }
         ensures none { IfNone result ((k : KeyId) → hinted_at self.old keeper.0 slot k ≡ []) }

@@ -10,7 +10,7 @@ use std::alloc::Global;
 use std::collections::{BTreeMap, BTreeSet};
 use store_maps::{KeyId, KeyMap, SlotMap};
 
-/// What nodes keep for slots, a map for each keeper and slot. Its methods are those of `Hints`, at the same cost.
+/// A map for each keeper and slot. Methods and costs are those of `Hints`.
 #[derive(Drop)]
 pub(crate) struct Maps {
     alloc: Global,
@@ -130,7 +130,6 @@ impl Maps {
         }
     }
 
-    // Sets the map of a pair without one.
     fn put(&mut self, pair: KeptFor, map: SlotMap) -> Result<(), Refusal>
         requires absent { map_of self.old.maps pair ≡ None }
         requires kept { IsKept pair map }

@@ -14,8 +14,8 @@ use std::alloc::Global;
 use std::collections::BTreeMap;
 use std::marker::Model;
 
-/// Pairs, numbered by place from 0. Texts choose the pairs, so these are ordered and not hashed: a look-up always costs
-/// the logarithm of their number.
+/// Pairs, numbered by place from 0. Texts choose them: they are ordered, not hashed, and a look-up always costs the
+/// logarithm of their number.
 #[derive(Drop)]
 pub(crate) struct Numbered {
     pairs: Vec<KeptFor>,

@@ -9,7 +9,8 @@ use ring_names::{NodeId, Refusal, Slot};
 use std::alloc::Global;
 use std::collections::BTreeSet;
 
-/// Keepers with their slots, numbered, and found by either. Calls cost a few look-ups, at most the logarithm of the pairs each.
+/// Keepers with their slots, numbered, and found by either. Calls cost a few look-ups, each at most the logarithm of
+/// the pairs.
 #[derive(Drop)]
 pub struct Pairs {
     order: Numbered,
@@ -26,7 +27,7 @@ impl Pairs {
     ghost use Rattle.ring_hints.specs.Pairs.{is_pair, keepers_of, pair_count, pairs_of};
     ghost use Rattle.ring_hints.specs.Views.{is_of};
 
-    /// No pairs.
+    /// Starts empty.
     pub fn new(alloc: Global) -> Pairs
         ensures { (x : ℕ) (s : Slot) → is_pair result x s ≡ false }
     {
@@ -37,7 +38,7 @@ impl Pairs {
         }
     }
 
-    /// Whether the pair is there.
+    /// Whether the pair is present.
     pub fn has(&self, pair: KeptFor) -> bool
         ensures { result ≡ is_pair self.now pair.keeper.0 pair.slot }
     {
@@ -51,7 +52,7 @@ impl Pairs {
         self.slot_of(keeper).is_some()
     }
 
-    /// Returns a slot for which the node keeps hints, if any.
+    /// Returns a slot for which the node keeps hints.
     pub fn slot_of(&self, keeper: NodeId) -> Option<Slot>
         ensures some { IfSome result (λ s. is_pair self.now keeper.0 s ≡ true) }
         ensures none { IfNone result ((s : Slot) → is_pair self.now keeper.0 s ≡ false) }
@@ -70,7 +71,7 @@ impl Pairs {
         self.keepers.values(&slot)
     }
 
-    /// Returns the n-th pair, in an order that stays while the pairs do.
+    /// Returns the n-th pair. The order stays while the pairs do.
     pub fn nth(&self, n: u32) -> Option<KeptFor>
         ensures value { result ≡ slice_get (pairs_of self.now) n }
         ensures some { IfSome result (λ pair. is_pair self.now pair.keeper.0 pair.slot ≡ true) }
@@ -102,7 +103,7 @@ impl Pairs {
         Ok(())
     }
 
-    /// Removes the pair, if present; the last one takes its number.
+    /// Removes the pair; the last one takes its number.
     pub fn remove(&mut self, pair: KeptFor)
         ensures pairs { (x : ℕ) (s : Slot) → is_pair self.new x s ≡ (not (is_of pair x s) && is_pair self.old x s) }
         ensures count { pair_count self.new + (if is_pair self.old pair.keeper.0 pair.slot then 1 else 0)

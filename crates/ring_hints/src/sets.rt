@@ -57,7 +57,7 @@ impl<K: Eq + Hash + Drop, V: Ord + Drop> Sets<K, V> {
         Ok(())
     }
 
-    /// Removes the value from the key's set, if present.
+    /// Removes the value from the key's set.
     pub fn remove(&mut self, key: &K, value: &V)
         ensures each { (k : K) → set_at K.eq self.new k ≡ (if K.eq k key.now then remove_key (is_at (V.cmp value.now))
             (set_at K.eq self.old k) else set_at K.eq self.old k) }

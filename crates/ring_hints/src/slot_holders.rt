@@ -1,4 +1,4 @@
-//! Which nodes keep something of which keys, for which slots.
+//! Keepers by slot and key.
 
 use crate::kept_for::KeptFor;
 use ring_names::{NodeId, Refusal, Slot};
@@ -6,7 +6,7 @@ use std::alloc::Global;
 use std::collections::{BTreeSet, HashMap};
 use store_maps::{Holders, KeyId, SlotMap};
 
-/// The keepers of each key, slot by slot, so that a search for one key sees only its keepers.
+/// Each key's keepers, by slot: a search for one key sees only its keepers.
 #[derive(Drop)]
 pub(crate) struct SlotHolders {
     alloc: Global,
@@ -33,7 +33,7 @@ impl SlotHolders {
         }
     }
 
-    /// The keepers of the key for the slot, ascending.
+    /// The key's keepers for the slot, ascending.
     pub(crate) fn of(&self, slot: Slot, key: KeyId) -> Option<&BTreeSet<NodeId>>
         ensures some { IfSome result (λ nodes. (x : ℕ) → is_among x nodes.now.keys ≡ holds_for self.now slot key x) }
         ensures none { IfNone result ((x : ℕ) → holds_for self.now slot key x ≡ false) }
@@ -79,7 +79,7 @@ impl SlotHolders {
         }
     }
 
-    /// Removes the pair's node from the keepers of all the map's keys for its slot. Costs a look-up for each.
+    /// Removes the pair's node from the keepers of the map's keys for its slot. Costs a look-up for each.
     pub(crate) fn forget(&mut self, pair: KeptFor, map: &SlotMap)
         ensures others { (s : Slot) (k : KeyId) (x : ℕ)
             → is_of pair x s ≡ false → holds_for self.new s k x ≡ holds_for self.old s k x }

@@ -1,4 +1,4 @@
-//! What is given to nodes, and what they drop.
+//! What nodes get, and what they drop.
 
 use crate::seat::Seat;
 use crate::slot_key::SlotKey;
@@ -22,7 +22,7 @@ impl Stores {
     ghost use Rattle.ring_store.specs.Stores.{shared_space, held_at, map_on};
     ghost use Rattle.ring_store.specs.declared.seat.Seat.{Seat};
 
-    /// Merges versions of a key into the slot's owner, and its mirror, if any.
+    /// Merges versions of a key into the slot's owner, and its mirror.
     pub fn give(
         &mut self,
         at: &SlotKey,
@@ -60,7 +60,7 @@ impl Stores {
         self.merge(row, seat, at.key.number, more)
     }
 
-    // Prepares the mirror's merge, which may fail, then merges at the owner, and then completes the mirror's.
+    // Prepares the mirror's merge, which may fail, merges at the owner, then completes the mirror's.
     fn give_both(
         &mut self,
         at: &SlotKey,
@@ -115,11 +115,9 @@ impl Stores {
         self.take_in(row, seat, other)
     }
 
-    /// Merges one node's chunk of the slot into another's. Costs `KeyMap::share`, `KeyMap::try_copy` and
-    /// `KeyMap::take_in`.
+    /// Merges one node's chunk into another's. Costs `KeyMap::share`, `KeyMap::try_copy` and `KeyMap::take_in`.
     ///
-    /// If the target has no key of the chunk, both then share the map, and the first write to a key copies that
-    /// key.
+    /// If the target has no key of the chunk, both then share the map, and the first write to a key copies it.
     pub fn copy_chunk(
         &mut self,
         from: NodeId,
@@ -144,7 +142,7 @@ impl Stores {
         self.give_chunk(to, slot, chunk, &copy)
     }
 
-    /// Merges all maps of a slot into the slot's owner, and its mirror, if any.
+    /// Merges all maps of a slot into its owner, and its mirror.
     pub fn give_slot(
         &mut self,
         slot: Slot,
@@ -163,8 +161,8 @@ impl Stores {
         self.give_from(0, slot, owner, mirror, other)
     }
 
-    // Merges a slot's maps, from this chunk's on, into a node, and all of them into its mirror, if any. What is
-    // prepared for the chunk is completed only after all that comes later has been given.
+    // Merges a slot's maps, from this chunk's on, into a node and its mirror, if any. Completes the chunk's merge after
+    // all later ones.
     fn give_from(
         &mut self,
         chunk: u32,
@@ -204,7 +202,7 @@ impl Stores {
         Ok(())
     }
 
-    /// Removes all keys of a slot at a node.
+    /// Removes a slot's keys at a node.
     pub fn drop_slot(&mut self, node: NodeId, slot: Slot)
         ensures space { shared_space self.new ≡ shared_space self.old }
         ensures gone { (k : KeyId) → held_at self.new node.0 slot k ≡ [] }

@@ -1,4 +1,4 @@
-//! What the nodes store: the versions of the keys of their slots, in a map for each chunk that got something.
+//! What nodes store: their slots' versions, in a map for each chunk that got something.
 //!
 //! A function without a `Result` takes no memory.
 #![tactic(auto)]

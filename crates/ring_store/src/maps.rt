@@ -1,4 +1,4 @@
-//! Changes of one map: that of a seat in a row.
+//! Changes of one map.
 
 ghost use Rattle.std.specs.Prelude.{◌≡◌, ℕ, IfOk, IfErr};
 ghost use Rattle.ring_names.specs.declared.refusal.Refusal.TheVariants.{OutOfMemory};
@@ -18,7 +18,7 @@ impl Stores {
     ghost use Rattle.store_maps.specs.Merges.{MergesAll, at_number, AreFreshFor};
     ghost use Rattle.ring_store.specs.Stores.{map_on, Changes, IsReadyIn, AreReadyIn, IsPlaceOn};
 
-    // Returns the place of the seat's map, made if missing. No reading changes.
+    // Returns the place of the seat's map, made if missing.
     fn open(&mut self, row: usize, seat: Seat) -> Result<usize, Refusal>
         requires { row < length self.old.rows.items }
         ensures only { Changes row seat self.old self.new }
@@ -31,7 +31,6 @@ impl Stores {
         maps.open(alloc, seat)
     }
 
-    // Merges at one key.
     pub(crate) fn merge(
         &mut self,
         row: usize,
@@ -52,7 +51,6 @@ impl Stores {
         maps.maps[place].1.merge(number, more)
     }
 
-    // Prepares a merge at one key.
     pub(crate) fn prepare(
         &mut self,
         row: usize,
@@ -72,7 +70,6 @@ impl Stores {
         maps.maps[place].1.prepare(number, more)
     }
 
-    // Completes a merge at one key. Cannot fail.
     pub(crate) fn settle(&mut self, row: usize, seat: Seat, number: usize, fresh: Fresh)
         requires row { row < length self.old.rows.items }
         requires ready { IsReadyIn (map_on self.old row seat) number fresh }
@@ -102,7 +99,6 @@ impl Stores {
         maps.maps[place].1.take_in(other)
     }
 
-    // Prepares a merge with a whole map.
     pub(crate) fn prepare_all(
         &mut self,
         row: usize,
@@ -121,7 +117,6 @@ impl Stores {
         maps.maps[place].1.prepare_all(other)
     }
 
-    // Completes a merge with a whole map. Cannot fail.
     pub(crate) fn settle_all(&mut self, row: usize, seat: Seat, fresh: FreshKeys)
         requires row { row < length self.old.rows.items }
         requires ready { AreReadyIn (map_on self.old row seat) fresh }
@@ -135,7 +130,7 @@ impl Stores {
         }
     }
 
-    // Copies the seat's map, which shares its keys from now on, or makes an empty one. No reading changes.
+    // Copies the seat's map, which shares its keys from now on, or makes an empty one.
     pub(crate) fn copy_of(&mut self, row: usize, seat: Seat) -> Result<KeyMap, Refusal>
         requires { row < length self.old.rows.items }
         ensures only { Changes row seat self.old self.new }

@@ -1,4 +1,4 @@
-//! The maps of one chunk of a partition.
+//! A chunk's maps.
 
 ghost use Rattle.std.specs.Prelude.{◌≡◌, ◌≢◌, ℕ, [], Some, None, IfSome, IfNone, IfOk, IfErr};
 ghost use Rattle.ring_names.specs.declared.refusal.Refusal.TheVariants.{OutOfMemory};
@@ -12,7 +12,7 @@ use ring_names::{NodeId, Refusal};
 use std::alloc::Global;
 use store_maps::{KeyMap, lengthen, place_of};
 
-// A chunk's maps of slots at nodes, ascending by seat.
+// A chunk's maps, ascending by seat.
 #[derive(Drop)]
 pub(crate) struct Row {
     pub(crate) maps: Vec<(Seat, KeyMap)>,
@@ -46,7 +46,7 @@ impl Row {
         }
     }
 
-    // Returns the place of the seat's map, made if missing. No reading changes.
+    // Returns the place of the seat's map, made if missing.
     pub(crate) fn open(&mut self, alloc: Global, seat: Seat) -> Result<usize, Refusal>
         ensures at { IfOk result (IsThere seat_cmp seat self.new.maps.items) }
         ensures same { (n : ℕ)
@@ -64,7 +64,6 @@ impl Row {
         }
     }
 
-    // Removes the seat's map.
     pub(crate) fn drop_seat(&mut self, seat: Seat)
         ensures gone { map_at self.new.maps.items seat ≡ None }
         ensures others { (t : Seat) → t ≢ seat → map_at self.new.maps.items t ≡ map_at self.old.maps.items t }
@@ -74,7 +73,6 @@ impl Row {
         }
     }
 
-    // Removes all maps of a node.
     pub(crate) fn drop_node(&mut self, node: NodeId)
         ensures gone { (t : Seat) → t.node.0 ≡ node.0 → map_at self.new.maps.items t ≡ None }
         ensures others { (t : Seat) → t.node.0 ≢ node.0

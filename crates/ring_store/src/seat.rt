@@ -1,4 +1,4 @@
-//! The place of a node's map in the row of its chunk.
+//! The place of a node's map among its chunk's.
 
 use ring_names::NodeId;
 

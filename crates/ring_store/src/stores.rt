@@ -10,14 +10,14 @@ use ring_versions::Versions;
 use std::alloc::Global;
 use store_maps::KeyMap;
 
-/// The versions that the nodes store, by node, slot and key. Refused calls change no reading.
+/// The nodes' versions, by node, slot and key. Refused calls change no reading.
 ///
-/// A look-up costs a binary search among the chunk's maps of slots at nodes, and one in a map.
+/// A look-up costs a binary search among the chunk's maps, and one in a map.
 #[derive(Drop)]
 pub struct Stores {
     pub(crate) alloc: Global,
     pub(crate) q: u32,
-    // The row of a partition's chunk is number 16 * partition + chunk.
+    // A partition's chunk has row 16 * partition + chunk.
     pub(crate) rows: Vec<Row>,
     ghost whole: { length rows.items ≡ 16 * q },
 }
@@ -31,7 +31,7 @@ impl Stores {
     ghost use Rattle.store_maps.specs.declared.key_id.KeyId.{KeyId};
     ghost use Rattle.ring_store.specs.Stores.{shared_space, held_at};
 
-    /// Empty stores, in a hash space of q partitions.
+    /// Starts empty, in a hash space of q partitions.
     pub fn start(alloc: Global, q: u32) -> Result<Stores, Refusal>
         ensures space { IfOk result (λ a. shared_space a ≡ q) }
         ensures versions { IfOk result (λ a. (x : ℕ) (s : Slot) (k : KeyId) → held_at a x s k ≡ []) }
@@ -44,7 +44,7 @@ impl Stores {
         Ok(Stores { alloc, q, rows })
     }
 
-    /// Returns the versions of a key in a slot at a node, if any.
+    /// Returns a key's versions in a slot at a node.
     pub fn key_versions_in(&self, node: NodeId, at: &SlotKey) -> Option<&Versions>
         ensures some { IfSome result
             (λ v. (v.now ≡ held_at self.now node.0 at.now.slot at.now.key) × (v.now ≢ [])) }
@@ -57,7 +57,7 @@ impl Stores {
         map.key_versions(at.key.number)
     }
 
-    /// Returns the map of a chunk of a slot at a node, if there is one.
+    /// Returns the map of a slot's chunk at a node.
     pub fn chunk_map(&self, node: NodeId, slot: Slot, chunk: u32) -> Option<&KeyMap>
         requires { chunk < 16 }
         ensures some { IfSome result (λ m. (n : ℕ) → held m.now n ≡ held_at self.now node.0 slot (id chunk n)) }

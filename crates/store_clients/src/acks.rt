@@ -66,9 +66,9 @@ fn refusal_by(acked: bool, needed: u32, current: u32) -> Option<Refusal>
     None
 }
 
-/// Returns why a put is not acknowledged now, at the cost of a few look-ups for each slot of a partition.
+/// Returns why a put is not acknowledged now: unknown, already acknowledged, or fewer than W current tickets.
 ///
-/// It does not exist, is acknowledged, or has fewer current tickets than a write needs.
+/// Costs a few look-ups for each slot of a partition.
 pub fn ack_refusal(parts: &Parts, put: u32) -> Option<Refusal>
     requires { IsSound parts.now }
     ensures { Tests parts.now (Ack put) result }
@@ -82,7 +82,7 @@ pub fn ack_refusal(parts: &Parts, put: u32) -> Option<Refusal>
     refusal_by(now.acked, ring.w(), current)
 }
 
-/// Acknowledges the put. One look-up.
+/// Acknowledges the put. Costs one look-up.
 pub fn ack(parts: &mut Parts, put: u32) -> Reply
     requires sound { IsSound parts.old }
     requires passes { Passes parts.old (Ack put) }

@@ -1,4 +1,4 @@
-//! The clock of a put: the inputs' clocks joined, with one more for the writer.
+//! A put's clock: the inputs' clocks joined, with one more for the writer.
 
 ghost use Rattle.std.specs.Prelude.{◌≡◌, ◌<◌, ℕ, List, max, IfOk, IfErr, OnOk};
 ghost use Rattle.ring_names.specs.declared.refusal.Refusal.TheVariants.{OutOfMemory};
@@ -51,7 +51,7 @@ fn raise_to_put(clock: &mut Clock, puts: &Puts, put: u32) -> Result<(), Refusal>
     }
 }
 
-/// What the writer of a put knows: its last put of the key, and the gets that the put names.
+/// A put's inputs: the writer's last put of the key, and the named gets.
 #[derive(Clone, Copy)]
 pub struct Knowing<'s> {
     pub last: Option<u32>,
@@ -72,7 +72,7 @@ fn input_clock(alloc: Global, puts: &Puts, gets: &Gets, knowing: &Knowing) -> Re
     Ok(clock)
 }
 
-/// Returns the clock of a put of the writer with this knowledge.
+/// Returns the clock of the writer's put with these inputs.
 pub fn next_clock(
     alloc: Global,
     puts: &Puts,

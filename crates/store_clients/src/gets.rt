@@ -51,7 +51,7 @@ fn refusal_of(gets: &Gets, needed: u32, get: u32) -> Option<Refusal>
     None
 }
 
-/// Returns why a get does not end now: it does not exist, has ended already, or has read fewer slots than a read needs.
+/// Returns why a get does not end now: unknown, already ended, or fewer than R slots read.
 pub fn end_refusal(parts: &Parts, get: u32) -> Option<Refusal>
     requires { IsSound parts.now }
     ensures { Tests parts.now (EndGet get) result }
@@ -59,7 +59,7 @@ pub fn end_refusal(parts: &Parts, get: u32) -> Option<Refusal>
     refusal_of(&parts.gets, parts.approved.ring().r(), get)
 }
 
-/// Ends the get. The reply has the newest puts that it found, by number. Costs a sort.
+/// Ends the get. The reply has the newest puts found, by number. Costs a sort.
 pub fn end_get(parts: &mut Parts, get: u32) -> Result<Reply, Refusal>
     requires sound { IsSound parts.old }
     requires passes { Passes parts.old (EndGet get) }
@@ -77,7 +77,7 @@ pub fn end_get(parts: &mut Parts, get: u32) -> Result<Reply, Refusal>
     Ok(Reply::Answer(reply))
 }
 
-/// Ends the get as `end_get` does, and copies the reply.
+/// Ends the get as `end_get`, and copies the reply.
 pub fn end_get_with_copy(parts: &mut Parts, get: u32) -> Result<(Reply, Reply), Refusal>
     requires sound { IsSound parts.old }
     requires passes { Passes parts.old (EndGet get) }

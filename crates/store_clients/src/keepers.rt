@@ -1,4 +1,4 @@
-//! What keepers of a slot's hints have of one key.
+//! One key in the hints for a slot.
 
 ghost use Rattle.std.specs.Prelude.{◌≡◌, ℕ, [], false, IsTrue, IfErr, OnOk};
 ghost use Rattle.ring_names.specs.declared.refusal.Refusal.TheVariants.{OutOfMemory};
@@ -37,7 +37,7 @@ fn first_down(
     None
 }
 
-/// Returns the refusal of the first keeper of the key for the slot that is down. Walks only the key's keepers.
+/// Returns the refusal of the key's first down keeper for the slot. Walks only the key's keepers.
 pub fn keeper_refusal(nodes: &Nodes, hints: &Hints, place: &SlotKey) -> Option<Refusal>
     ensures { IsFirstDown (is_up_at nodes.now) (λ x. hinted_at hints.now x place.now.slot place.now.key) result }
 {
@@ -48,7 +48,7 @@ pub fn keeper_refusal(nodes: &Nodes, hints: &Hints, place: &SlotKey) -> Option<R
 }
 
 // Whether the join of the held clocks is at most that of all, if both are kept. For puts of one key, all then cover the
-// held ones.
+// held.
 fn is_told(all: &Versions, held: &Versions) -> bool
     ensures { IsTrue result → JoinIsAtMost held.now all.now }
 {
@@ -58,8 +58,8 @@ fn is_told(all: &Versions, held: &Versions) -> bool
     }
 }
 
-/// Merges what these nodes keep of the key for the slot. A node that brings nothing new costs one comparison of clocks,
-/// if both joins are kept.
+/// Merges what these nodes keep of the key for the slot. A node with nothing new costs one comparison of clocks, if
+/// both joins are kept.
 pub fn merge_hints(
     all: &mut Versions,
     hints: &Hints,

@@ -8,7 +8,7 @@ ghost use Rattle.ring_space.specs.Place.{place_of};
 use ring_names::Refusal;
 use store_tables::Keys;
 
-/// Returns the key's number, old or new. If refused, nothing changes.
+/// Returns the key's number, old or new.
 pub fn number_of(keys: &mut Keys, key: &[u8]) -> Result<usize, Refusal>
     ensures number { IfOk result (λ n. slice_get keys.new.keys n ≡ Some key.now) }
     ensures keys { OnOk result (keys.new ≡ record keys.old { keys = with_name keys.old.keys key.now }) }

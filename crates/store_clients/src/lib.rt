@@ -1,4 +1,4 @@
-//! Puts and gets of clients. Each event has a test, which returns the first failing guard's refusal, and an act, which
+//! Clients' puts and gets. Each event has a test, which returns the first failing guard's refusal, and an act, which
 //! leads to the next world.
 //!
 //! A function without a `Result` takes no memory. A refused act changes nothing that a run can see.

@@ -66,10 +66,9 @@ fn seen_refusal(gets: &Gets, key: usize, seen: &[u32]) -> Option<Refusal>
     None
 }
 
-/// Returns why a put does not start now: a get that it names does not exist, is of another key, or has not
-/// ended.
+/// Returns why a put does not start now: a named get is unknown, of another key, or has not ended.
 ///
-/// Costs a look-up for each such get.
+/// Costs a look-up for each named get.
 pub fn put_refusal(
     parts: &Parts,
     writer: WriterId,
@@ -118,7 +117,7 @@ fn new_put(
     })
 }
 
-// Adds a put as the writer's last one of the key, and returns its number. If refused, nothing changes.
+// Adds a put as the writer's last of the key. Returns its number.
 fn push_put(
     puts: &mut Puts,
     lasts: &mut Lasts,
@@ -145,7 +144,7 @@ fn push_put(
     Ok(number)
 }
 
-/// Starts a put of a writer that knows the replies of these gets. Costs a join for each version that the gets found.
+/// Starts a put of a writer that knows these gets' replies. Costs a join for each version that the gets found.
 pub fn start_put(
     parts: &mut Parts,
     writer: WriterId,

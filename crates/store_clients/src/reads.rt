@@ -15,7 +15,7 @@ use ring_names::{Listed, Refusal, Slot};
 use ring_store::SlotKey;
 use store_tells::Parts;
 
-// The refusal if the slot's owner is down, or a keeper of the key for the slot.
+// The refusal if the owner or a keeper of the key is down.
 fn down_refusal(parts: &Parts, at: &SlotKey) -> Option<Refusal>
     ensures { StopsRead parts.now.slots (is_up_at parts.now.nodes)
         (λ x. hinted_at parts.now.hints x at.now.slot at.now.key) at.now.slot result }
@@ -30,8 +30,7 @@ fn down_refusal(parts: &Parts, at: &SlotKey) -> Option<Refusal>
 
 /// Returns why a slot is not read for a get now. Costs a look-up for each of the slot's keepers.
 ///
-/// There is no such get or slot, or the get has ended or read the slot. Or the owner or a keeper of the key for
-/// the slot is down.
+/// Get or slot is unknown, the get has ended or read the slot, or the owner or a keeper of the key is down.
 pub fn read_refusal(parts: &Parts, get: u32, index: u32) -> Option<Refusal>
     requires { IsSound parts.now }
     ensures { Tests parts.now (Read get index) result }
@@ -57,8 +56,8 @@ pub fn read_refusal(parts: &Parts, get: u32, index: u32) -> Option<Refusal>
 
 /// Reads the slot for the get. The reply has the numbers of the puts found there.
 ///
-/// Costs a merge of the slot's versions with those found before, and a sort. Each keeper of the key costs a
-/// look-up and a merge.
+/// Costs a merge of the slot's versions with those found before, and a sort. Each keeper of the key costs a look-up and
+/// a merge.
 ///
 /// Such a merge is one comparison of clocks if the keeper has nothing new, and one version or at least eight.
 pub fn read(parts: &mut Parts, get: u32, index: u32) -> Result<Reply, Refusal>
@@ -74,7 +73,7 @@ pub fn read(parts: &mut Parts, get: u32, index: u32) -> Result<Reply, Refusal>
     Ok(Reply::Found(puts))
 }
 
-/// Reads the slot as `read` does, and copies the reply.
+/// Reads the slot as `read`, and copies the reply.
 pub fn read_with_copy(parts: &mut Parts, get: u32, index: u32) -> Result<(Reply, Reply), Refusal>
     requires sound { IsSound parts.old }
     requires passes { Passes parts.old (Read get index) }

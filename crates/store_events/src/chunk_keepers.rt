@@ -1,4 +1,4 @@
-//! Keepers of hints that are down.
+//! Down keepers of hints.
 
 ghost use Rattle.std.specs.Prelude.{◌<◌, ◌&&◌, ◌==◌, None};
 ghost use Rattle.std.specs.List.{list_any};
@@ -14,7 +14,7 @@ use ring_names::{NodeId, Slot};
 use std::collections::BTreeSet;
 use store_tells::Parts;
 
-// The lesser of `least` and the keeper, if that is down and keeps something of the chunk for the slot.
+// The lesser of `least` and the keeper, if down and keeping some of the chunk for the slot.
 fn with_keeper(
     parts: &Parts,
     least: Option<NodeId>,
@@ -91,7 +91,7 @@ fn with_slots(parts: &Parts, partition: u32, from: &[u8], chunk: u32) -> Option<
     least
 }
 
-/// Returns the least node that is down and keeps something of a chunk that a copy reads.
+/// Returns the least down node that keeps some of a chunk that a copy reads.
 pub(crate) fn least_keeper(parts: &Parts, slot: Slot, source: &Source, chunk: u32) -> Option<NodeId>
     requires chunk { chunk < 16 }
     requires sized { IsSized parts.now }

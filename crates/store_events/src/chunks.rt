@@ -24,7 +24,7 @@ fn has_chunk(parts: &Parts, step: u32, chunk: u32) -> bool
     has_copy(parts, step) && chunk < 16
 }
 
-// The refusal of the least node that is down and keeps something of the chunk for a listed slot.
+// The refusal of the least down keeper of the chunk for a listed slot.
 fn keeper_refusal(parts: &Parts, step: u32, chunk: u32) -> Option<Refusal>
     requires chunk { chunk < 16 }
     requires sized { IsSized parts.now }
@@ -41,12 +41,11 @@ fn keeper_refusal(parts: &Parts, step: u32, chunk: u32) -> Option<Refusal>
     }
 }
 
-/// Returns why a chunk cannot be copied now. Looks only at the keepers of listed slots.
+/// Returns why a chunk cannot be copied now. Looks only at listed slots' keepers.
 ///
-/// It is `UnknownNumber` without such a copy or chunk, `NotOpen`, or `AlreadyDone` if the chunk is marked.
+/// First `UnknownNumber` without such a copy or chunk, then `NotOpen`, then `AlreadyDone` if marked.
 ///
-/// Then comes `NodeDown` with the copy's least node that is down, then with the least keeper of a listed slot
-/// that is down.
+/// Then `NodeDown`, with the copy's least down node, then with the least down keeper of a listed slot.
 pub fn chunk_refusal(parts: &Parts, step: u32, chunk: u32) -> Option<Refusal>
     requires { IsSound parts.now }
     ensures { Tests parts.now (ChunkCopy step chunk) result }

@@ -12,11 +12,9 @@ use plan_runs::Reply;
 use ring_names::Refusal;
 use store_tells::Parts;
 
-/// Returns why the copy cannot be opened now: `UnknownNumber` without such a copy, or `AlreadyDone` if finished
-/// or open.
+/// Returns why the copy cannot open now: `UnknownNumber` without such a copy, or `AlreadyDone` if finished or open.
 ///
-/// Then comes `NotReady` if a dependency is not finished, and `NodeDown` with the copy's least node that is
-/// down.
+/// Then `NotReady` if a dependency is not finished, then `NodeDown` with the copy's least down node.
 pub fn open_refusal(parts: &Parts, step: u32) -> Option<Refusal>
     requires { IsSound parts.now }
     ensures { Tests parts.now (OpenCopy step) result }
@@ -33,7 +31,7 @@ pub fn open_refusal(parts: &Parts, step: u32) -> Option<Refusal>
     party_refusal(parts, step)
 }
 
-/// Opens the copy. Chunks marked before an abort stay so.
+/// Opens the copy. Marked chunks stay marked.
 pub fn open_copy(parts: &mut Parts, step: u32) -> Reply
     requires sound { IsSound parts.old }
     requires passes { Passes parts.old (OpenCopy step) }
@@ -56,7 +54,7 @@ fn not_open(parts: &Parts, step: u32) -> Option<Refusal>
     None
 }
 
-/// Returns why the copy cannot be closed now: `UnknownNumber` without such a copy, `NotOpen`, or `ChunksLeft` with the
+/// Returns why the copy cannot close now: `UnknownNumber` without such a copy, `NotOpen`, or `ChunksLeft` with the
 /// number of unmarked chunks.
 pub fn close_refusal(parts: &Parts, step: u32) -> Option<Refusal>
     requires { IsSound parts.now }

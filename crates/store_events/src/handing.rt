@@ -11,8 +11,8 @@ use ring_hints::KeptFor;
 use ring_names::{NodeId, Refusal, Slot};
 use store_tells::Parts;
 
-/// Returns why a handoff is refused now. There is no such slot, the node keeps nothing for it, or node, owner
-/// or mirror is down.
+/// Returns why a handoff is refused now: the slot is unknown, the node keeps nothing for it, or node, owner or mirror
+/// is down.
 pub fn handoff_refusal(parts: &Parts, node: NodeId, slot: Slot) -> Option<Refusal>
     requires { IsSound parts.now }
     ensures { Tests parts.now (Handoff node slot) result }
@@ -29,8 +29,8 @@ pub fn handoff_refusal(parts: &Parts, node: NodeId, slot: Slot) -> Option<Refusa
     served_refusal(parts, slot)
 }
 
-/// Hands all that the node keeps for the slot to the slot's owner and mirror. Costs a look-up and a merge for each of
-/// its keys, at both.
+/// Hands all that the node keeps for the slot to the owner and mirror. Costs a look-up and a merge for each key, at
+/// both.
 pub fn handoff(parts: &mut Parts, node: NodeId, slot: Slot) -> Result<Reply, Refusal>
     requires sound { IsSound parts.old }
     requires passes { Passes parts.old (Handoff node slot) }

@@ -24,9 +24,9 @@ fn serves_in(parts: &Parts, partition: u32, node: NodeId) -> bool
     false
 }
 
-/// Returns why a hint is refused now: there is no such put or slot, or the node is not a member or is down.
+/// Returns why a hint is refused now: put or slot is unknown, or the node is not a member or is down.
 ///
-/// Or the node serves a slot of the put's partition, or keeps hints for another one.
+/// Or the node serves a slot of the partition, or keeps hints for another.
 pub fn hint_refusal(parts: &Parts, put: u32, index: u32, node: NodeId) -> Option<Refusal>
     requires { IsSound parts.now }
     ensures { Tests parts.now (Hint put index node) result }
@@ -49,8 +49,7 @@ pub fn hint_refusal(parts: &Parts, put: u32, index: u32, node: NodeId) -> Option
     None
 }
 
-/// Keeps a put at the node as a hint for the slot. The reply is a ticket of the slot's generation. Costs one look-up of
-/// the key.
+/// Keeps a put at the node as the slot's hint. The reply is a ticket of the slot's generation. Costs one look-up.
 pub fn hint(parts: &mut Parts, put: u32, index: u32, node: NodeId) -> Result<Reply, Refusal>
     requires sound { IsSound parts.old }
     requires passes { Passes parts.old (Hint put index node) }

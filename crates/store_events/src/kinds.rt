@@ -1,4 +1,4 @@
-//! The kind of a step, and whether it is ready.
+//! A step's kind, and whether the step is ready.
 
 ghost use Rattle.std.specs.Prelude.{◌≡◌, ◌<◌, length, is_some};
 ghost use Rattle.std.specs.List.{list_all};
@@ -42,7 +42,7 @@ fn are_done(steps: &Steps, numbers: &[u32]) -> bool
     numbers.iter().all(|number| steps.is_done(*number))
 }
 
-/// Whether all dependencies of the step are finished.
+/// Whether all dependencies are finished.
 pub fn is_ready(parts: &Parts, step: u32) -> bool
     requires { step < length (plan_of parts.now) }
     ensures { result ≡ is_ready_kept (plan_of parts.now) parts.now.steps step }

@@ -1,7 +1,7 @@
-//! Events of steps, copies and nodes, and of versions that come to nodes. Each has a test, which returns the first
-//! failing guard's refusal, and an act, which leads to the next world.
+//! Events of steps, copies and nodes, and of versions that nodes get. Each has a test, which returns the first failing
+//! guard's refusal, and an act, which leads to the next world.
 //!
-//! A function without a `Result` takes no memory. An act fails only if memory runs out, and then nothing changes.
+//! A function without a `Result` takes no memory. An act fails only if memory runs out, and then changes nothing.
 #![tactic(auto)]
 
 // Steps and nodes.

@@ -8,7 +8,7 @@ use plan_runs::Reply;
 use ring_names::{NodeId, Refusal};
 use store_tells::Parts;
 
-/// Returns why the node cannot go down now: `NotMember`, or `AlreadyDone` if it is down.
+/// Returns why the node cannot go down now: `NotMember`, or `AlreadyDone` if down.
 pub fn down_refusal(parts: &Parts, node: NodeId) -> Option<Refusal>
     requires { IsSound parts.now }
     ensures { Tests parts.now (Down node) result }
@@ -22,7 +22,7 @@ pub fn down_refusal(parts: &Parts, node: NodeId) -> Option<Refusal>
     None
 }
 
-/// Takes the node down. It keeps its data.
+/// Takes the node down, with its data.
 pub fn down(parts: &mut Parts, node: NodeId) -> Reply
     requires sound { IsSound parts.old }
     requires passes { Passes parts.old (Down node) }
@@ -33,7 +33,7 @@ pub fn down(parts: &mut Parts, node: NodeId) -> Reply
     Reply::Plain
 }
 
-/// Returns why the node cannot come up now: `NotMember`, or `AlreadyDone` if it is up.
+/// Returns why the node cannot come up now: `NotMember`, or `AlreadyDone` if up.
 pub fn up_refusal(parts: &Parts, node: NodeId) -> Option<Refusal>
     requires { IsSound parts.now }
     ensures { Tests parts.now (Up node) result }
@@ -58,8 +58,7 @@ pub fn up(parts: &mut Parts, node: NodeId) -> Reply
     Reply::Plain
 }
 
-/// Returns why the node cannot lose its data now: `NotMember`, or `LossesSpent` if as many nodes lost theirs as the
-/// ring allows.
+/// Returns why the node cannot lose its data now: `NotMember`, or `LossesSpent` if the ring allows no more losses.
 pub fn lose_refusal(parts: &Parts, node: NodeId) -> Option<Refusal>
     requires { IsSound parts.now }
     ensures { Tests parts.now (Lose node) result }

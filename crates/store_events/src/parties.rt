@@ -1,4 +1,4 @@
-//! The nodes of a copy, and which of them are down.
+//! A copy's nodes, and the down ones.
 
 ghost use Rattle.std.specs.Prelude.{◌≡◌, true, false, map};
 ghost use Rattle.plan_stage.specs.Clauses.{first_failing};
@@ -13,8 +13,7 @@ use plan_text::{Source, Step};
 use ring_names::{NodeId, Refusal, Slot};
 use store_tells::Parts;
 
-/// Returns `NodeDown` with the least node that is down among the slot's mirror and the owners of the slots read, if
-/// any. The copy must be ready and unfinished.
+/// Returns `NodeDown` with the least down node among the slot's mirror and the owners of the slots read.
 pub(crate) fn party_refusal(parts: &Parts, step: u32) -> Option<Refusal>
     requires sound { IsSound parts.now }
     requires ready { (w : World) → Meets parts.now w

@@ -1,4 +1,4 @@
-//! What a copy reads of a chunk, and gives to the mirror.
+//! A copy's reads of a chunk.
 
 ghost use Rattle.std.specs.Prelude.{◌≡◌, ◌<◌, true, Some, IfOk, IfErr, OnOk, OnErr};
 ghost use Rattle.std.specs.List.{list_any};
@@ -104,7 +104,7 @@ fn add_slots(
     Ok(())
 }
 
-// Reads the chunk for a copy of these slots, merged aside.
+// Reads the chunk of these slots, merged aside.
 fn read_slots(parts: &Parts, slot: Slot, from: &[u8], chunk: u32) -> Result<KeyMap, Refusal>
     requires chunk { chunk < 16 }
     requires sized { IsSized parts.now }
@@ -155,7 +155,7 @@ fn give_owner(parts: &mut Parts, mirror: NodeId, slot: Slot, chunk: u32) -> Resu
     parts.stores.copy_chunk(owner, mirror, slot, chunk)
 }
 
-/// Gives the mirror what a copy reads of the chunk: the owner's map directly, or that of listed slots, merged aside.
+/// Gives the mirror a copy's chunk: the owner's map directly, or the listed slots' maps, merged aside.
 pub(crate) fn give_source(
     parts: &mut Parts,
     mirror: NodeId,

@@ -15,14 +15,11 @@ use plan_text::Step;
 use ring_names::Refusal;
 use store_tells::Parts;
 
-/// Returns why the step cannot be done now: `UnknownNumber` without such a step or for a copy, or `AlreadyDone`
-/// if finished.
+/// Returns why the step cannot be done now: `UnknownNumber` without such a step or for a copy, or `AlreadyDone`.
 ///
-/// Then comes `NotReady` if a dependency is not finished, and `NodeDown` if a node that is to mirror or drop is
-/// down.
+/// Then `NotReady` if a dependency is not finished, and `NodeDown` if a node that is to mirror or drop is down.
 ///
-/// Then comes `HintsLeft` if a new mirror keeps a hint for another slot of the partition, or a retiring node
-/// keeps any.
+/// Then `HintsLeft` if a new mirror keeps a hint for another slot of the partition, or a retiring node keeps any.
 pub fn do_refusal(parts: &Parts, step: u32) -> Option<Refusal>
     requires { IsSound parts.now }
     ensures { Tests parts.now (Do step) result }
@@ -69,8 +66,8 @@ fn kind_refusal(parts: &Parts, step: &Step) -> Option<Refusal>
     }
 }
 
-/// Finishes the step. A node joins and is up, a slot is mirrored in the next generation or switched, or a node
-/// drops or retires.
+/// Finishes the step. A node joins and is up, a slot is mirrored in the next generation or switched, or a node drops or
+/// retires.
 ///
 /// A drop walks the slot's data at the node.
 pub fn do_step(parts: &mut Parts, step: u32) -> Reply
@@ -85,7 +82,7 @@ pub fn do_step(parts: &mut Parts, step: u32) -> Reply
     Reply::Plain
 }
 
-// Makes the step's changes, except that it is finished.
+// Makes the step's changes, but does not finish it.
 fn act(parts: &mut Parts, step: &Step)
     requires sound { IsSound parts.old }
     requires other { is_some (copy_of step.now) ≡ false }

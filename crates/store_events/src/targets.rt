@@ -1,4 +1,4 @@
-//! The slot that a put goes to.
+//! The slot of a put.
 
 ghost use Rattle.plan_runs.specs.World.{World};
 ghost use Rattle.store_events.specs.Targets.{IsPutSlot};
@@ -7,7 +7,7 @@ ghost use Rattle.store_tells.specs.Parts.{ring_of, Meets, IsSound};
 use ring_names::Slot;
 use store_tells::Parts;
 
-/// Returns the slot of the index in the put's partition, if both exist.
+/// Returns the indexed slot of the put's partition, if both exist.
 pub(crate) fn put_slot(parts: &Parts, put: u32, index: u32) -> Option<Slot>
     requires { IsSound parts.now }
     ensures { (w : World) → Meets parts.now w → IsPutSlot (ring_of parts.now) w put index result }

@@ -12,7 +12,7 @@ use ring_names::{Refusal, Slot};
 use ring_store::SlotKey;
 use store_tells::Parts;
 
-/// Returns why a write is refused now: there is no such put or slot, or the slot's owner or mirror is down.
+/// Returns why a write is refused now: put or slot is unknown, or the owner or mirror is down.
 pub fn write_refusal(parts: &Parts, put: u32, index: u32) -> Option<Refusal>
     requires { IsSound parts.now }
     ensures { Tests parts.now (Write put index) result }
@@ -23,8 +23,8 @@ pub fn write_refusal(parts: &Parts, put: u32, index: u32) -> Option<Refusal>
     }
 }
 
-/// Writes a put to the slot's owner and mirror. The reply is a ticket of the slot's generation. Costs one look-up of
-/// the key at each.
+/// Writes a put to the slot's owner and mirror. The reply is a ticket of the slot's generation. Costs a look-up of the
+/// key at each.
 pub fn write(parts: &mut Parts, put: u32, index: u32) -> Result<Reply, Refusal>
     requires sound { IsSound parts.old }
     requires passes { Passes parts.old (Write put index) }

@@ -1,4 +1,4 @@
-//! Keys, by number, and their versions, in order: few in a vector, many in a tree.
+//! Versions by key, in order: few in a vector, many in a tree.
 
 ghost use Rattle.std.specs.Prelude.{◌≡◌, ◌↔◌, ℕ, [], true, is_some, Some, None, length, IsTrue, IfSome, IfNone, IfOk, IfErr, OnOk, OnErr};
 ghost use Rattle.std.specs.Ordering.{nat_cmp};
@@ -16,11 +16,10 @@ use ring_versions::{Fresh, Versions};
 use std::alloc::Global;
 use std::collections::BTreeMap;
 
-// The most entries of a vector.
 const FEW: usize = 32;
 
-// Versions by key, in ascending order. Most keepers of hints have one key of a chunk, and a tree's smallest node has
-// room for several. So up to 32 entries are in a vector, at first with room for one.
+// Versions by key, ascending. Up to 32 are in a vector, at first with room for one. Most keepers of hints have one key
+// of a chunk; a tree's smallest node has room for several.
 #[derive(Drop)]
 pub(crate) enum Entries {
     Few(Vec<(usize, Versions)>),
@@ -78,7 +77,7 @@ impl Entries {
         }
     }
 
-    // How many there are: a hint without a contract.
+    // Counts the entries: a hint without a contract.
     pub(crate) fn len(&self) -> usize {
         match self {
             Entries::Few(list) => list.len(),
@@ -100,7 +99,6 @@ impl Entries {
         }
     }
 
-    // Iterates over the entries in ascending order.
     pub(crate) fn walk(&self) -> Walk<'_>
         ensures { left_of result ≡ entries_of self.now }
     {
@@ -110,7 +108,7 @@ impl Entries {
         }
     }
 
-    // Turns a full vector into a tree, made aside.
+    // Turns a full vector into a tree.
     fn widen(&mut self, alloc: Global) -> Result<(), Refusal>
         requires { IsInOrder self.old }
         ensures order { IsInOrder self.new }
@@ -125,7 +123,6 @@ impl Entries {
         Ok(())
     }
 
-    // Sets the key's versions. If refused, nothing changes.
     pub(crate) fn put(
         &mut self,
         alloc: Global,
@@ -149,7 +146,6 @@ impl Entries {
         }
     }
 
-    // Merges into the key's versions, or returns `None` if the key is missing. If refused, nothing changes.
     pub(crate) fn merge(&mut self, key: usize, more: &Versions) -> Option<Result<(), Refusal>>
         requires { IsInOrder self.old }
         ensures order { IsInOrder self.new }

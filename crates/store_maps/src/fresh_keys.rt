@@ -1,4 +1,4 @@
-//! The result of a merge with a whole map, before it is taken in.
+//! A prepared merge with a whole map.
 
 ghost use Rattle.std.specs.Prelude.{◌≡◌, OnOk, IfErr};
 ghost use Rattle.ring_names.specs.declared.refusal.Refusal.TheVariants.{OutOfMemory};
@@ -7,7 +7,7 @@ use ring_names::Refusal;
 use ring_versions::Fresh;
 use std::collections::BTreeMap;
 
-/// What a map brings to another: the keys that get something not covered yet.
+/// What a map brings: the keys that get uncovered versions.
 #[derive(Drop)]
 pub struct FreshKeys {
     pub(crate) map: BTreeMap<usize, Fresh>,

@@ -8,7 +8,7 @@ use ring_names::{NodeId, Refusal};
 use std::alloc::Global;
 use std::collections::{BTreeMap, BTreeSet};
 
-/// Nodes by key. A look-up costs the logarithm of the number of keys.
+/// Nodes by key. A look-up costs the logarithm of the keys.
 #[derive(Drop)]
 pub struct Holders {
     alloc: Global,
@@ -27,7 +27,7 @@ impl Holders {
     ghost use Rattle.store_maps.specs.Trees.{has_entry};
     ghost use Rattle.store_maps.specs.declared.key_id.KeyId.{KeyId};
 
-    /// No nodes.
+    /// Starts empty.
     pub fn new(alloc: Global) -> Holders
         ensures { (k : KeyId) → holders_at result k ≡ [] }
     {
@@ -111,7 +111,7 @@ impl Holders {
         }
     }
 
-    /// Removes the node from those of all the slot's keys. Costs a look-up for each of these keys.
+    /// Removes the node from all keys of the slot. Costs a look-up for each.
     pub fn forget(&mut self, node: NodeId, map: &SlotMap)
         ensures others { (k : KeyId) (x : ℕ) → x ≢ node.0 → holds self.new k x ≡ holds self.old k x }
         ensures gone { (k : KeyId) → has_place_for map.now k ≡ true → holds self.new k node.0 ≡ false }

@@ -1,6 +1,6 @@
 //! Keys by number.
 
-/// A key by number: its chunk, and its number in the order in which the store first saw keys.
+/// A key's chunk, and its number, by the store's first sight.
 #[derive(Clone, Copy, Debug, PartialEq, Eq, PartialOrd, Ord)]
 pub struct KeyId {
     pub chunk: u32,

@@ -9,22 +9,22 @@ use std::collections::BTreeMap;
 use std::mem;
 use std::sync::Arc;
 
-/// Versions by a key's number. A key may have an empty place, made before a merge that must not fail; readers
-/// cannot see it.
+/// Versions by a key's number. A key may have an empty place, made before a merge that must not fail; readers cannot
+/// see it.
 ///
-/// A look-up costs the logarithm of the number of places. Preparations and refused calls change no reading.
+/// A look-up costs the logarithm of the places. Preparations and refused calls change no reading.
 ///
-/// Maps are copy-on-write: the first change of a shared key copies that key, not its versions, into the map's
-/// own tree, an overlay.
+/// Maps are copy-on-write: the first change of a shared key copies it, not its versions, into the map's own tree, an
+/// overlay.
 ///
-/// So a look-up searches at most two trees, and a copy of the map takes only its own tree.
+/// A look-up searches at most two trees, and a copy takes only the own tree.
 pub struct KeyMap {
     pub(crate) own: KeyTree,
-    // Read if the own tree has no place for a key.
+    // Read for keys without a place in the own tree.
     pub(crate) shared: Option<Arc<KeyTree>>,
 }
 
-// Dropping is a call, so crates above need not check both trees.
+// So crates above need not check both trees.
 impl Drop for KeyMap {
     fn drop(self) {
         let KeyMap { own, shared } = self;
@@ -44,7 +44,7 @@ impl KeyMap {
     ghost use Rattle.store_maps.specs.Merges.{MergesAll, at_number, AreFreshFor, AreReady, has_fresh};
     ghost use Rattle.store_maps.specs.Trees.{kept, tree_entry, has_entry};
 
-    /// No versions.
+    /// Starts empty.
     pub fn new(alloc: Global) -> KeyMap
         ensures versions { (k : ℕ) → held result k ≡ [] }
         ensures places { (k : ℕ) → has_place result k ≡ false }
@@ -65,7 +65,7 @@ impl KeyMap {
         }
     }
 
-    /// Returns the key's versions, if it has any.
+    /// Returns the key's versions.
     pub fn key_versions(&self, key: usize) -> Option<&Versions>
         ensures some { IfSome result (λ v. (v.now ≡ held self.now key) × (v.now ≢ [])) }
         ensures none { IfNone result (held self.now key ≡ []) }
@@ -76,7 +76,7 @@ impl KeyMap {
         }
     }
 
-    /// Whether no key has a place, for callers that never make empty ones.
+    /// Whether no key has a place, for callers without empty places.
     pub fn is_empty(&self) -> bool
         ensures { IsTrue result ↔ ((k : ℕ) → has_place self.now k ≡ false) }
     {
@@ -96,7 +96,7 @@ impl KeyMap {
         }
     }
 
-    // One tree with everything. Costs a copy of each key.
+    // Makes one tree of all keys. Costs a copy of each.
     fn flat(&self) -> Result<KeyTree, Refusal>
         ensures same { IfOk result (λ t. (k : ℕ) → tree_entry t k ≡ map_entry self.now k) }
         ensures memory { IfErr result (λ e. e ≡ OutOfMemory) }
@@ -109,7 +109,7 @@ impl KeyMap {
         Ok(flat)
     }
 
-    // Removes sharing. Costs a copy of each key of a map that shares.
+    // Removes sharing. Costs a copy of each key if shared.
     fn unshare(&mut self) -> Result<(), Refusal>
         ensures same { (k : ℕ) → map_entry self.new k ≡ map_entry self.old k }
         ensures ok { OnOk result (self.new.shared ≡ None) }
@@ -122,7 +122,7 @@ impl KeyMap {
         Ok(())
     }
 
-    // Moves the overlay into the shared tree if no other map has it. Returns whether it did.
+    // Moves the overlay into the shared tree if no other map has it, and says whether.
     fn put_down(&mut self) -> Result<bool, Refusal>
         ensures same { (k : ℕ) → map_entry self.new k ≡ map_entry self.old k }
         ensures memory { IfErr result (λ e. e ≡ OutOfMemory) }
@@ -138,7 +138,7 @@ impl KeyMap {
         Ok(true)
     }
 
-    // Whether the overlay is so small that copying it beats sharing a new tree of all keys.
+    // Whether copying the overlay beats sharing a new tree of all keys.
     fn lies_thinly(&self) -> bool {
         let over = self.own.len();
         match &self.shared {
@@ -147,11 +147,9 @@ impl KeyMap {
         }
     }
 
-    /// Lets copies share the map from now on. An empty map costs nothing, one that shares nothing yet an
-    /// allocation.
+    /// Lets copies share the map. Costs nothing if empty, and an allocation if nothing is shared yet.
     ///
-    /// Others cost a look-up for each key of the overlay if no other map shares, and at most a copy of each
-    /// key.
+    /// Otherwise costs a look-up for each key of the overlay if no other map shares, and at most a copy of each key.
     pub fn share(&mut self) -> Result<(), Refusal>
         ensures same { (k : ℕ) → held self.new k ≡ held self.old k }
         ensures places { (k : ℕ) → has_place self.new k ≡ has_place self.old k }
@@ -175,7 +173,7 @@ impl KeyMap {
         }
     }
 
-    // Copies a shared key into the overlay, so that it can change.
+    // Copies a shared key into the overlay, for a change.
     fn bring_up(&mut self, key: usize) -> Result<(), Refusal>
         ensures same { (k : ℕ) → map_entry self.new k ≡ map_entry self.old k }
         ensures rooms { (k : ℕ) → has_room self.old k ≡ true → has_room self.new k ≡ true }
@@ -195,9 +193,9 @@ impl KeyMap {
         self.own.put(key, brought)
     }
 
-    /// Copies the map: every key reads the same, and has a place if it has one here.
+    /// Copies the map.
     ///
-    /// Costs a copy of each key changed since the map was shared, or of each key if it never was.
+    /// Costs a copy of each key changed since the map was shared, or of all if never.
     pub fn try_copy(&self) -> Result<KeyMap, Refusal>
         ensures same { IfOk result (λ m. (k : ℕ) → held m k ≡ held self.now k) }
         ensures places { IfOk result (λ m. (k : ℕ) → has_place m k ≡ has_place self.now k) }
@@ -213,8 +211,7 @@ impl KeyMap {
         })
     }
 
-    /// Prepares a merge at one key: makes its place if missing, and what the other versions bring. Costs
-    /// `Versions::fresh_of`, and a copy of the key if shared.
+    /// Prepares a merge at one key, and makes a missing place. Costs `Versions::fresh_of`, and a copy of a shared key.
     pub fn prepare(&mut self, key: usize, more: &Versions) -> Result<Fresh, Refusal>
         ensures same { (k : ℕ) → held self.new k ≡ held self.old k }
         ensures stays { (k : ℕ) → has_place self.old k ≡ true → has_place self.new k ≡ true }
@@ -228,7 +225,7 @@ impl KeyMap {
         self.own.prepare(key, more)
     }
 
-    /// Completes a merge at one key. Cannot fail.
+    /// Completes a merge at one key.
     pub fn settle(&mut self, key: usize, fresh: Fresh)
         requires { IsReady self.old key fresh }
         ensures merged { (more : List Version) → IsFreshFor (held self.old key) more fresh
@@ -240,7 +237,7 @@ impl KeyMap {
         self.own.settle(key, fresh);
     }
 
-    /// Merges at one key. If refused, nothing changes. Never makes an empty place.
+    /// Merges at one key. Never makes an empty place.
     pub fn merge(&mut self, key: usize, more: &Versions) -> Result<(), Refusal>
         ensures ok { OnOk result (MergesAll (held self.old) (at_number key more.now) (held self.new)) }
         ensures err { OnErr result ((k : ℕ) → held self.new k ≡ held self.old k) }
@@ -255,7 +252,7 @@ impl KeyMap {
         self.own.merge(key, more)
     }
 
-    // Prepares a merge at one key, which can be changed only if something new comes.
+    // Prepares a merge at one key, which changes only if something new comes.
     fn prepare_new(&mut self, key: usize, more: &Versions) -> Result<Fresh, Refusal>
         ensures same { (k : ℕ) → held self.new k ≡ held self.old k }
         ensures stays { (k : ℕ) → has_place self.old k ≡ true → has_place self.new k ≡ true }
@@ -300,10 +297,10 @@ impl KeyMap {
         Ok(keys)
     }
 
-    /// Prepares a merge with a whole map: makes missing places, and what the other map brings.
+    /// Prepares a merge with a whole map, and makes missing places.
     ///
-    /// Costs two look-ups and a merge for each key of the other map. If some keys changed in its overlay, also
-    /// costs a copy of its keys.
+    /// Costs two look-ups and a merge for each key of the other map, and a copy of its keys if its overlay changed
+    /// some.
     pub fn prepare_all(&mut self, other: &KeyMap) -> Result<FreshKeys, Refusal>
         ensures same { (k : ℕ) → held self.new k ≡ held self.old k }
         ensures stays { (k : ℕ) → has_place self.old k ≡ true → has_place self.new k ≡ true }
@@ -322,7 +319,7 @@ impl KeyMap {
         }
     }
 
-    /// Completes a merge with a whole map. Cannot fail. Costs a look-up for each key that gets something.
+    /// Completes a merge with a whole map. Costs a look-up for each key that gets something.
     pub fn settle_all(&mut self, fresh: FreshKeys)
         requires { AreReady self.old fresh }
         ensures merged { (more : ℕ → List Version) → AreFreshFor (held self.old) more fresh
@@ -355,11 +352,10 @@ impl KeyMap {
         Ok(())
     }
 
-    /// Merges a whole map. An empty map costs a copy of the other. Otherwise costs `prepare_all`, or less in
-    /// one case.
+    /// Merges a whole map. An empty map costs a copy of the other, others `prepare_all`.
     ///
-    /// If this map shares nothing, and the other shares more keys, costs such a copy. Each own key then costs
-    /// two look-ups and a merge.
+    /// If only the other map shares, and more keys than this has, costs such a copy. Each own key then costs two
+    /// look-ups and a merge.
     pub fn take_in(&mut self, other: &KeyMap) -> Result<(), Refusal>
         ensures ok { OnOk result (MergesAll (held self.old) (held other.now) (held self.new)) }
         ensures err { OnErr result ((k : ℕ) → held self.new k ≡ held self.old k) }

@@ -1,4 +1,4 @@
-//! Maps from key to versions, and the sixteen maps of a slot, one for each chunk.
+//! Maps from key to versions, and a slot's sixteen maps, one for each chunk.
 //!
 //! A function without a `Result` takes no memory.
 #![tactic(auto)]

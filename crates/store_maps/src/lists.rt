@@ -1,4 +1,4 @@
-//! Lists without spare room, and lists of entries that ascend by key.
+//! Lists without spare room, and lists that ascend by key.
 
 ghost use Rattle.std.specs.Prelude.{◌≡◌, IfOk, IfErr};
 ghost use Rattle.ring_names.specs.declared.refusal.Refusal.TheVariants.{OutOfMemory};
@@ -6,7 +6,7 @@ ghost use Rattle.store_maps.specs.Sorted.{Ascends, IsThere, GoesAt};
 
 use ring_names::Refusal;
 
-/// Makes room for one more: a list grows to one, two, four, eight and so on.
+/// Makes room for one more: a list grows to one, two, four and so on.
 pub fn lengthen<T>(list: &mut Vec<T>) -> Result<(), Refusal>
     ensures same { list.new.items ≡ list.old.items }
     ensures memory { IfErr result (λ e. e ≡ OutOfMemory) }
@@ -17,7 +17,7 @@ pub fn lengthen<T>(list: &mut Vec<T>) -> Result<(), Refusal>
     Ok(())
 }
 
-/// Returns the place of the key, or where it would be. Costs the logarithm of the entries.
+/// Returns the key's place, or where it would be. Costs the logarithm of the entries.
 pub fn place_of<K: Ord, X>(list: &[(K, X)], key: &K) -> Result<usize, usize>
     requires { Ascends K.cmp list.now }
     ensures found { IfOk result (IsThere K.cmp key.now list.now) }

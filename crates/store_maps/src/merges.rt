@@ -13,7 +13,7 @@ impl KeyTree {
     ghost use Rattle.store_maps.specs.Trees.{kept, has_entry, IsReadyIn};
     ghost use Rattle.store_maps.specs.Merges.{MergesAll, at_number, AreFreshFor, AreReadyIn};
 
-    /// Prepares a merge at one key: makes its place if missing, and what the other versions bring.
+    /// Prepares a merge at one key, and makes a missing place.
     pub fn prepare(&mut self, key: usize, more: &Versions) -> Result<Fresh, Refusal>
         ensures same { (k : ℕ) → kept self.new k ≡ kept self.old k }
         ensures stays { (k : ℕ) → has_entry self.old k ≡ true → has_entry self.new k ≡ true }
@@ -29,7 +29,7 @@ impl KeyTree {
         Versions::new(self.alloc).fresh_of(more)
     }
 
-    /// Completes a merge at one key. Cannot fail.
+    /// Completes a merge at one key.
     pub fn settle(&mut self, key: usize, fresh: Fresh)
         requires { IsReadyIn self.old key fresh }
         ensures merged { (more : List Version) → IsFreshFor (kept self.old key) more fresh
@@ -40,7 +40,7 @@ impl KeyTree {
         self.entries.absorb(key, fresh);
     }
 
-    /// Merges at one key. If refused, nothing changes. Never makes an empty place.
+    /// Merges at one key. Never makes an empty place.
     pub fn merge(&mut self, key: usize, more: &Versions) -> Result<(), Refusal>
         ensures ok { OnOk result (MergesAll (kept self.old) (at_number key more.now) (kept self.new)) }
         ensures err { OnErr result ((k : ℕ) → kept self.new k ≡ kept self.old k) }
@@ -60,7 +60,7 @@ impl KeyTree {
         self.put(key, more.try_copy()?)
     }
 
-    /// Completes a merge with a whole tree. Cannot fail.
+    /// Completes a merge with a whole tree.
     pub fn settle_all(&mut self, fresh: FreshKeys)
         requires { AreReadyIn self.old fresh }
         ensures merged { (more : ℕ → List Version) → AreFreshFor (kept self.old) more fresh

@@ -13,14 +13,14 @@ use ring_names::Refusal;
 use ring_versions::Versions;
 use std::alloc::Global;
 
-/// The versions of one slot's keys, in a map for each of up to sixteen chunks that got something. Refused calls
-/// change no reading.
+/// The versions of a slot's keys, in a map for each of sixteen chunks that got something. Refused calls change no
+/// reading.
 #[derive(Drop)]
 pub struct SlotMap {
     alloc: Global,
     // Read for a chunk without a map.
     empty: KeyMap,
-    // The maps and their chunks, ascending.
+    // By chunk, ascending.
     chunks: Vec<(u32, KeyMap)>,
     ghost order: { Ascends nat_cmp chunks.items } by { IsStrictlySortedBy-prop nat_cmp (keys_of chunks.items) },
     ghost narrow: { AreNarrow chunks.items },
@@ -38,7 +38,7 @@ impl SlotMap {
     ghost use Rattle.store_maps.specs.Slots.{held_for, has_place_for};
     ghost use Rattle.store_maps.specs.declared.key_id.KeyId.{KeyId};
 
-    /// No versions.
+    /// Starts empty.
     pub fn new(alloc: Global) -> SlotMap
         ensures versions { (k : KeyId) → held_for result k ≡ [] }
         ensures places { (k : KeyId) → has_place_for result k ≡ false }
@@ -50,7 +50,7 @@ impl SlotMap {
         }
     }
 
-    // Returns the place of a chunk's map, made if missing. No reading changes.
+    // Returns the place of a chunk's map, made if missing.
     fn open(&mut self, chunk: u32) -> Result<usize, Refusal>
         requires { chunk < 16 }
         ensures same { (k : KeyId) → held_for self.new k ≡ held_for self.old k }
@@ -79,7 +79,7 @@ impl SlotMap {
         }
     }
 
-    /// Returns the key's versions, if it has any.
+    /// Returns the key's versions.
     pub fn key_versions(&self, key: KeyId) -> Option<&Versions>
         ensures some { IfSome result (λ v. (v.now ≡ held_for self.now key) × (v.now ≢ [])) }
         ensures none { IfNone result (held_for self.now key ≡ []) }
@@ -87,7 +87,7 @@ impl SlotMap {
         self.chunk(key.chunk).key_versions(key.number)
     }
 
-    /// Merges at one key. If refused, nothing changes. Never makes an empty place.
+    /// Merges at one key. Never makes an empty place.
     pub fn merge(&mut self, key: KeyId, more: &Versions) -> Result<(), Refusal>
         requires { key.chunk < 16 }
         ensures ok { OnOk result (MergesAll (held_for self.old) (at_key key more.now) (held_for self.new)) }
@@ -105,7 +105,7 @@ impl SlotMap {
         self.chunks[place].1.merge(key.number, more)
     }
 
-    /// Whether no key has a place, for callers that never make empty ones.
+    /// Whether no key has a place, for callers without empty places.
     pub fn is_empty(&self) -> bool
         ensures { IsTrue result ↔ ((k : KeyId) → has_place_for self.now k ≡ false) }
     {

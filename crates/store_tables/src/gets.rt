@@ -1,4 +1,4 @@
-//! The gets of a running store.
+//! A running store's gets.
 
 ghost use Rattle.std.specs.Prelude.{◌≡◌, ◌<◌, ◌++◌, ◌∷◌, ◌||◌, ◌==◌, ℕ, [], length, slice_get, option_map, Some, IfErr};
 ghost use Rattle.std.specs.Prelude.{OnOk, OnErr};
@@ -14,20 +14,20 @@ use ring_versions::Found;
 use std::alloc::Global;
 use std::marker::Model;
 
-/// The state of a get.
+/// A get's state.
 #[derive(Drop)]
 pub struct GetNow {
-    /// The number of its key.
+    /// Its key's number.
     pub key: usize,
-    /// The slots of the key's partition that it has read, by index.
+    /// The slots that it has read, by index.
     pub read: Marks,
-    /// What it found there, merged.
+    /// Their versions, merged.
     pub found: Found,
-    /// The puts that it returned, ascending, once it has ended.
+    /// The returned puts, ascending, once ended.
     pub reply: Option<Listed<u32>>,
 }
 
-/// The gets, numbered from 0 in order of their start.
+/// The gets, numbered from 0 by start.
 #[derive(Drop)]
 pub struct Gets {
     gets: Vec<GetNow>,
@@ -43,7 +43,7 @@ impl Model for Gets {
 }
 
 impl Gets {
-    /// No gets.
+    /// Starts empty.
     pub fn new(alloc: Global) -> Gets
         ensures { result ≡ [] }
     {
@@ -59,7 +59,7 @@ impl Gets {
         self.gets.len()
     }
 
-    /// Returns the get of this number.
+    /// Returns the get.
     pub fn get(&self, number: u32) -> Option<&GetNow>
         ensures { option_map (λ get. get.now) result ≡ slice_get self.now number }
     {
@@ -96,7 +96,7 @@ impl Gets {
         Ok(())
     }
 
-    /// Sets the slot as read, and the versions found so far.
+    /// Sets the slot as read, and the versions found.
     #[tactic(auto, using(crate::proofs::Writing::writing))]
     pub fn set_found(&mut self, number: u32, index: u32, found: Found)
         requires { index < 7 }

@@ -15,9 +15,9 @@ use std::alloc::Global;
 use std::marker::Model;
 use store_maps::KeyId;
 
-/// The keys of puts and gets, numbered by first sight from 0. A look-up costs that of `Numbered`.
+/// The keys of puts and gets, numbered by first sight from 0. A look-up costs as in `Numbered`.
 ///
-/// Their places among q partitions are kept, so that a key's digest is computed once.
+/// Keeps their places among q partitions: a key's digest is computed once.
 #[derive(Drop)]
 pub struct Keys {
     q: u32,
@@ -38,7 +38,7 @@ impl Model for Keys {
 }
 
 impl Keys {
-    /// No keys, in a space of q partitions.
+    /// Starts empty, in a space of q partitions.
     pub fn new(alloc: Global, q: u32) -> Keys
         requires { is_space q ≡ true }
         ensures { result ≡ record { q = q; keys = [] } }
@@ -57,14 +57,14 @@ impl Keys {
         self.keys.len()
     }
 
-    /// Returns the number of the key, if it was seen.
+    /// Returns the key's number, if seen.
     pub fn number_of(&self, key: &[u8]) -> Option<usize>
         ensures { result ≡ number_in self.now.keys key.now }
     {
         self.keys.number_of(key)
     }
 
-    /// Returns the number of the key, old or new. Only a new key can fail.
+    /// Returns the key's number, old or new. Only a new key can fail.
     pub fn add(&mut self, key: &[u8]) -> Result<usize, Refusal>
         ensures number { IfOk result (λ n. number_in self.new.keys key.now ≡ Some n) }
         ensures keys { OnOk result (self.new ≡ record self.old { keys = with_name self.old.keys key.now }) }
@@ -80,7 +80,7 @@ impl Keys {
         Ok(number)
     }
 
-    /// Returns the place of the key.
+    /// Returns the key's place.
     pub fn place(&self, number: usize) -> Place
         requires { number < length self.now.keys }
         ensures place { option_map (place_of self.now.q) (slice_get self.now.keys number) ≡ Some result }
@@ -90,7 +90,7 @@ impl Keys {
         self.places[number]
     }
 
-    /// Returns the id of the key of this number.
+    /// Returns the key's id.
     #[tactic(auto, unfolding(crate::specs::KeyTable::chunk_of))]
     pub fn id(&self, number: usize) -> KeyId
         requires { number < length self.now.keys }

@@ -1,4 +1,4 @@
-//! The last put of each writer on each key.
+//! Each writer's last put on each key.
 
 ghost use Rattle.std.specs.List.Sorted.{IsStrictlySortedBy-prop};
 ghost use Rattle.std.specs.Map.{keys_of};
@@ -11,7 +11,7 @@ use ring_names::{Refusal, WriterId};
 use std::alloc::Global;
 use store_maps::{lengthen, place_of};
 
-// The writers of one key, ascending, and their last puts.
+// A key's writers, ascending, and their last puts.
 #[derive(Drop)]
 struct Row {
     puts: Vec<(u32, u32)>,
@@ -44,7 +44,7 @@ impl Row {
     }
 }
 
-/// The last put of each writer on each key, by their numbers. A look-up costs the logarithm of the key's writers.
+/// Each writer's last put on each key, by numbers. A look-up costs the logarithm of the key's writers.
 #[derive(Drop)]
 pub struct Lasts {
     alloc: Global,
@@ -54,7 +54,7 @@ pub struct Lasts {
 impl Lasts {
     ghost use Rattle.store_tables.specs.Lasts.{last_of};
 
-    /// No puts.
+    /// Starts empty.
     pub fn new(alloc: Global) -> Lasts
         ensures { (k w : ℕ) → last_of result k w ≡ None }
     {
@@ -64,14 +64,14 @@ impl Lasts {
         }
     }
 
-    /// Returns the last put of the writer on the key.
+    /// Returns the writer's last put on the key.
     pub fn get(&self, key: usize, writer: WriterId) -> Option<u32>
         ensures { result ≡ last_of self.now key writer.0 }
     {
         self.rows.get(key)?.get(writer.0)
     }
 
-    /// Sets the writer's last put on the key. Rows are made up to the key.
+    /// Sets the writer's last put on the key. Makes rows up to the key.
     pub fn set(&mut self, key: usize, writer: WriterId, put: u32) -> Result<(), Refusal>
         ensures ok { OnOk result ((k w : ℕ)
             → last_of self.new k w ≡ (if (k == key) && (w == writer.0) then Some put else last_of self.old k w)) }

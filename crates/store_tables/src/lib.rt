@@ -1,4 +1,4 @@
-//! What a running store keeps besides versions: nodes, steps, slots, keys, and puts and gets in order of their start.
+//! A running store besides versions: nodes, steps, slots, keys, puts and gets.
 //!
 //! A function without a `Result` takes no memory. A refused call changes nothing.
 #![tactic(auto)]

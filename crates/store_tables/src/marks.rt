@@ -4,7 +4,7 @@ ghost use Rattle.std.specs.Prelude.{◌≡◌, ◌<◌, ◌≤◌, ℕ, false, �
 ghost use Rattle.plan_runs.specs.World.{passing_below};
 ghost use Rattle.store_tables.specs.Marks.{no_marks, has_mark, with_mark};
 
-/// A set of numbers below 16, such as the chunks of a copy or the slots of a partition.
+/// A set of numbers below 16, such as a copy's chunks or a partition's slots.
 #[derive(Clone, Copy, Debug, PartialEq, Eq)]
 pub struct Marks {
     bits: u16,
@@ -26,7 +26,7 @@ impl Marks {
         number < 16 && (self.bits >> number) & 1 == 1
     }
 
-    /// Returns the set with the number added.
+    /// Returns the set with the number.
     #[tactic(auto, using(crate::proofs::Bits::has_with))]
     pub fn with(self, number: u32) -> Marks
         requires { number < 16 }
@@ -38,7 +38,7 @@ impl Marks {
         }
     }
 
-    /// Counts the numbers below `end` in the set.
+    /// Counts the set's numbers below `end`.
     #[tactic(auto, using(crate::proofs::Counting::count_next, crate::proofs::Counting::count_most))]
     pub fn count_below(self, end: u32) -> u32
         ensures { result ≡ length (passing_below end (has_mark self)) }

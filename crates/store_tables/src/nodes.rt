@@ -1,4 +1,4 @@
-//! The nodes of a running store.
+//! A running store's nodes.
 
 ghost use Rattle.std.specs.Prelude.{◌≡◌, true, false, map, IfOk, IfErr};
 ghost use Rattle.ring_names.specs.declared.refusal.Refusal.TheVariants.{OutOfMemory};
@@ -10,18 +10,18 @@ use ring_table::Ring;
 use std::alloc::Global;
 use std::marker::Model;
 
-/// The state of a node.
+/// A node's state.
 #[derive(Clone, Copy, Debug, PartialEq, Eq)]
 pub struct NodeNow {
-    /// Whether it can be reached. A node that is down keeps its data.
+    /// Whether reachable. A down node keeps its data.
     pub up: bool,
-    /// Whether the ring declares it `in`, or it has joined since.
+    /// Whether declared `in`, or joined since.
     pub joined: bool,
-    /// Whether it has retired.
+    /// Whether retired.
     pub retired: bool,
 }
 
-/// The declared nodes of a ring, by number, 1 to 1,024 of them. Each call except `start` costs one look-up.
+/// A ring's nodes, by number, 1 to 1,024. Each call except `start` costs one look-up.
 #[derive(Drop)]
 pub struct Nodes {
     nodes: Vec<NodeNow>,
@@ -37,7 +37,7 @@ impl Model for Nodes {
 }
 
 impl Nodes {
-    /// The nodes before the first step of a plan: those declared `in` are up and joined.
+    /// The nodes before a plan: those declared `in` are up and joined.
     pub fn start(alloc: Global, ring: &Ring) -> Result<Nodes, Refusal>
         ensures start { IfOk result (λ nodes. nodes ≡ map node_at_start ring.now.nodes) }
         ensures memory { IfErr result (λ e. e ≡ OutOfMemory) }

@@ -1,4 +1,4 @@
-//! The puts of a running store.
+//! A running store's puts.
 
 ghost use Rattle.std.specs.Prelude.{◌≡◌, ◌<◌, ◌++◌, ◌∷◌, ℕ, List, [], true, length, slice_get, option_map, IfErr, OnOk};
 ghost use Rattle.std.specs.Prelude.{OnErr};
@@ -12,20 +12,20 @@ use ring_versions::Versions;
 use std::alloc::Global;
 use std::marker::Model;
 
-/// The state of a put.
+/// A put's state.
 #[derive(Drop)]
 pub struct PutNow {
-    /// The number of its key.
+    /// Its key's number.
     pub key: usize,
     /// Its one version.
     pub version: Versions,
-    /// For each slot, the generation of the last write or hint, if any.
+    /// By slot, the generation of the last write or hint.
     pub tickets: [Option<u32>; 7],
-    /// Whether it is acknowledged.
+    /// Whether acknowledged.
     pub acked: bool,
 }
 
-/// The puts, numbered from 0 in order of their start.
+/// The puts, numbered from 0 by start.
 #[derive(Drop)]
 pub struct Puts {
     puts: Vec<PutNow>,
@@ -51,7 +51,7 @@ fn with_ticket(mut tickets: [Option<u32>; 7], index: u32, generation: u32) -> [O
 }
 
 impl Puts {
-    /// No puts.
+    /// Starts empty.
     pub fn new(alloc: Global) -> Puts
         ensures { result ≡ [] }
     {
@@ -67,7 +67,7 @@ impl Puts {
         self.puts.len()
     }
 
-    /// Returns the put of this number.
+    /// Returns the put.
     pub fn get(&self, number: u32) -> Option<&PutNow>
         ensures { option_map (λ put. put.now) result ≡ slice_get self.now number }
     {

@@ -1,4 +1,4 @@
-//! The slots of a running store.
+//! A running store's slots.
 
 ghost use Rattle.std.specs.Prelude.{◌≡◌, ◌+◌, ◌<◌, map, option_map, slice_get, slice_set, Some, None, IfOk, IfErr};
 ghost use Rattle.std.specs.Prelude.{IfSome};
@@ -12,14 +12,14 @@ use ring_table::Ring;
 use std::alloc::Global;
 use std::marker::Model;
 
-/// The state of a slot.
+/// A slot's state.
 #[derive(Clone, Copy, Debug, PartialEq, Eq)]
 pub struct SlotNow {
     /// The node that serves it.
     pub owner: NodeId,
-    /// The node that takes its writes too, and owns it after the plan's switch.
+    /// The node that also takes its writes, and owns it after the switch.
     pub mirror: Option<NodeId>,
-    /// How many mirrors it has had, plus how often a node of the group lost its data.
+    /// How many mirrors it had, plus how often a node of the group lost its data.
     pub generation: u32,
 }
 
@@ -84,7 +84,7 @@ impl SlotRow {
     }
 }
 
-/// The slots of a ring, by partition and index. Each call except `start` costs at most two look-ups.
+/// A ring's slots, by partition and index. Each call except `start` costs at most two look-ups.
 #[derive(Drop)]
 pub struct Slots {
     rows: Vec<SlotRow>,
@@ -100,7 +100,7 @@ impl Model for Slots {
 }
 
 impl Slots {
-    /// The slots before the first step of a plan: the ring's owners, no mirrors, generation 0.
+    /// The slots before a plan: the ring's owners, no mirrors, generation 0.
     pub fn start(alloc: Global, ring: &Ring) -> Result<Slots, Refusal>
         ensures start { IfOk result
             (λ slots. (t : TheSlot) → slot_now slots t ≡ option_map slot_at_start (owner_of ring.now t)) }
@@ -113,7 +113,7 @@ impl Slots {
         Ok(Slots { rows })
     }
 
-    /// Returns the state of the slot, if the ring has it.
+    /// Returns the slot's state, if the ring has the slot.
     pub fn at(&self, slot: Slot) -> Option<SlotNow>
         ensures { result ≡ slot_now self.now slot }
     {
@@ -123,7 +123,7 @@ impl Slots {
         }
     }
 
-    /// Returns the owner of the slot, if the ring has it.
+    /// Returns the slot's owner, if the ring has the slot.
     pub fn owner(&self, slot: Slot) -> Option<NodeId>
         ensures { result ≡ option_map (λ x. x.owner) (slot_now self.now slot) }
     {
@@ -152,7 +152,7 @@ impl Slots {
         }
     }
 
-    /// Makes the slot's mirror its owner, if there is one.
+    /// Makes the slot's mirror, if any, its owner.
     pub fn switch(&mut self, slot: Slot)
         ensures { ChangesSlot self.old self.new slot switched }
     {

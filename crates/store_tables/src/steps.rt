@@ -1,4 +1,4 @@
-//! The steps of a plan that a running store follows.
+//! The steps of a running store's plan.
 
 ghost use Rattle.std.specs.Prelude.{◌≡◌, ◌<◌, ℕ, true, false, length, replicate, IfOk, IfErr};
 ghost use Rattle.ring_names.specs.declared.refusal.Refusal.TheVariants.{OutOfMemory};
@@ -12,18 +12,18 @@ use ring_names::Refusal;
 use std::alloc::Global;
 use std::marker::Model;
 
-/// The state of a step.
+/// A step's state.
 #[derive(Clone, Copy, Debug, PartialEq, Eq)]
 pub struct StepNow {
-    /// Whether it is finished.
+    /// Whether finished.
     pub done: bool,
-    /// Whether it is an open copy.
+    /// Whether an open copy.
     pub is_open: bool,
-    /// The chunks that the copy has given to the mirror. They stay marked after an abort.
+    /// The chunks given to the mirror. They stay marked after an abort.
     pub marks: Marks,
 }
 
-/// The steps of a plan, by number. Each call except `start` costs one look-up.
+/// A plan's steps, by number. Each call except `start` costs one look-up.
 #[derive(Drop)]
 pub struct Steps {
     steps: Vec<StepNow>,
@@ -43,7 +43,7 @@ impl Model for Steps {
 }
 
 impl Steps {
-    /// Steps of which none is done or open, without marked chunks.
+    /// Starts with no step done or open, and no chunk marked.
     pub fn start(alloc: Global, count: u32) -> Result<Steps, Refusal>
         ensures start { IfOk result (λ steps. steps ≡ replicate count step_at_start) }
         ensures memory { IfErr result (λ e. e ≡ OutOfMemory) }
@@ -79,7 +79,7 @@ impl Steps {
         }
     }
 
-    /// Whether the chunk of the copy is marked.
+    /// Whether the copy's chunk is marked.
     pub fn is_marked(&self, step: u32, chunk: u32) -> bool
         ensures { result ≡ is_marked_at self.now step chunk }
     {
@@ -105,14 +105,14 @@ impl Steps {
         self.marks(step).count_below(16)
     }
 
-    /// Counts the steps that are not done. Costs no look-up.
+    /// Counts the steps not done. Costs no look-up.
     pub fn left(&self) -> u32
         ensures { result ≡ steps_left self.now }
     {
         self.left
     }
 
-    /// Finishes the step, which is no longer open.
+    /// Finishes the step, no longer open.
     #[tactic(auto, using(crate::proofs::Writing::writing))]
     pub fn finish(&mut self, step: u32)
         ensures { self.new ≡ changed self.old step (λ x. record x { done = true; is_open = false }) }
@@ -150,7 +150,7 @@ impl Steps {
         }
     }
 
-    /// Marks the chunk of the step.
+    /// Marks the step's chunk.
     #[tactic(auto, using(crate::proofs::Writing::writing))]
     pub fn mark(&mut self, step: u32, chunk: u32)
         requires { chunk < 16 }

@@ -1,4 +1,4 @@
-//! Laws of the clocks of a world's puts. Each is the contract of an empty function.
+//! Laws of puts' clocks in a world: contracts of empty functions.
 
 ghost use Rattle.std.specs.Prelude.{◌≡◌, ◌↔◌, ℕ, ◌<◌, ◌≤◌, false, List, length, Option, Ok};
 ghost use Rattle.ring_names.specs.declared.ids.WriterId.{WriterId as TheWriter};
@@ -17,14 +17,14 @@ ghost use Rattle.plan_runs.specs.Reached.{Reached};
 ghost use Rattle.plan_runs.specs.Leaves.{starts_put};
 ghost use Rattle.store_tells.specs.Clocks.{AreClocksOf, IsLastOf, IsInputOf};
 
-/// Of two puts of one key, the first's clock is at most the second's exactly if the second succeeds the first.
+/// A key's put has a clock at most another's exactly if the other succeeds it.
 pub fn clocks_tell_succession()
     ensures { (w : World) (clock : ℕ → List TheEntry) → AreClocksOf w clock
         → (u v : ℕ) → u < length w.puts → v < length w.puts → key_of_put w u ≡ key_of_put w v
         → IsAtMost (clock v) (clock u) ↔ Succeeds w u v }
 {}
 
-/// A put whose clock reaches another's own counter, for the same key, has a clock at least the other's.
+/// A put's clock that reaches another's own counter, for one key, is at least the other's.
 pub fn own_counters_tell()
     ensures { (w : World) (clock : ℕ → List TheEntry) → AreClocksOf w clock
         → (u v : ℕ) → u < length w.puts → v < length w.puts → key_of_put w u ≡ key_of_put w v
@@ -33,7 +33,7 @@ pub fn own_counters_tell()
 
 /// At the start any clocks will do. An event that starts no put keeps all clocks.
 ///
-/// One that starts a put keeps the others, if the put's clock comes from its inputs'.
+/// A started put keeps the others, if its clock comes from its inputs'.
 pub fn clocks_are_kept()
     ensures opening { (ring : RingValue) (clock : ℕ → List TheEntry) → AreClocksOf (opening_world ring) clock }
     ensures stay { (ring : RingValue) (plan : List Planned) (w u : World) (e : TheEvent) (r : TheReply)

@@ -1,4 +1,4 @@
-//! Laws of what gets found, as versions. Each is the contract of an empty function.
+//! Laws of what gets found, as versions: contracts of empty functions.
 
 ghost use Rattle.std.specs.Prelude.{◌≡◌, ℕ, true, false, List, Option, Ok};
 ghost use Rattle.ring_names.specs.Lists.{has};
@@ -22,8 +22,8 @@ ghost use Rattle.store_tells.specs.Clocks.{AreClocksOf, IsInputOf};
 ghost use Rattle.store_tells.specs.GetsFind.{can_find, found_by, is_of_get};
 ghost use Rattle.store_tells.specs.Found.{IsJoinOfFound};
 
-/// A read finds the puts of the slot's versions of the key. Merged with what the get found before, they show what it
-/// found then.
+/// A read finds the puts of the slot's versions of the key. Merged with the get's earlier ones, they show what it found
+/// then.
 pub fn reads_are_merged()
     ensures shows { (ring : RingValue) (plan : List Planned) (w u : World) (clock : ℕ → List TheEntry)
         (value : ℕ → List ℕ) (g : ℕ) (r : TheReply)
@@ -38,7 +38,7 @@ pub fn reads_are_merged()
         → ArePuts at_slot ns → r ≡ Found ns }
 {}
 
-/// A get that ends returns the puts of the versions that it found, and these versions then show its reply.
+/// An ended get returns the puts of its versions, which then show its reply.
 pub fn ended_gets_show_replies()
     ensures shows { (ring : RingValue) (plan : List Planned) (w u : World) (clock : ℕ → List TheEntry)
         (value : ℕ → List ℕ) (g : ℕ) (r : TheReply) (found : List TheVersion)
@@ -52,7 +52,7 @@ pub fn ended_gets_show_replies()
         → (ns : List ℕ) → ArePuts found ns → r ≡ Answer ns }
 {}
 
-/// Every other event keeps what the get found, and its reply.
+/// Other events keep what the get found, and its reply.
 pub fn gets_are_kept()
     ensures { (ring : RingValue) (plan : List Planned) (w u : World) (e : TheEvent) (r : TheReply) (g : ℕ)
         → answer ring plan w e ≡ Ok (u, r) → is_of_get g e ≡ false

@@ -1,5 +1,5 @@
-//! All parts of a running store, what each says of a world, and that it still does after an event changes both. The
-//! laws relate sets of versions and clocks to the world of the definitions, which has no clocks.
+//! A running store's parts, what each says of a world, and that it still does after an event. Laws relate versions and
+//! clocks to the definitions' world, which has no clocks.
 #![tactic(auto)]
 
 mod clocks;

@@ -12,7 +12,7 @@ use ring_store::Stores;
 use std::alloc::Global;
 use store_tables::{Gets, Keys, Lasts, Nodes, Puts, Slots, Steps};
 
-/// The parts of a running store, with the approved plan that it follows.
+/// A running store's parts, with its approved plan.
 #[derive(Drop)]
 pub struct Parts<'a> {
     pub alloc: Global,
@@ -24,16 +24,16 @@ pub struct Parts<'a> {
     pub lasts: Lasts,
     pub puts: Puts,
     pub gets: Gets,
-    /// What the nodes store for slots.
+    /// The nodes' versions for slots.
     pub stores: Stores,
-    /// What stand-ins keep for slots with unreachable nodes.
+    /// The versions that stand-ins keep for slots with unreachable nodes.
     pub hints: Hints,
     /// How many nodes lost their data.
     pub losses: u32,
 }
 
 impl<'a> Parts<'a> {
-    /// The state before the first event: members are up, and there is nothing else.
+    /// Starts before the first event: members are up, and there is nothing else.
     pub fn start(alloc: Global, approved: &'a Approved) -> Result<Parts<'a>, Refusal>
         ensures approved { IfOk result (λ a. a.approved.now ≡ approved.now) }
         ensures opening { IfOk result (λ a. Meets a (opening_world approved.now.ring)) }

@@ -1,4 +1,4 @@
-//! Laws of what sets of versions show. Each is the contract of an empty function.
+//! Laws of what version sets show: contracts of empty functions.
 
 ghost use Rattle.std.specs.Prelude.{◌≡◌, ◌↔◌, ◌⊎◌, ℕ, ◌<◌, Bool, true, false, ◌&&◌, ◌||◌, ◌==◌};
 ghost use Rattle.std.specs.Prelude.{List, [], ◌∷◌, length};
@@ -18,8 +18,8 @@ ghost use Rattle.plan_runs.specs.Reached.{Reached};
 ghost use Rattle.store_tells.specs.Shows.{Shows, OfOneKey, ArePutsOf};
 ghost use Rattle.store_tells.specs.Clocks.{AreClocksOf};
 
-/// No version shows no put, one version its own, and a merge what the merged sets show. A merge with no version
-/// may change nothing.
+/// No version shows no put, one version its own, and a merge what the merged sets show. A merge with no version may
+/// change nothing.
 ///
 /// Only the tested numbers, and the clocks and values of those that pass, matter.
 pub fn shown_sets_merge()
@@ -42,7 +42,7 @@ pub fn shown_sets_merge()
         → ArePutsOf w test → Shows clock value held test → Shows (with_clock clock (length w.puts) c) value held test }
 {}
 
-/// Versions that show a key's puts have the numbers of the latest ones, ascending, and show these alike.
+/// Versions that show a key's puts have the latest ones' numbers, ascending, and show these alike.
 pub fn shown_numbers_are_the_latest()
     ensures numbers { (w : World) (clock : ℕ → List TheEntry) (value : ℕ → List ℕ) (held : List TheVersion)
         (test : ℕ → Bool)
@@ -54,7 +54,8 @@ pub fn shown_numbers_are_the_latest()
         → Shows clock value held (λ v. has v (latest w (passing_below (length w.puts) test))) }
 {}
 
-/// A slot holds a put exactly if its owner's versions of the key, or a keeper's hints for the slot, cover the put's clock.
+/// A slot holds a put exactly if its owner's versions of the key, or a keeper's hints for the slot, cover the put's
+/// clock.
 pub fn slot_is_held_where_covered()
     ensures { (ring : RingValue) (plan : List Planned) (w : World) (clock : ℕ → List TheEntry) (value : ℕ → List ℕ)
         (v : ℕ) (slot : TheSlot)

@@ -1,4 +1,4 @@
-//! Laws of what nodes store, as versions. Each is the contract of an empty function.
+//! Laws of what nodes store, as versions: contracts of empty functions.
 
 ghost use Rattle.std.specs.Prelude.{◌≡◌, ℕ, Bool, ◌||◌, List, length, Option, Ok};
 ghost use Rattle.ring_names.specs.declared.ids.NodeId.{NodeId as TheNode};
@@ -18,7 +18,7 @@ ghost use Rattle.store_tells.specs.Shows.{ArePutsOf};
 ghost use Rattle.store_tells.specs.Stored.{ShowAll, MergeAll, at_node, at_mirror, at_served, written, handed, copied};
 ghost use Rattle.store_tells.specs.Stored.{kept_by};
 
-/// If the versions of each node, slot and key are merged with those that come, they show both.
+/// Each node's versions, by slot and key, merged with new ones, show both.
 pub fn stored_sets_grow()
     ensures { (w : World) (clock : ℕ → List TheEntry) (old more new : ℕ → TheSlot → List ℕ → List TheVersion)
         (test extra : ℕ → TheSlot → ℕ → Bool)
@@ -38,7 +38,7 @@ pub fn stored_sets_last()
         → ShowAll w (with_clock clock (length w.puts) c) held test }
 {}
 
-/// What a write, a handoff, a chunk or a hint brings comes first: at one node, a mirror, or both nodes of a slot.
+/// What a write, a handoff, a chunk or a hint brings comes first: at a node, a mirror, or both.
 pub fn puts_come_in_front()
     ensures node { (test : ℕ → TheSlot → ℕ → Bool) (x : TheNode) (s : TheSlot) (more : ℕ → Bool) (y : ℕ) (t : TheSlot)
         (v : ℕ)
