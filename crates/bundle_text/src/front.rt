@@ -1,4 +1,4 @@
-//! The ring, the plan and the certificate with which a bundle begins.
+//! A bundle's front.
 
 ghost use Rattle.std.specs.Prelude.{◌≡◌, ◌≤◌, IfOk, OnOk};
 ghost use Rattle.texts.specs.Left.{Reads, lines_on};
@@ -20,14 +20,14 @@ pub struct Front {
     pub cert: Cert,
 }
 
-// A plan of a ring, and its certificate.
+// A ring's plan, and its certificate.
 #[derive(Drop)]
 struct Claims {
     plan: Plan,
     cert: Cert,
 }
 
-// Reads the plan and the certificate that follow a ring. A fault of the plan comes first.
+// Reads the plan and the certificate after a ring. A plan's fault comes first.
 #[tactic(auto, unfolding(crate::specs::Front::claims_at))]
 fn read_claims(alloc: Global, ring: &Ring, lines: &mut Lines) -> Result<Claims, Refusal>
     ensures read { Reads result lines.new (claims_at ring.now lines.old) }
@@ -39,16 +39,13 @@ fn read_claims(alloc: Global, ring: &Ring, lines: &mut Lines) -> Result<Claims, 
     Ok(Claims { plan, cert })
 }
 
-/// Reads the lines of a ring, a plan and the plan's certificate, and leaves what follows them. The first line
-/// at fault decides.
+/// Reads a ring, a plan and the plan's certificate, and leaves the rest. The first faulty line decides. `OutOfMemory`
+/// comes only after faultless lines, at least four.
 #[tactic(auto, unfolding(crate::specs::Front::front_at))]
 pub fn read_front_section(alloc: Global, lines: &mut Lines) -> Result<Front, Refusal>
     ensures read { Reads result lines.new (front_at lines.old) }
-    // The plan and the certificate are of the ring.
     ensures parts { IfOk result FrontSuits }
-    // Memory may run out after the ring's first four lines, if these have no fault, and later only after lines that have none.
     ensures late { Late 4 result lines.old lines.new (front_at lines.old) }
-    // It has four lines at least.
     ensures far { OnOk result (lines_on 4 lines.old.line ≤ lines.new.line) }
 {
     let ring = read_ring_section(alloc, lines)?;

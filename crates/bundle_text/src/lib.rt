@@ -1,4 +1,4 @@
-//! The front of a bundle: the texts of a ring, a plan and the plan's certificate.
+//! A bundle's front: a ring, a plan and the plan's certificate.
 #![tactic(auto)]
 
 mod front;

@@ -2,7 +2,7 @@
 
 use ring_names::{Listed, NodeId};
 
-/// A change of a ring's members: the nodes that join and those that leave, in the order written.
+/// The nodes that join a ring, and those that leave, as written.
 #[derive(Debug, Drop)]
 pub struct Change {
     pub joins: Listed<NodeId>,

@@ -10,7 +10,7 @@ use ring_names::{Listed, NodeId, Refusal};
 use std::alloc::Global;
 use std::marker::Model;
 
-/// The joins and leaves so far, and marks of their nodes.
+/// The joins and leaves so far, and their nodes' marks.
 #[derive(Drop)]
 pub struct Draft {
     joins: Vec<NodeId>,
@@ -31,7 +31,7 @@ impl Model for Draft {
 }
 
 impl Draft {
-    /// An empty draft.
+    /// Starts empty.
     pub fn new(alloc: Global) -> Draft
         ensures { result ≡ record { joins = []; leaves = [] } }
     {
@@ -42,7 +42,7 @@ impl Draft {
         }
     }
 
-    /// Whether a join or a leave names the node.
+    /// Whether a join or leave names the node.
     pub fn names(&self, node: NodeId) -> bool
         ensures { result ≡ names self.now node }
     {
@@ -73,7 +73,7 @@ impl Draft {
         Ok(())
     }
 
-    /// Returns the change. Takes no memory.
+    /// Returns the change.
     pub fn into_change(self) -> Change
         ensures { result ≡ self }
     {

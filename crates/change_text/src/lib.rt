@@ -1,4 +1,4 @@
-//! Changes of a ring's members: which nodes join, and which leave.
+//! Changes of a ring's members: joins and leaves.
 #![tactic(auto)]
 
 mod change;

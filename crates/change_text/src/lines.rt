@@ -10,7 +10,7 @@ use ring_names::{NodeId, Refusal};
 use ring_table::{Ring, node_field};
 use texts::{Fields, both, finish};
 
-// A node that is not a member and not named yet, or `Repeated`.
+// A node, not a member and not yet named, or `Repeated`.
 #[tactic(auto, unfolding(crate::specs::Reading::joining_at))]
 fn joining(ring: &Ring, draft: &Draft, fields: &mut Fields) -> Result<NodeId, Refusal>
     requires { draft.now.leaves ≡ [] }
@@ -24,7 +24,7 @@ fn joining(ring: &Ring, draft: &Draft, fields: &mut Fields) -> Result<NodeId, Re
     }
 }
 
-// A member that is not named yet, or `NotMember` or `Repeated`.
+// A member not yet named, or `NotMember` or `Repeated`.
 #[tactic(auto, unfolding(crate::specs::Reading::leaving_at))]
 fn leaving(ring: &Ring, draft: &Draft, fields: &mut Fields) -> Result<NodeId, Refusal>
     ensures { Does (leaving_at ring.now draft.now.joins draft.now.leaves) fields.old result fields.new }
@@ -47,14 +47,14 @@ fn judge_join(ring: &Ring, draft: &Draft, mut fields: Fields) -> Result<NodeId, 
     Ok(node)
 }
 
-/// Judges the line of a join, after the draft. Takes no memory.
+/// Judges a join's line, after the draft.
 pub fn join_line(ring: &Ring, draft: &Draft, fields: Fields) -> Result<NodeId, Refusal>
     requires { draft.now.leaves ≡ [] }
     ensures value { result ≡ join_at ring.now draft.now.joins fields.entry.number fields.entry.fields }
     ensures small { IfOk result (λ x. x.0 < 1024) }
     ensures at { IfErr result (λ e. IsAt fields.entry.number e) }
 {
-    // Shows the prover that the ring is valid.
+    // Proves the ring valid.
     let slots = ring.n();
     prove!(slots <= 7);
     judge_join(ring, draft, fields)
@@ -70,14 +70,14 @@ fn judge_leave(ring: &Ring, draft: &Draft, mut fields: Fields) -> Result<NodeId,
     Ok(node)
 }
 
-/// Judges the line of a leave, after the draft. Takes no memory.
+/// Judges a leave's line, after the draft.
 pub fn leave_line(ring: &Ring, draft: &Draft, fields: Fields) -> Result<NodeId, Refusal>
     ensures value { result
         ≡ leave_at ring.now draft.now.joins draft.now.leaves fields.entry.number fields.entry.fields }
     ensures small { IfOk result (λ x. x.0 < 1024) }
     ensures at { IfErr result (λ e. IsAt fields.entry.number e) }
 {
-    // Shows the prover that the ring is valid.
+    // Proves the ring valid.
     let slots = ring.n();
     prove!(slots <= 7);
     judge_leave(ring, draft, fields)

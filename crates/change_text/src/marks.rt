@@ -5,7 +5,7 @@ ghost use Rattle.change_text.specs.Marks.{is_marked};
 
 use ring_names::NodeId;
 
-/// Which nodes are marked. A ring has at most 1,024 nodes, so the flags need no memory.
+/// Marked nodes. A ring has at most 1,024 nodes: the flags need no memory.
 #[derive(Drop)]
 pub struct Marks {
     // by node
@@ -13,7 +13,7 @@ pub struct Marks {
 }
 
 impl Marks {
-    /// No marks.
+    /// Starts without marks.
     pub fn new() -> Marks
         ensures { (x : ℕ) → is_marked result x ≡ false }
     {

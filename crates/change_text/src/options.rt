@@ -1,21 +1,21 @@
-//! What is known of nodes and partitions.
+//! Facts on nodes and partitions.
 
 use layout_text::Layout;
 use ring_names::Slot;
 use std::alloc::Global;
 
-/// How the racks of nodes are known.
+/// The source of the nodes' racks.
 #[derive(Clone, Copy, Debug, PartialEq, Eq)]
 pub enum RackRule {
-    /// From the layout if it names racks, otherwise from node names if they show racks.
+    /// The layout if it names racks, otherwise node names if they show racks.
     Auto,
-    /// Not at all.
+    /// No source.
     Off,
-    /// From what follows the last such byte in a node's name.
+    /// What follows the last such byte of a node's name.
     Behind(u8),
 }
 
-/// What becomes of partitions with fewer than R live owners.
+/// The fate of partitions with fewer than R live owners.
 #[derive(Clone, Copy, Debug, PartialEq, Eq)]
 pub enum Unreadable {
     /// No plan is made.
@@ -27,7 +27,7 @@ pub enum Unreadable {
 /// What planners and summaries know of nodes and partitions.
 #[derive(Debug, Drop)]
 pub struct Options {
-    /// The names of dead nodes, besides those of the layout.
+    /// The names of dead nodes, besides the layout's.
     pub dead: Vec<Vec<u8>>,
     pub racks: RackRule,
     pub layout: Layout,
@@ -39,7 +39,7 @@ pub struct Options {
 }
 
 impl Options {
-    /// Nothing known.
+    /// Starts without facts.
     pub fn new(alloc: Global) -> Options {
         Options {
             dead: Vec::new(alloc),

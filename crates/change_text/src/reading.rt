@@ -60,15 +60,13 @@ fn read_parts(alloc: Global, ring: &Ring, lines: &mut Lines) -> Result<Change, R
     Ok(draft.into_change())
 }
 
-/// Reads the lines of a change, up to its `end`, and leaves what follows. Fails as `read_change` does.
+/// Reads a change's lines, up to `end`, and leaves the rest. Fails as `read_change`.
 pub fn read_change_section(alloc: Global, ring: &Ring, lines: &mut Lines) -> Result<Change, Refusal>
     ensures read { Reads result lines.new (change_at ring.now lines.old) }
-    // The result is a change of the ring.
     ensures found { IfOk result (IsChange ring.now) }
-    // Memory may run out only after lines without faults, and after at least the first two.
     ensures late { Late 2 result lines.old lines.new (change_at ring.now lines.old) }
 {
-    // Shows the prover that the ring is valid.
+    // Proves the ring valid.
     let slots = ring.n();
     prove!(slots <= 7);
     read_parts(alloc, ring, lines)
@@ -86,21 +84,17 @@ fn read_whole(alloc: Global, ring: &Ring, text: &[u8]) -> Result<Change, Refusal
 
 /// Reads a change of the ring from its whole text.
 ///
-/// The first faulty line decides, and in it the fault of the least number: 1 `BadLine`, 3 `UnknownNode`, 4
-/// `Repeated`, 12 `NotMember`. `OutOfMemory` comes only after lines without faults.
+/// The first faulty line decides, and its least number: 1 `BadLine`, 3 `UnknownNode`, 4 `Repeated`, 12 `NotMember`.
+/// `OutOfMemory` comes only after faultless lines, at least two.
 ///
-/// `Repeated` is a node named twice, or a member that joins. `NotMember` is a node that leaves and is not a
-/// member.
+/// `Repeated`: a node named twice, or a member that joins. `NotMember`: a leaving node that is not a member.
 pub fn read_change(alloc: Global, ring: &Ring, text: &[u8]) -> Result<Change, Refusal>
-    // The result is a change of the ring with this text.
     ensures found { IfOk result (λ v. IsChange ring.now v × (text.now ≡ change_text ring.now v)) }
-    // A change's text is read, unless memory runs out.
     ensures only { (v : Change) → IsChange ring.now v → text.now ≡ change_text ring.now v → Gives result (Ok v) }
-    // Which fault it is.
     ensures exact { Gives result (change_reading ring.now text.now) }
     ensures late { IfErr result (λ e. e ≡ OutOfMemory → NoFaultBefore 3 (change_reading ring.now text.now)) }
 {
-    // Shows the prover that the ring is valid.
+    // Proves the ring valid.
     let slots = ring.n();
     prove!(slots <= 7);
     read_whole(alloc, ring, text)

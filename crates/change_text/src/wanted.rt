@@ -33,10 +33,9 @@ fn read_both(alloc: Global, lines: &mut Lines) -> Result<Wanted, Refusal>
     Ok(Wanted { ring, change })
 }
 
-/// Reads the ring and the change of a bundle, which must end there. The first faulty line decides. `OutOfMemory` comes
-/// only after the ring's first four lines.
+/// Reads a bundle's ring and change, which must end there. The first faulty line decides. `OutOfMemory` comes only
+/// after the ring's first four lines.
 pub fn read_wanted(alloc: Global, bytes: &[u8]) -> Result<Wanted, Refusal>
-    // Which ring and change they are, or which fault.
     ensures read { Gives result (whole_text wanted_at bytes.now) }
     ensures found { IfOk result (λ w. IsChange w.ring w.change) }
     ensures late { IfErr result (λ e. e ≡ OutOfMemory → NoFaultBefore 5 (whole_text wanted_at bytes.now)) }

@@ -35,7 +35,7 @@ impl Model for Draft {
 }
 
 impl Draft {
-    /// An empty draft.
+    /// Starts empty.
     pub fn new(alloc: Global) -> Draft
         ensures { result ≡ [] }
     {
@@ -46,7 +46,7 @@ impl Draft {
         }
     }
 
-    /// Adds the fact of a line. Fails with `TooLarge` if there are too many, and with `Repeated` if its subject has one.
+    /// Adds a line's fact. Fails with `TooLarge` after 8,192 facts, and with `Repeated` if its subject has one.
     pub fn add(&mut self, line: u32, fact: Fact) -> Result<(), Refusal>
         ensures { Gives (map_ok (λ _. self.new) result) (with_fact self.old line fact) }
     {
@@ -63,7 +63,7 @@ impl Draft {
         Ok(())
     }
 
-    /// Returns the layout. Takes no memory.
+    /// Returns the layout.
     pub fn into_layout(self) -> Layout
         ensures { result ≡ record { entries = self } }
     {

@@ -15,7 +15,7 @@ fn about(alloc: Global, word: &[u8], node: &[u8]) -> Result<Vec<u8>, AllocError>
     Ok(subject)
 }
 
-/// Returns the subject of a fact: the first two fields of its line.
+/// Returns a fact's subject: the first two fields of its line.
 pub fn subject_of(alloc: Global, fact: &Fact) -> Result<Vec<u8>, AllocError>
     ensures { IfOk result (λ subject. subject.items ≡ subject_of fact.now) }
 {

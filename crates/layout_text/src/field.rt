@@ -38,7 +38,7 @@ impl<'a> Field<'a> {
     }
 }
 
-/// Takes a name of a node or a rack, or fails with `BadLine`.
+/// Takes a node's or rack's name, or fails with `BadLine`.
 pub fn name<'a>(fields: &mut Fields<'a>) -> Result<Field<'a>, Refusal>
     ensures { Does name_at fields.old result fields.new }
 {
@@ -49,7 +49,7 @@ pub fn name<'a>(fields: &mut Fields<'a>) -> Result<Field<'a>, Refusal>
     }
 }
 
-/// Takes a number from 1 to 1,000, or fails with `BadLine`, or with `TooLarge` for a greater number.
+/// Takes a number from 1 to 1,000, or fails with `BadLine`, or with `TooLarge` if greater.
 pub fn parts(fields: &mut Fields) -> Result<u32, Refusal>
     ensures { Does parts_at fields.old result fields.new }
 {
@@ -78,7 +78,7 @@ fn is_alias(bytes: &[u8]) -> bool
     }
 }
 
-/// Takes an alias: one field, so without spaces. Fails with `BadLine`.
+/// Takes an alias: one field, without spaces. Fails with `BadLine`.
 pub fn alias<'a>(fields: &mut Fields<'a>) -> Result<Field<'a>, Refusal>
     ensures { Does alias_at fields.old result fields.new }
 {
@@ -89,7 +89,7 @@ pub fn alias<'a>(fields: &mut Fields<'a>) -> Result<Field<'a>, Refusal>
     }
 }
 
-/// Takes a number below 2^48, or fails with `BadLine`, or with `TooLarge` for a greater number.
+/// Takes a number below 2^48, or fails with `BadLine`, or with `TooLarge` if greater.
 pub fn size(fields: &mut Fields) -> Result<u64, Refusal>
     ensures { Does (λ k. number_at k 281474976710655) fields.old result fields.new }
 {

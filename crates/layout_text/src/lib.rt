@@ -1,4 +1,4 @@
-//! Layouts, and their text: what is known of a ring's nodes and partitions.
+//! Layouts, and their text: facts on a ring's nodes and partitions.
 #![tactic(auto)]
 
 mod draft;

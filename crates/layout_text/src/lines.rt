@@ -97,7 +97,7 @@ fn fact_line(alloc: Global, kind: &[u8], fields: Fields) -> Result<Fact, Refusal
     }
 }
 
-/// Adds the fact of a line. Blank lines, and comments after `#`, have none.
+/// Adds a line's fact. Blank lines, and comments after `#`, have none.
 pub fn read_line(alloc: Global, draft: &mut Draft, mut fields: Fields) -> Result<(), Refusal>
     ensures { Gives (map_ok (λ _. draft.new) result)
         (with_line draft.old fields.entry.number fields.entry.fields) }

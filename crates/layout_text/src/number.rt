@@ -7,7 +7,7 @@ ghost use Rattle.texts.specs.Number.{value_from, is_number as is_spelled_number,
 
 use ring_names::Refusal;
 
-// Above every number. Greater values are capped here.
+// Above every number. Greater values count as this.
 const CAP: u64 = 281_474_976_710_656;
 
 fn are_digits(field: &[u8]) -> bool
@@ -36,7 +36,7 @@ fn value_of(digits: &[u8]) -> u64
     value
 }
 
-/// Returns the number that a field spells. Fails with `BadLine`, or with `TooLarge` from 2^48 on.
+/// Returns a field's number. Fails with `BadLine`, or with `TooLarge` from 2^48 on.
 pub fn number_of(line: u32, field: &[u8]) -> Result<u64, Refusal>
     ensures { result ≡ limited line 281474976710655 (decimal_value field.now) }
 {

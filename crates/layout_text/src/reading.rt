@@ -34,10 +34,10 @@ fn read_parts(alloc: Global, lines: &mut Lines) -> Result<Layout, Refusal>
     Ok(draft.into_layout())
 }
 
-/// Reads a layout from its whole text: the line `layout 1`, lines in any order, and the last line `end`. No two
-/// lines have the same first two fields.
+/// Reads a layout from its whole text: the line `layout 1`, lines in any order, and the last line `end`. No two lines
+/// have the same first two fields.
 ///
-/// Blank lines and lines that begin with `#` have no meaning.
+/// Blank lines and lines beginning with `#` mean nothing.
 ///
 /// - `rack NODE NAME`: both 1 to 32 bytes of `a-z0-9_.:-`.
 /// - `weight NODE K`: 1 to 1,000.
@@ -45,14 +45,12 @@ fn read_parts(alloc: Global, lines: &mut Lines) -> Result<Layout, Refusal>
 /// - `size P N`: the partition up to 4,095, its size below 2^48.
 /// - `dead NODE`.
 ///
-/// The first faulty line decides, and in it the fault of the least number. `OutOfMemory` comes only if memory
-/// ran out.
+/// The first faulty line decides, and its least number.
 ///
 /// - 1 `BadLine`, also for a last line without newline.
 /// - 2 `TooLarge`: a number above its limit, or a fact after 8,192 others.
 /// - 4 `Repeated`: a second fact on a subject.
 pub fn read_layout(alloc: Global, text: &[u8]) -> Result<Layout, Refusal>
-    // Which layout it is, or which fault.
     ensures read { Gives result (layout_reading text.now) }
 {
     let mut lines = Lines::of(text);

@@ -9,24 +9,23 @@ use crate::chains::Chains;
 use ring_names::{Listed, NodeId, Rows};
 use ring_table::{NodeSide, Ring, Side};
 
-/// Copies in which a node takes part, in order: it has one transfer of a chain open at a time. Contracts see
-/// `Chains` as a list of these.
+/// A node's copies, in order: one transfer of a chain is open at a time. Contracts see `Chains` as a list of these.
 #[derive(Debug, Drop)]
 pub struct Chain {
     pub node: NodeId,
-    /// The transfers of the node that it counts among.
+    /// The node's transfers among which it counts.
     pub side: Side,
     pub steps: Listed<u32>,
 }
 
-/// A certificate: paths of dependencies, and chains of copies, both in the order written.
+/// A certificate: paths of dependencies, and chains of copies, as written.
 #[derive(Debug)]
 pub struct Cert {
     pub facts: Rows,
     pub chains: Chains,
 }
 
-// Dropped by a call, so that no crate above goes through its parts wherever a certificate ends.
+// So crates above need not check the parts.
 impl Drop for Cert {
     fn drop(self) {
         let Cert { facts, chains } = self;
@@ -71,10 +70,9 @@ fn are_chains(ring: &Ring, chains: &Chains) -> bool
 }
 
 impl Cert {
-    /// Whether a text can say the certificate of a plan over the ring. Takes no memory.
+    /// Whether a text can hold the certificate over the ring.
     ///
-    /// It has at most 262,144 facts of 2 to 1,024 steps, and at most 65,536 chains of at least one step, on
-    /// sides that their nodes have.
+    /// It has at most 262,144 facts of 2 to 1,024 steps, and at most 65,536 chains, not empty, on their nodes' sides.
     pub fn suits(&self, ring: &Ring) -> bool
         ensures { IsTrue result ↔ Suits ring.now self.now }
     {

@@ -8,15 +8,15 @@ use ring_table::NodeSide;
 use std::alloc::Global;
 use std::marker::Model;
 
-/// Chains in order, their steps kept in rows, so that a chain needs no memory of its own.
+/// Chains in order. Their steps are in rows: a chain needs no allocation.
 #[derive(Debug)]
 pub struct Chains {
     sides: Vec<NodeSide>,
-    // the steps of each
+    // each chain's steps
     rows: Rows,
 }
 
-// Dropped by a call, as a certificate is.
+// So crates above need not check the parts.
 impl Drop for Chains {
     fn drop(self) {
         let Chains { sides, rows } = self;
@@ -41,7 +41,7 @@ impl Model for Chains {
 impl Chains {
     ghost use Rattle.plan_cert.specs.Chains.{chain_of, side_of};
 
-    /// No chains.
+    /// Starts empty.
     pub fn new(alloc: Global) -> Chains
         ensures { result ≡ [] }
     {
@@ -51,14 +51,14 @@ impl Chains {
         }
     }
 
-    /// How many chains there are.
+    /// Counts the chains.
     pub fn len(&self) -> usize
         ensures { result ≡ length self.now }
     {
         self.sides.len()
     }
 
-    /// The node and the side of the chain of that place.
+    /// The chain's node and side.
     pub fn of(&self, place: usize) -> NodeSide
         requires { place < length self.now }
         ensures { option_map side_of (slice_get self.now place) ≡ Some result }
@@ -66,7 +66,7 @@ impl Chains {
         self.sides[place]
     }
 
-    /// The steps of the chain of that place.
+    /// The chain's steps.
     pub fn steps(&self, place: usize) -> &[u32]
         requires { place < length self.now }
         ensures { option_map (λ c. c.steps) (slice_get self.now place) ≡ Some result.now }
@@ -74,7 +74,7 @@ impl Chains {
         self.rows.row(place)
     }
 
-    /// Adds a chain behind the others. Refused, the chains are as before, and only for want of memory.
+    /// Adds a chain.
     #[inline(always)]
     pub fn push(&mut self, of: NodeSide, steps: &[u32]) -> Result<(), Refusal>
         ensures ok { OnOk result (self.new ≡ self.old ++ chain_of of steps.now ∷ []) }

@@ -1,4 +1,4 @@
-//! Certificates: what an untrusted planner says of a plan, for the checker to verify.
+//! Certificates: an untrusted planner's claims, for the checker to verify.
 #![tactic(auto)]
 
 mod cert;

@@ -12,7 +12,7 @@ use ring_names::{NodeId, Refusal, Rows};
 use ring_table::{NodeSide, Ring, Side, node_field};
 use texts::{CAP, Fields, NumberRow, both, finish_both, need};
 
-// All numbers in front, as the steps of a fact.
+// Takes all numbers in front, a fact's steps.
 #[tactic(auto, unfolding(crate::specs::Reading::path_at))]
 fn path_field<'a>(fields: &mut Fields<'a>) -> Result<NumberRow<'a>, Refusal>
     ensures { Does path_at fields.old result fields.new }
@@ -31,7 +31,7 @@ fn path_field<'a>(fields: &mut Fields<'a>) -> Result<NumberRow<'a>, Refusal>
     Ok(row)
 }
 
-// All numbers in front, as the steps of a chain.
+// Takes all numbers in front, a chain's steps.
 #[tactic(auto, unfolding(crate::specs::Reading::steps_at))]
 fn steps_field<'a>(fields: &mut Fields<'a>) -> Result<NumberRow<'a>, Refusal>
     ensures { Does steps_at fields.old result fields.new }
@@ -47,7 +47,6 @@ fn steps_field<'a>(fields: &mut Fields<'a>) -> Result<NumberRow<'a>, Refusal>
     Ok(row)
 }
 
-// What a fact's line says.
 #[tactic(auto, unfolding(crate::specs::Reading::fact_at))]
 fn judge_fact<'a>(seen: &Rows, mut fields: Fields<'a>) -> Result<NumberRow<'a>, Refusal>
     ensures { result ≡ fact_at seen.now fields.entry.number fields.entry.fields }
@@ -59,7 +58,7 @@ fn judge_fact<'a>(seen: &Rows, mut fields: Fields<'a>) -> Result<NumberRow<'a>, 
     Ok(path)
 }
 
-/// What a fact's line says, behind the facts seen. Takes no memory.
+/// Judges a fact's line, after the facts seen.
 pub fn fact_line<'a>(seen: &Rows, fields: Fields<'a>) -> Result<NumberRow<'a>, Refusal>
     ensures value { result ≡ fact_at seen.now fields.entry.number fields.entry.fields }
     ensures small { IfOk result (λ path. are_small path ≡ true) }
@@ -69,14 +68,14 @@ pub fn fact_line<'a>(seen: &Rows, fields: Fields<'a>) -> Result<NumberRow<'a>, R
     judge_fact(seen, fields)
 }
 
-/// What a chain's line says: whose it is, and its steps, still in the text.
+/// A chain's line: its node and side, and its steps, still text.
 #[derive(Drop)]
 pub struct ChainLine<'a> {
     pub of: NodeSide,
     pub steps: NumberRow<'a>,
 }
 
-// The node of the last chain, if there is one: chains of one node mostly follow one another.
+// The last chain's node, if any: a node's chains mostly follow each other.
 fn last_node(seen: &Chains) -> Option<NodeId>
     ensures { result ≡ option_map (λ c. c.node) (slice_get seen.now (length seen.now - 1)) }
 {
@@ -116,7 +115,6 @@ fn side_node(
     both(side, node)
 }
 
-// A side of a declared node.
 #[tactic(auto, unfolding(crate::specs::Reading::node_side_at))]
 fn node_side(ring: &Ring, likely: Option<NodeId>, fields: &mut Fields) -> Result<NodeSide, Refusal>
     ensures { Does (node_side_at ring.now) fields.old result fields.new }
@@ -135,7 +133,6 @@ fn node_side(ring: &Ring, likely: Option<NodeId>, fields: &mut Fields) -> Result
     }
 }
 
-// What a chain's line says.
 #[tactic(auto, unfolding(crate::specs::Reading::chain_at))]
 fn judge_chain<'a>(
     ring: &Ring,
@@ -151,7 +148,7 @@ fn judge_chain<'a>(
     Ok(ChainLine { of, steps })
 }
 
-/// What a chain's line says, behind the chains seen. Takes no memory.
+/// Judges a chain's line, after the chains seen.
 pub fn chain_line<'a>(
     ring: &Ring,
     seen: &Chains,
@@ -162,7 +159,7 @@ pub fn chain_line<'a>(
     ensures room { OnOk result (length seen.now < 65536) }
     ensures at { IfErr result (λ e. IsAt fields.entry.number e) }
 {
-    // A ring is valid, which the prover knows once a number of it is read.
+    // Proves the ring valid.
     let slots = ring.n();
     prove!(slots <= 7);
     judge_chain(ring, seen, fields)

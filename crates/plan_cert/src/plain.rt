@@ -1,4 +1,4 @@
-//! Taking a fact or a chain from the front of a text, if its line is spelled plainly.
+//! Takes plainly spelled facts and chains.
 
 ghost use Rattle.std.specs.Prelude.{◌≡◌, ◌+◌, ◌≤◌, ◌++◌, ◌∷◌, [], ℕ, List, true, false, length, codes, IfSome, IfNone};
 ghost use Rattle.texts.specs.Parts.{line_text};
@@ -14,7 +14,7 @@ use ring_names::Rows;
 use ring_table::{NodeSide, Ring, Side};
 use texts::{Lines, after_word, plain_numbers, plain_word};
 
-// Adds the fact of the next line, if the line is spelled plainly, and returns the text after the line.
+// Adds the next line's fact, if plainly spelled. Returns the rest.
 #[inline(always)]
 fn add_plain_fact<'a>(facts: &mut Rows, text: &'a [u8], steps: &mut Vec<u32>) -> Option<&'a [u8]>
     ensures taken { IfSome result (λ rest. (x : List ℕ) × IsNextFact facts.old x
@@ -33,7 +33,7 @@ fn add_plain_fact<'a>(facts: &mut Rows, text: &'a [u8], steps: &mut Vec<u32>) ->
     }
 }
 
-/// Takes the next line and adds its fact, if the line is spelled plainly and there is memory.
+/// Adds the next line's fact, if plainly spelled and memory suffices.
 #[inline(always)]
 pub fn take_fact(facts: &mut Rows, lines: &mut Lines, steps: &mut Vec<u32>) -> bool
     ensures read { result ≡ true → many_from (is_word (codes "fact")) fact_at facts.new lines.new.line lines.new.lines
@@ -52,7 +52,7 @@ pub fn take_fact(facts: &mut Rows, lines: &mut Lines, steps: &mut Vec<u32>) -> b
     }
 }
 
-// Adds the chain of the next line, if the line is spelled plainly, and returns the text after the line.
+// Adds the next line's chain, if plainly spelled. Returns the rest.
 #[inline(always)]
 fn add_plain_chain<'a>(
     ring: &Ring,
@@ -83,7 +83,7 @@ fn add_plain_chain<'a>(
     }
 }
 
-/// Takes the next line and adds its chain, if the line is spelled plainly and there is memory.
+/// Adds the next line's chain, if plainly spelled and memory suffices.
 #[inline(always)]
 pub fn take_chain(ring: &Ring, chains: &mut Chains, lines: &mut Lines, steps: &mut Vec<u32>) -> bool
     ensures read { result ≡ true → many_from (begins_chain ring.now) (chain_at ring.now) chains.new lines.new.line lines.new.lines
@@ -93,7 +93,7 @@ pub fn take_chain(ring: &Ring, chains: &mut Chains, lines: &mut Lines, steps: &m
     ensures chains { result ≡ false → chains.new ≡ chains.old }
     ensures lines { result ≡ false → lines.new ≡ lines.old }
 {
-    // A ring is valid, which the prover knows once a number of it is read.
+    // Proves the ring valid.
     let slots = ring.n();
     prove!(slots <= 7);
     match add_plain_chain(ring, chains, lines.bytes(), steps) {

@@ -1,4 +1,4 @@
-//! Reading a certificate.
+//! Reads a certificate.
 
 ghost use Rattle.std.specs.Prelude.{◌≡◌, ◌≤◌, ◌+◌, ◌<◌, ◌++◌, ◌∷◌, [], length, codes, true, Ok, IfOk, IfErr, OnOk};
 ghost use Rattle.ring_names.specs.declared.refusal.Refusal.TheVariants.{OutOfMemory};
@@ -21,7 +21,6 @@ use ring_table::Ring;
 use std::alloc::Global;
 use texts::{Lines, NumberRow, end, header};
 
-// Adds the fact of a line that was judged.
 fn add_fact(alloc: Global, facts: &mut Rows, path: NumberRow) -> Result<(), Refusal>
     requires { are_small path ≡ true }
     ensures ok { OnOk result (facts.new ≡ facts.old ++ path.entry ∷ []) }
@@ -35,7 +34,6 @@ fn add_fact(alloc: Global, facts: &mut Rows, path: NumberRow) -> Result<(), Refu
     facts.push(steps.as_slice())
 }
 
-// Adds the chain of a line that was judged.
 fn add_chain(alloc: Global, chains: &mut Chains, said: ChainLine) -> Result<(), Refusal>
     requires { are_small said.steps ≡ true }
     ensures ok { OnOk result (chains.new ≡ chains.old ++ chain_said said.entry ∷ []) }
@@ -49,7 +47,6 @@ fn add_chain(alloc: Global, chains: &mut Chains, said: ChainLine) -> Result<(), 
     chains.push(said.of, steps.as_slice())
 }
 
-// Reads facts behind those seen, as long as lines begin so.
 fn read_facts(alloc: Global, facts: &mut Rows, lines: &mut Lines) -> Result<(), Refusal>
     requires none { facts.old ≡ [] }
     ensures read { Reads (map_ok (λ _. facts.new) result) lines.new
@@ -57,7 +54,6 @@ fn read_facts(alloc: Global, facts: &mut Rows, lines: &mut Lines) -> Result<(), 
     ensures late { Late 1 result lines.old lines.new
         (many_from (is_word (codes "fact")) fact_at facts.old lines.old.line lines.old.lines) }
 {
-    // the steps of the next fact
     let mut steps = Vec::new(alloc);
     'facts: while lines.begins(b"fact") {
         if take_fact(facts, lines, &mut steps) {
@@ -70,7 +66,6 @@ fn read_facts(alloc: Global, facts: &mut Rows, lines: &mut Lines) -> Result<(), 
     Ok(())
 }
 
-// Whether the next line is one of a chain.
 fn begins_chain(ring: &Ring, lines: &Lines) -> bool
     ensures { result ≡ begins_so (begins_chain ring.now) lines.now.lines }
 {
@@ -78,7 +73,6 @@ fn begins_chain(ring: &Ring, lines: &Lines) -> bool
         || (ring.format() != 1 && (lines.begins(b"take") || lines.begins(b"give")))
 }
 
-// Reads chains behind those seen, as long as lines begin so.
 fn read_chains(
     alloc: Global,
     ring: &Ring,
@@ -91,7 +85,6 @@ fn read_chains(
     ensures late { Late 1 result lines.old lines.new
         (many_from (begins_chain ring.now) (chain_at ring.now) chains.old lines.old.line lines.old.lines) }
 {
-    // the steps of the next chain
     let mut steps = Vec::new(alloc);
     'chains: while begins_chain(ring, lines) {
         if take_chain(ring, chains, lines, &mut steps) {
@@ -104,14 +97,13 @@ fn read_chains(
     Ok(())
 }
 
-// The format of a certificate of plans over the ring.
+// The format of certificates over the ring.
 pub fn format_of(ring: &Ring) -> &'static [u8]
     ensures { result.now ≡ cert_format ring.now }
 {
     if ring.format() == 1 { b"1" } else { b"2" }
 }
 
-// Reads the lines of a certificate.
 #[tactic(auto, unfolding(crate::specs::Reading::cert_at))]
 fn read_parts(alloc: Global, ring: &Ring, lines: &mut Lines) -> Result<Cert, Refusal>
     ensures read { Reads result lines.new (cert_at ring.now lines.old) }
@@ -126,21 +118,18 @@ fn read_parts(alloc: Global, ring: &Ring, lines: &mut Lines) -> Result<Cert, Ref
     Ok(Cert { facts, chains })
 }
 
-/// Reads the lines of a certificate, up to its line `end`, and leaves what follows them. Refused as `read_cert` is.
+/// Reads a certificate's lines, up to `end`, and leaves the rest. Fails as `read_cert`.
 pub fn read_cert_section(alloc: Global, ring: &Ring, lines: &mut Lines) -> Result<Cert, Refusal>
     ensures read { Reads result lines.new (cert_at ring.now lines.old) }
-    // What is read is a certificate that suits the ring.
     ensures found { IfOk result (λ v. IsCert v × Suits ring.now v) }
-    // Memory may run out behind its first two lines, if these have no fault, and later only behind lines that have none.
     ensures late { Late 2 result lines.old lines.new (cert_at ring.now lines.old) }
 {
-    // A ring is valid, which the prover knows once a number of it is read.
+    // Proves the ring valid.
     let slots = ring.n();
     prove!(slots <= 7);
     read_parts(alloc, ring, lines)
 }
 
-// Reads a certificate from its whole text.
 fn read_whole(alloc: Global, ring: &Ring, text: &[u8]) -> Result<Cert, Refusal>
     ensures exact { Gives result (cert_reading ring.now text.now) }
     ensures late { IfErr result (λ e. e ≡ OutOfMemory → NoFaultBefore 3 (cert_reading ring.now text.now)) }
@@ -153,19 +142,15 @@ fn read_whole(alloc: Global, ring: &Ring, text: &[u8]) -> Result<Cert, Refusal>
 
 /// Reads a certificate over the ring from its whole text.
 ///
-/// The first line at fault decides, and in it the least number: 1 `BadLine`, 2 `TooLarge`, 3 `UnknownNode`.
-/// `OutOfMemory` comes only after lines without a fault.
+/// The first faulty line decides, and its least number: 1 `BadLine`, 2 `TooLarge`, 3 `UnknownNode`. `OutOfMemory` comes
+/// only after faultless lines, at least two.
 pub fn read_cert(alloc: Global, ring: &Ring, text: &[u8]) -> Result<Cert, Refusal>
-    // What is read suits the ring, and is spelled so.
     ensures found { IfOk result (λ v. IsCert v × Suits ring.now v × (text.now ≡ cert_text ring.now v)) }
-    // What is spelled so is read, unless memory runs out.
     ensures only { (v : Cert) → IsCert v → Suits ring.now v → text.now ≡ cert_text ring.now v → Gives result (Ok v) }
-    // Which fault it is.
     ensures exact { Gives result (cert_reading ring.now text.now) }
-    // Memory may run out only if the first two lines have no fault.
     ensures late { IfErr result (λ e. e ≡ OutOfMemory → NoFaultBefore 3 (cert_reading ring.now text.now)) }
 {
-    // A ring is valid, which the prover knows once a number of it is read.
+    // Proves the ring valid.
     let slots = ring.n();
     prove!(slots <= 7);
     read_whole(alloc, ring, text)

@@ -1,4 +1,4 @@
-//! Writing a certificate.
+//! Writes a certificate.
 
 ghost use Rattle.std.specs.Prelude.{◌≡◌, ◌++◌, map, IfOk, IfErr, OnOk};
 ghost use Rattle.ring_names.specs.declared.refusal.Refusal.TheVariants.{OutOfMemory};
@@ -16,7 +16,6 @@ use ring_table::{NodeSide, Ring, Side, push_name};
 use std::alloc::{AllocError, Global};
 use texts::push_numbers;
 
-// The line of a fact.
 fn push_fact(out: &mut Vec<u8>, path: &[u32]) -> Result<(), AllocError>
     ensures { OnOk result (out.new.items ≡ out.old.items ++ line_text (fact_fields path.now)) }
 {
@@ -26,7 +25,6 @@ fn push_fact(out: &mut Vec<u8>, path: &[u32]) -> Result<(), AllocError>
     Ok(())
 }
 
-// The word of a chain of that side.
 fn word_of(side: Side) -> &'static [u8]
     ensures { result.now ≡ side_word side }
 {
@@ -37,7 +35,6 @@ fn word_of(side: Side) -> &'static [u8]
     }
 }
 
-// The line of a chain.
 fn push_chain(out: &mut Vec<u8>, ring: &Ring, of: NodeSide, steps: &[u32]) -> Result<(), AllocError>
     ensures { OnOk result
         (out.new.items ≡ out.old.items ++ line_text (chain_fields (names_of ring.now) (chain_of of steps.now))) }
@@ -49,7 +46,6 @@ fn push_chain(out: &mut Vec<u8>, ring: &Ring, of: NodeSide, steps: &[u32]) -> Re
     Ok(())
 }
 
-// The lines of the facts.
 fn push_facts(out: &mut Vec<u8>, facts: &Rows) -> Result<(), AllocError>
     ensures { OnOk result (out.new.items ≡ out.old.items ++ text_of (map fact_fields facts.now)) }
 {
@@ -59,7 +55,6 @@ fn push_facts(out: &mut Vec<u8>, facts: &Rows) -> Result<(), AllocError>
     Ok(())
 }
 
-// The lines of the chains.
 fn push_chains(out: &mut Vec<u8>, ring: &Ring, chains: &Chains) -> Result<(), AllocError>
     ensures { OnOk result
         (out.new.items ≡ out.old.items ++ text_of (map (chain_fields (names_of ring.now)) chains.now)) }
@@ -70,7 +65,7 @@ fn push_chains(out: &mut Vec<u8>, ring: &Ring, chains: &Chains) -> Result<(), Al
     Ok(())
 }
 
-/// The one text of a certificate that suits the ring. Its only refusal is `OutOfMemory`.
+/// Writes the certificate's only text.
 pub fn write_cert(alloc: Global, ring: &Ring, cert: &Cert) -> Result<Vec<u8>, Refusal>
     requires { Suits ring.now cert.now }
     ensures text { IfOk result (λ v. v.items ≡ cert_text ring.now cert.now) }

@@ -7,13 +7,13 @@ use ring_names::Refusal;
 use ring_table::Ring;
 use std::marker::Model;
 
-/// A ring and a plan that the checker accepted. Only the checker makes one.
+/// A ring and a plan that the checker accepted. Only the checker makes it.
 pub struct Approved {
     ring: Ring,
     plan: Plan,
 }
 
-// Dropping is a call, so crates above need not check the parts.
+// So crates above need not check the parts.
 impl Drop for Approved {
     fn drop(self) {
         let Approved { ring, plan } = self;

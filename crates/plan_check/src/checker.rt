@@ -27,7 +27,7 @@ use std::thread::Threads;
 
 /// Checks a plan by a certificate.
 ///
-/// Facts come first, by number, then partitions, then nodes.
+/// Facts come first, then partitions, then nodes, each by number.
 ///
 /// In every run of an accepted plan, at every moment:
 /// - For each acknowledged put, any R slots of its partition include one whose owner or hint keeper holds it or a
@@ -37,8 +37,8 @@ use std::thread::Threads;
 /// - Each slot's owner and mirror are members.
 /// - Gets see what was acknowledged before they started.
 ///
-/// Fails with the first clause that fails, and returns the ring and the plan. Out of memory comes after all facts are
-/// verified. Costs about as much as reading the texts.
+/// Fails with the first failing clause, and returns ring and plan. Out of memory comes after all facts are verified.
+/// Costs about as much as reading the texts.
 pub fn check(alloc: Global, ring: Ring, plan: Plan, cert: &Cert) -> Result<Approved, Turned>
     requires { Suits ring plan }
     ensures same { IfOk result (λ a. (a.ring ≡ ring) × (a.plan ≡ plan)) }
@@ -65,15 +65,15 @@ pub fn check(alloc: Global, ring: Ring, plan: Plan, cert: &Cert) -> Result<Appro
     }
 }
 
-/// Checks as `check` does, in threads.
+/// Checks as `check`, in threads.
 ///
 /// A thread per processor checks the facts, and `workers` the partitions.
 ///
-/// Uses at most one worker per partition; zero count as one. If no thread can be started, the calling thread does the
-/// shares in turn.
+/// Uses at most one worker per partition; zero count as one. If no thread starts, the calling thread does the shares in
+/// turn.
 ///
-/// Of Q partitions and m shares, share s begins with partition s Q / m, rounded down. Its worker first passes the gate
-/// with that number as the mark.
+/// Of Q partitions and m shares, share s begins with partition s Q / m, rounded down. Its worker first passes the gate,
+/// with that number as mark.
 ///
 /// Answers as `check`, but with `TurnsSpent` if the gate stops a worker, whatever else was found. If a fact is not a
 /// path, no share begins. If the gate must stop a worker, the answer may also be `OutOfMemory`.
@@ -148,7 +148,7 @@ fn check_all(alloc: Global, ring: &Ring, plan: &Plan, cert: &Cert) -> Result<(),
     }
 }
 
-// Checks the partitions by workers. None if the gate stopped one.
+// Checks partitions by workers. None if the gate stopped one.
 fn check_all_by_workers<R: Threads + Wait + Sync, G: Gate + Sync>(
     by: &Workers<R, G>,
     ring: &Ring,
@@ -180,7 +180,7 @@ fn check_all_by_workers<R: Threads + Wait + Sync, G: Gate + Sync>(
     }
 }
 
-// Checks the nodes, unless a partition failed.
+// Checks the nodes if no partition failed.
 fn check_rest(
     alloc: Global,
     context: &Context,

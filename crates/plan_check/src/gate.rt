@@ -1,4 +1,4 @@
-//! Gates, which threads pass before each piece of work.
+//! Gates for threads.
 
 ghost use Rattle.std.specs.Prelude.{ℕ, IsTrue, IsFalse};
 
@@ -6,7 +6,7 @@ use std::sync::Wait;
 
 /// Lets workers pass before pieces of work, named by marks.
 ///
-/// May hold a worker until others have come as far, up to its own limit. So tests show that threads overlap.
+/// May hold a worker until others have come as far, up to a limit. So tests show that threads overlap.
 pub trait Gate {
     /// Whether the gate may refuse this worker at this mark.
     ghost may_refuse: { Self → ℕ → ℕ → Type 0 };
@@ -14,13 +14,13 @@ pub trait Gate {
     /// Whether the gate always refuses this worker at this mark.
     ghost must_refuse: { Self → ℕ → ℕ → Type 0 };
 
-    /// Waits until the worker may pass. False if the gate's limit is used up.
+    /// Waits until the worker may pass. False if the limit is used up.
     fn pass<R: Wait>(&self, rt: &R, worker: u32, mark: u64) -> bool
         ensures refused { IsFalse result → may_refuse self.now worker mark }
         ensures passed { IsTrue result → must_refuse self.now worker mark → ⊥ };
 }
 
-/// A gate that lets every worker pass at once.
+/// Lets every worker pass at once.
 #[derive(Clone, Copy, Debug)]
 pub struct OpenGate;
 

@@ -37,7 +37,7 @@ pub struct Kept {
     pub members: bool,
 }
 
-// Notes which clauses may fail. Returns whether each slot's steps act in order.
+// Notes failing clauses. Returns whether each slot's steps act in order.
 fn note_all(alloc: Global, context: &Context, missed: &mut Missed) -> Result<bool, Refusal>
     ensures holds { IfOk result (λ b. b ≡ true → (p : ℕ) → p < context.now.ring.now.q
         → HoldsBut missed.new context.now.ring.now context.now.plan.now (order context.now) p) }
@@ -83,7 +83,6 @@ fn is_covered(alloc: Global, context: &Context, cert: &Cert) -> Result<bool, Ref
     }
 }
 
-// Which promises are kept, if each slot's steps act in order.
 fn kept_by(context: &Context, cert: &Cert, missed: Missed, covered: bool) -> Kept
     requires holds { (p : ℕ) → p < context.now.ring.now.q
         → HoldsBut missed context.now.ring.now context.now.plan.now (order context.now) p }
@@ -106,11 +105,9 @@ fn kept_by(context: &Context, cert: &Cert, missed: Missed, covered: bool) -> Kep
     }
 }
 
-/// Returns the promises that a certificate shows.
+/// Returns the promises that a certificate shows: all if `check` accepts, none if slots may act out of order.
 ///
-/// All if `check` accepts, none if slots may act out of order.
-///
-/// Fails as `check` for a fact that is not a path. Costs as much as an accepting `check`.
+/// Fails as `check` if a fact is not a path. Costs as an accepting `check`.
 pub fn promises_kept(alloc: Global, ring: &Ring, plan: &Plan, cert: &Cert) -> Result<Kept, Refusal>
     requires { Suits ring.now plan.now }
     ensures kept { IfOk result (λ said. KeepsWhatIsSaid ring.now plan.now said) }

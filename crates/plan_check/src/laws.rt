@@ -1,4 +1,4 @@
-//! Laws about the definitions. Each is the contract of an empty function.
+//! Laws about the definitions: contracts of empty functions.
 
 ghost use Rattle.std.specs.Prelude.{◌≡◌, ◌↔◌, ◌<◌, ◌+◌, ℕ, List, true, None, length, nat_lt};
 ghost use Rattle.std.specs.List.{list_all};
@@ -36,22 +36,20 @@ pub fn first_is_none_where_certified(ring: &Ring, plan: &Plan, cert: &Cert)
     let _ = (ring.n(), plan.len(), cert.facts.len());
 }
 
-/// The checker answers the same before and after a ring is migrated.
+/// Migrating a ring does not change the checker's answer.
 pub fn migration_changes_no_refusal()
     ensures { (ring : RingValue) (plan : List Planned) (cert : TheCert)
         → first_refusal (migrated ring) plan cert ≡ first_refusal ring plan cert }
 {}
 
-/// After each step of a slot, its owner has nothing to drop.
-///
-/// Its mirror is a third node.
+/// After a slot's step, its owner has nothing to drop, and its mirror is a third node.
 pub fn stages_are_good()
     ensures { (ring : RingValue) (plan : List Planned) → Sound ring plan → AreGoodStages ring plan }
 {}
 
-/// A node that owns or mirrors a slot began and has not left.
+/// A slot's owner or mirror began and has not left.
 ///
-/// If each step fits its stage, such nodes also own or mirror it.
+/// If each step fits its stage, such nodes also own or mirror the slot.
 pub fn servers_occupy(ring: &Ring, plan: &Plan)
     ensures occupy { ServersOccupy ring.now plan.now }
     ensures serve { AllStaged ring.now plan.now → OccupantsServe ring.now plan.now }
@@ -59,7 +57,7 @@ pub fn servers_occupy(ring: &Ring, plan: &Plan)
     let _ = (ring.n(), plan.len());
 }
 
-/// A slot's finished steps are its first ones in every run.
+/// In every run, a slot's finished steps are its first.
 ///
 /// Needs steps that act in order.
 pub fn finished_steps_come_first(ring: &Ring, plan: &Plan)
@@ -70,8 +68,8 @@ pub fn finished_steps_come_first(ring: &Ring, plan: &Plan)
 
 /// Acknowledged puts are held in every run, and gets see them.
 ///
-/// Needs slots that act in order and copies that read enough. If nodes may lose data, each must leave a slot before it
-/// serves another of the partition.
+/// Needs slots that act in order and copies that read enough. If nodes may lose data, each must leave a slot before
+/// serving another of the partition.
 pub fn puts_stay_held(ring: &Ring, plan: &Plan)
     ensures { AreInTurn ring.now plan.now (Before plan.now) → ReadEnough ring.now plan.now
         → (0 < ring.now.loss → HaveLeft ring.now plan.now (Before plan.now)) → HoldsPuts ring.now plan.now }
@@ -81,7 +79,7 @@ pub fn puts_stay_held(ring: &Ring, plan: &Plan)
 
 /// A partition's slots never share a node, hint keepers included.
 ///
-/// Needs slots that act in order, and nodes that leave a slot before they serve another of the partition.
+/// Needs slots that act in order, and nodes that leave a slot before serving another of the partition.
 pub fn groups_stay_apart(ring: &Ring, plan: &Plan)
     ensures { AreInTurn ring.now plan.now (Before plan.now) → HaveLeft ring.now plan.now (Before plan.now)
         → Always ring.now plan.now (GroupsAreApart ring.now plan.now) }
@@ -110,10 +108,10 @@ pub fn servers_stay_members(ring: &Ring, plan: &Plan)
     let _ = (ring.n(), plan.len());
 }
 
-/// A sound plan always keeps its promises, in every run: the headline.
+/// A sound plan keeps its promises in every run: the headline.
 ///
-/// A run has any puts, gets, outages, hints and handoffs, and as many nodes that lose their data as the ring allows.
-/// `check` lists the promises.
+/// A run has any puts, gets, outages, hints and handoffs, and as many losses as the ring allows. `check` lists the
+/// promises.
 pub fn sound_plans_keep_promises(ring: &Ring, plan: &Plan)
     ensures { Sound ring.now plan.now → KeepsPromises ring.now plan.now }
 {
@@ -130,7 +128,7 @@ pub fn accepted_plans_keep_promises(ring: &Ring, plan: &Plan, cert: &Cert)
     sound_plans_keep_promises(ring, plan);
 }
 
-/// Two lists of distinct numbers below n overlap if longer than n together.
+/// Two lists of distinct numbers below n overlap if together longer than n.
 ///
 /// So every read meets every write.
 pub fn quorums_meet()

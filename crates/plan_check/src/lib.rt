@@ -1,4 +1,4 @@
-//! The checker: a plan that passes may be run on its ring, and keeps its promises.
+//! The checker: an accepted plan may run on its ring, and keeps its promises.
 #![tactic(auto)]
 
 mod approval;

@@ -34,7 +34,7 @@ pub(crate) struct Workers<'r, 'g, R: Wait, G: Gate> {
     pub gate: &'g G,
 }
 
-/// Checks partitions from `from` up to but without `to`. Fails with the first refusal.
+/// Checks partitions from `from` to before `to`. Fails with the first refusal.
 pub(crate) fn check_share(
     alloc: Global,
     context: &Context,
@@ -60,7 +60,6 @@ fn first_partition(q: u32, shares: u32, share: u32) -> u32
     (u64::from(share) * u64::from(q) / u64::from(shares)) as u32
 }
 
-// Checks a share after its worker passed the gate.
 fn work_share<R: Wait, G: Gate>(
     by: &Workers<R, G>,
     context: &Context,
@@ -81,7 +80,6 @@ fn work_share<R: Wait, G: Gate>(
     ShareOutcome::Checked(check_share(by.alloc, context, from, to))
 }
 
-// Returns none if a worker was stopped, otherwise the first refusal.
 fn gather<R: Wait, G: Gate>(
     by: &Workers<R, G>,
     context: &Context,
@@ -108,7 +106,7 @@ fn gather<R: Wait, G: Gate>(
     Some(first)
 }
 
-/// Checks every partition by shares. None if the gate stopped a worker, otherwise the first refusal.
+/// Checks all partitions by shares. None if the gate stopped a worker, otherwise the first refusal.
 pub(crate) fn check_shares<R: Threads + Wait + Sync, G: Gate + Sync>(
     by: &Workers<R, G>,
     context: &Context,

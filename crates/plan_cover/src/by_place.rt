@@ -8,10 +8,10 @@ use ring_names::Refusal;
 use ring_table::Side;
 use std::alloc::Global;
 
-// Room that a list's first value takes.
+// Room of a list's first value.
 const FIRST: usize = 16;
 
-/// Returns the place of a node's or a step's number on a side.
+/// Returns the place of a node's or step's number on a side.
 pub fn place_at(number: u32, side: Side) -> usize
     ensures { result ≡ place_at number side }
 {
@@ -23,7 +23,7 @@ pub fn place_at(number: u32, side: Side) -> usize
     3 * number as usize + of_side
 }
 
-/// A list of values at each place, empty by default. Takes memory up to the last place with values.
+/// A list of values at each place. Takes memory up to the last used place.
 #[derive(Drop)]
 pub struct ByPlace<V> {
     alloc: Global,
@@ -41,7 +41,7 @@ impl<V: Drop> ByPlace<V> {
         }
     }
 
-    /// Returns the values at the place, in the order of their addition.
+    /// Returns the place's values, in order of addition.
     pub fn items(&self, place: usize) -> &[V]
         ensures { result.now ≡ listed_at self.now place }
     {
@@ -51,7 +51,7 @@ impl<V: Drop> ByPlace<V> {
         }
     }
 
-    // Gives the place a list, if it has none.
+    // Gives the place a list.
     fn reach(&mut self, place: usize) -> Result<(), Refusal>
         ensures room { OnOk result (place < length self.new.lists.items) }
         ensures same { (p : ℕ) → listed_at self.new p ≡ listed_at self.old p }
@@ -63,7 +63,7 @@ impl<V: Drop> ByPlace<V> {
         Ok(())
     }
 
-    /// Adds the value to the end of the place's list.
+    /// Adds the value at the end of the place's list.
     pub fn add(&mut self, place: usize, value: V) -> Result<(), Refusal>
         ensures ok { OnOk result ((p : ℕ) → listed_at self.new p
             ≡ (if p == place then listed_at self.old p ++ value ∷ [] else listed_at self.old p)) }

@@ -10,7 +10,7 @@ use plan_cert::Chains;
 use ring_names::Refusal;
 use std::alloc::Global;
 
-/// The places of the chains of each node below the count, in their certificate. Costs one pass over the chains.
+/// Each node's chains, by their places in the certificate, for nodes below the count. Costs a pass over the chains.
 pub fn chains_of(alloc: Global, chains: &Chains, nodes: usize) -> Result<ByPlace<usize>, Refusal>
     ensures ok { IfOk result (λ a. (x : TheNode) → x.0 < nodes → kept_of a x ≡ chain_numbers chains.now x) }
     ensures memory { IfErr result (λ e. e ≡ OutOfMemory) }

@@ -1,4 +1,4 @@
-//! The check of each node.
+//! Checks each node.
 
 ghost use Rattle.std.specs.Prelude.{◌≡◌, ◌<◌, ℕ, length};
 ghost use Rattle.ring_names.specs.Lists.{has};
@@ -26,7 +26,7 @@ use ring_names::{NodeId, Refusal};
 use ring_table::{NodeSide, Ring, Side};
 use std::alloc::Global;
 
-/// Tests the clauses of one node, and answers with the first refusal. Costs one pass over the plan and one over the chains.
+/// Tests one node's clauses. Fails with the first refusal. Costs a pass over plan and chains.
 pub fn check_node(
     alloc: Global,
     ring: &Ring,
@@ -51,9 +51,9 @@ pub fn check_node(
     )
 }
 
-/// Tests the clauses of each node, by number, and answers with the first refusal.
+/// Tests each node's clauses, by number. Fails with the first refusal.
 ///
-/// Costs one pass over the plan and one over the chains, and then looks at what each node has of them.
+/// Costs a pass over plan and chains, then over each node's own.
 pub fn check_nodes(
     alloc: Global,
     ring: &Ring,
@@ -75,7 +75,6 @@ pub fn check_nodes(
     Ok(())
 }
 
-// Tests the clauses of one node.
 fn check_with(
     marks: &mut Marks,
     cover: &Cover,
@@ -97,7 +96,6 @@ fn check_with(
     check_counts(context.ring, &cert.chains, numbers, node)
 }
 
-// Marks the copies of the node, and nothing else.
 fn mark_copies(marks: &mut Marks, copies: &ByPlace<u32>, node: NodeId)
     requires { AreWithin marks.old copies.now node }
     ensures marked { (s : TheSide) (n : ℕ) → is_marked marks.new s n ≡ has n (sides_kept copies.now node s) }
@@ -112,7 +110,6 @@ fn mark_copies(marks: &mut Marks, copies: &ByPlace<u32>, node: NodeId)
     marks.mark_all(side, copies.items(place_at(node.0, side)));
 }
 
-// Tests the copies of the node, side by side.
 fn check_covers(
     marks: &mut Marks,
     copies: &ByPlace<u32>,
@@ -132,7 +129,6 @@ fn check_covers(
     check_copies(marks, copies, chains, numbers, NodeSide { node, side })
 }
 
-// How many of the numbered chains are on the side.
 fn count_of(chains: &Chains, side: Side, numbers: &[usize]) -> usize
     ensures { result ≡ length (chains_at chains.now side numbers.now) }
 {
@@ -142,7 +138,6 @@ fn count_of(chains: &Chains, side: Side, numbers: &[usize]) -> usize
         .count()
 }
 
-// Tests the numbers of chains of the node, side by side.
 fn check_counts(
     ring: &Ring,
     chains: &Chains,
@@ -156,7 +151,6 @@ fn check_counts(
     check_count(ring, chains, numbers, node, Side::Give)
 }
 
-// Tests the step that retires the node.
 fn check_retirement(context: &Context, node: NodeId) -> Result<(), Refusal>
     ensures { Gives result (retirement_guards context.now.ring.now context.now.plan.now (order context.now) node
         (retirement_of context.now.plan.now node.0)) }
@@ -169,7 +163,6 @@ fn check_retirement(context: &Context, node: NodeId) -> Result<(), Refusal>
     Ok(())
 }
 
-// Tests the number of the node's chains of that side.
 fn check_count(
     ring: &Ring,
     chains: &Chains,

@@ -1,4 +1,4 @@
-//! The copies of each side of a node.
+//! The copies of each node's sides.
 
 ghost use Rattle.std.specs.Prelude.{◌≡◌, ◌&&◌, IfErr, OnOk};
 ghost use Rattle.ring_names.specs.declared.refusal.Refusal.TheVariants.{OutOfMemory};
@@ -14,7 +14,7 @@ use crate::by_place::{ByPlace, place_at};
 use ring_names::{NodeId, Refusal};
 use ring_table::{NodeSide, Ring, Side};
 
-/// Adds a copy to those of the side on which the node counts this part, unless it was added last already.
+/// Adds a copy to the side that counts this part, unless just added.
 #[inline(always)]
 pub fn add_copy(
     copies: &mut ByPlace<u32>,
@@ -33,7 +33,7 @@ pub fn add_copy(
     }
 }
 
-// The side by which the node counts the copies that it takes, or gives.
+// The side on which the node counts copies taken, or given.
 fn side_of(ring: &Ring, node: NodeId, part: Side) -> Option<Side>
     ensures { (s : OneSide) → (has_side ring.now node s && counts s part) ≡ is_some_side result s }
 {
@@ -49,7 +49,7 @@ fn side_of(ring: &Ring, node: NodeId, part: Side) -> Option<Side>
     None
 }
 
-// Adds a copy to those of the side of a node, unless it is their last already.
+// Adds a copy to the node's side, unless it is the last already.
 #[tactic(auto, using(crate::proofs::Placed::place_same))]
 fn add_at(copies: &mut ByPlace<u32>, of: NodeSide, number: u32) -> Result<(), Refusal>
     ensures ok { OnOk result ((y : TheSide) → copies_kept copies.new y

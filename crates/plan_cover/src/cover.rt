@@ -1,4 +1,4 @@
-//! The copies and the chains of each node.
+//! Each node's copies and chains.
 
 ghost use Rattle.std.specs.Prelude.{◌≡◌, ◌<◌, ◌&&◌, true, nat_lt, map, IfErr, IfOk, OnOk};
 ghost use Rattle.std.specs.List.{list_all};
@@ -20,7 +20,7 @@ use ring_names::{NodeId, Refusal, Slot};
 use ring_table::{Ring, Side};
 use std::alloc::Global;
 
-/// The copies on each side of a node, by place, and each node's chains, by its number.
+/// Each side's copies, by place, and each node's chains, by its number.
 #[derive(Drop)]
 pub struct Cover {
     pub copies: ByPlace<u32>,
@@ -28,7 +28,7 @@ pub struct Cover {
 }
 
 impl Cover {
-    /// Costs one pass over the plan and one over the chains.
+    /// Costs a pass over plan and chains.
     pub fn of(alloc: Global, ring: &Ring, plan: &Plan, cert: &Cert) -> Result<Cover, Refusal>
         requires { Suits ring.now plan.now }
         ensures ok { IfOk result (λ a. IsCover ring.now plan.now cert.now a) }
@@ -40,14 +40,13 @@ impl Cover {
     }
 }
 
-// A ring, and who serves its slots in front of a step.
+// A ring, and each slot's servers before a step.
 #[derive(Clone, Copy)]
 struct Served<'a> {
     ring: &'a Ring,
     present: &'a Present,
 }
 
-// The copies of each side of a node.
 fn all_copies(alloc: Global, ring: &Ring, plan: &Plan) -> Result<ByPlace<u32>, Refusal>
     requires { Suits ring.now plan.now }
     ensures ok { IfOk result (λ a. (y : TheSide) → copies_kept a y ≡ copies_of ring.now plan.now y) }
@@ -67,7 +66,7 @@ fn all_copies(alloc: Global, ring: &Ring, plan: &Plan) -> Result<ByPlace<u32>, R
     Ok(copies)
 }
 
-// Gives the step to each node that takes part in it.
+// Adds the step to each of its nodes.
 fn add_parties(
     copies: &mut ByPlace<u32>,
     served: &Served,
@@ -107,7 +106,6 @@ fn add_mirror(
     }
 }
 
-// Gives the copy to the owners of the slots from which it reads.
 fn add_sources(
     copies: &mut ByPlace<u32>,
     served: &Served,
@@ -133,7 +131,6 @@ fn add_sources(
     }
 }
 
-// Gives the copy to the owners of the listed slots.
 fn add_owners(
     copies: &mut ByPlace<u32>,
     served: &Served,

@@ -1,4 +1,4 @@
-//! Whether the chains of a node cover its copies.
+//! Whether a node's chains cover its copies.
 
 ghost use Rattle.std.specs.Prelude.{◌≡◌, ◌∷◌, [], ◌&&◌, ◌||◌, ℕ};
 ghost use Rattle.ring_names.specs.Lists.{has};
@@ -16,10 +16,10 @@ use plan_cert::Chains;
 use ring_names::Refusal;
 use ring_table::{NodeSide, Side};
 
-/// Tests a node's copies on a side: each must be a step of one of the numbered chains on that side.
+/// Tests a node's copies on a side: each must be a step of a numbered chain there.
 ///
-/// Costs one pass over the chains' steps and one over the copies. Steps are marked by number and not hashed: the author
-/// of a certificate could choose steps that collide.
+/// Costs a pass over the chains' steps and the copies. Marks steps by number instead of hashing them: a certificate's
+/// author could choose steps that collide.
 pub fn check_copies(
     marks: &mut Marks,
     copies: &ByPlace<u32>,
@@ -47,14 +47,14 @@ pub fn check_copies(
     Ok(())
 }
 
-// Whether the two sides are one.
+// Whether both sides are equal.
 pub fn is_side(first: Side, second: Side) -> bool
     ensures { result ≡ is_side first second }
 {
     first == second
 }
 
-// The steps of that chain if it is on the side, otherwise none.
+// The chain's steps if on the side, otherwise none.
 fn steps_on(chains: &Chains, side: Side, number: usize) -> &[u32]
     ensures { (n : ℕ) → has n result.now ≡ in_some n (chains_at chains.now side (number ∷ [])) }
 {
@@ -65,7 +65,6 @@ fn steps_on(chains: &Chains, side: Side, number: usize) -> &[u32]
     }
 }
 
-// Marks the steps of the numbered chains that are on the side.
 fn mark_chains(marks: &mut Marks, chains: &Chains, side: Side, numbers: &[usize])
     ensures marked { (n : ℕ) → is_marked marks.new side n ≡ ((in_some n (chains_at chains.now side numbers.now)
         && is_within marks.old side n) || is_marked marks.old side n) }

@@ -1,4 +1,4 @@
-//! The clauses of a node: its retirement, its transfers, and the chains of a certificate that cover them.
+//! A node's clauses: its retirement, transfers and covering chains.
 #![tactic(auto)]
 
 mod by_place;

@@ -1,4 +1,4 @@
-//! Whether the chains of a node are in order.
+//! Whether a node's chains are in order.
 
 ghost use Rattle.std.specs.Prelude.{◌≡◌, map, min};
 ghost use Rattle.plan_order.specs.Order.{order};
@@ -13,9 +13,9 @@ use plan_order::Context;
 use ring_names::{NodeId, Refusal};
 use ring_table::{NodeSide, Side};
 
-/// Tests the chains of the node, which have these numbers. Each must be of a side that the node has.
+/// Tests the node's chains, given by number. Each must be on a side of the node.
 ///
-/// Each of its steps must be marked on that side, and come before the next.
+/// Each step must be marked on that side, and come before the next.
 pub fn check_chains(
     context: &Context,
     marks: &Marks,
@@ -36,14 +36,14 @@ pub fn check_chains(
     Ok(())
 }
 
-// The number of a chain, as a refusal names it: those that no `u32` has are all the greatest.
+// A chain's number for a refusal, at most the greatest `u32`.
 fn number_of(place: usize) -> u32
     ensures { result ≡ min place 4294967295 }
 {
     place.min(4294967295) as u32
 }
 
-// The side of the chain of that number.
+// The side of the chain with that number.
 pub fn side_at(chains: &Chains, number: usize) -> Side
     ensures { result ≡ side_at chains.now number }
 {
@@ -82,7 +82,6 @@ fn is_linked(context: &Context, marks: &Marks, side: Side, steps: &[u32]) -> boo
     true
 }
 
-// Whether the step comes before the first of those behind it.
 fn leads_on(context: &Context, step: u32, later: &[u32]) -> bool
     ensures { result ≡ leads_on (order context.now) step later.now }
 {

@@ -7,9 +7,9 @@ use ring_names::Refusal;
 use ring_table::Side;
 use std::alloc::Global;
 
-/// Which of the numbers below a count are marked, on each side.
+/// Marks of the numbers below a count, on each side.
 ///
-/// A mark is the round in which it was set, so that 65,535 rounds cost one pass over the table.
+/// A mark is the round that set it: 65,535 rounds cost one pass over the table.
 #[derive(Drop)]
 pub struct Marks {
     // by place
@@ -27,7 +27,7 @@ impl Marks {
     ghost use Rattle.ring_table.specs.declared.allowance.Side.{Side as TheSide};
     ghost use Rattle.plan_cover.specs.Looking.Places.{is_marked, place_count, is_within, HasPlaces};
 
-    /// Makes room to mark the numbers below the count.
+    /// Makes room for numbers below the count.
     pub fn new(alloc: Global, count: u32) -> Result<Marks, Refusal>
         ensures places { IfOk result (λ a. HasPlaces count a) }
         ensures memory { IfErr result (λ e. e ≡ OutOfMemory) }
@@ -36,7 +36,7 @@ impl Marks {
         Ok(Marks { rounds, round: 1 })
     }
 
-    /// Takes back all marks.
+    /// Removes all marks.
     pub fn begin(&mut self)
         ensures none { (s : TheSide) (n : ℕ) → is_marked self.new s n ≡ false }
         ensures places { place_count self.new ≡ place_count self.old }
@@ -48,7 +48,7 @@ impl Marks {
         self.round += 1;
     }
 
-    // Marks the number on the side. Ignores a number that is not below the count.
+    // Marks the number on the side, if below the count.
     fn mark(&mut self, side: Side, number: u32)
         ensures marked { (s : TheSide) (n : ℕ) → is_marked self.new s n
             ≡ ((is_side s side && n == number && is_within self.old side n) || is_marked self.old s n) }
@@ -60,7 +60,7 @@ impl Marks {
         }
     }
 
-    /// Marks the numbers on the side. Ignores those that are not below the count.
+    /// Marks the numbers on the side that are below the count.
     pub fn mark_all(&mut self, side: Side, numbers: &[u32])
         ensures marked { (s : TheSide) (n : ℕ) → is_marked self.new s n
             ≡ ((is_side s side && has n numbers.now && is_within self.old side n) || is_marked self.old s n) }

@@ -1,4 +1,4 @@
-//! Who serves each slot, on the way through a plan.
+//! Each slot's servers, on the way through a plan.
 
 ghost use Rattle.std.specs.Prelude.{◌≡◌, ◌<◌, Some, None, true, unwrap_or, length, IfErr, IfOk, if◌then◌else◌};
 ghost use Rattle.ring_names.specs.declared.ids.Slot.{Slot as TheSlot};
@@ -13,21 +13,21 @@ use ring_names::{NodeId, Refusal, Slot};
 use ring_table::Ring;
 use std::alloc::Global;
 
-/// The owner of a slot, and its mirror if a step has set one.
+/// A slot's owner, and its mirror.
 #[derive(Clone, Copy, Debug)]
 pub struct Serving {
     pub owner: NodeId,
     pub mirror: Option<NodeId>,
 }
 
-// The place in which a slot is kept: a partition has at most 7 slots.
+// A slot's place: a partition has at most 7.
 fn place_of(slot: Slot) -> usize
     ensures { result ≡ place_of slot }
 {
     7 * slot.partition as usize + slot.index as usize
 }
 
-/// Who serves each slot of a ring after the first steps of a plan. A slot that is not kept has the ring's owner.
+/// The servers of a ring's slots after a plan's first steps. A slot not kept has the ring's owner.
 #[derive(Drop)]
 pub struct Present {
     slots: Vec<Option<Serving>>,
@@ -45,7 +45,6 @@ impl Present {
         Ok(Present { slots })
     }
 
-    // Who serves the slot, where that is kept.
     fn kept(&self, slot: Slot) -> Option<Serving>
         ensures { result ≡ kept_at self.now slot }
     {
@@ -57,7 +56,7 @@ impl Present {
         None
     }
 
-    /// Who serves the slot.
+    /// The slot's servers.
     pub fn at(&self, ring: &Ring, slot: Slot) -> Serving
         requires partition { slot.partition < ring.now.q }
         requires index { slot.index < ring.now.n }
@@ -72,7 +71,6 @@ impl Present {
         }
     }
 
-    // Keeps who serves the slot from now on.
     fn set(&mut self, slot: Slot, serving: Serving)
         requires room { place_of slot < length self.old.slots.items }
         requires index { slot.index < 7 }
@@ -91,7 +89,7 @@ impl Present {
             (serving_at ring.now self.old s) step.now else serving_at ring.now self.old s) }
         ensures room { HasRoom ring.now self.new }
     {
-        // A ring has at most 7 slots in a partition.
+        // A partition has at most 7 slots.
         let slots = ring.n();
         prove!(slots <= 7);
         match step {

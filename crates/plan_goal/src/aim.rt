@@ -28,13 +28,13 @@ pub struct Aim<'a> {
 pub enum Unfit {
     /// The rings differ in partitions, slots, quorums or losses.
     Space,
-    /// The node has another name or allowance, or is in only one of the rings.
+    /// The node has another name or allowance, or is in only one ring.
     Node(u32),
-    /// The node should join, and is dead.
+    /// A dead node should join.
     DeadJoiner(u32),
     /// The slot should go to a dead node.
     DeadOwner(Slot),
-    /// A dead node's slot in the partition should move, and fewer other slots can be read than a read asks.
+    /// A dead node's slot in the partition should move, and fewer than R other slots can be read.
     Unread(u32),
 }
 
@@ -55,7 +55,7 @@ fn other_node(ring: &Ring, wanted: &Ring) -> Option<u32> {
     None
 }
 
-// The owners of a partition's slots now and in the end.
+// A partition's owners now and in the end.
 fn rows<'a>(aim: &Aim<'a>, partition: usize) -> (&'a [NodeId], &'a [NodeId]) {
     let ours = match aim.ring.rows().get(partition) {
         Some(row) => row.as_slice(),
@@ -111,15 +111,14 @@ fn is_left(dead: &Dead, before: &[NodeId], after: &[NodeId]) -> bool
         .any(|node| dead.has(*node) && !is_among(after, *node))
 }
 
-/// Whether a dead node's slot moves, and fewer owners live than a read asks. The rows are a partition's owners before
-/// and after.
+/// Whether a dead node's slot moves and fewer than `reads` owners live.
 pub fn is_unread(reads: u32, dead: &Dead, before: &[NodeId], after: &[NodeId]) -> bool
     ensures { result ≡ is_unread reads dead.now.nodes.now before.now after.now }
 {
     live(dead, before) < reads as usize && is_left(dead, before, after)
 }
 
-/// Returns why no plan can lead there, for a known cause.
+/// Returns a known reason why no plan can lead there.
 pub fn why_unfit(aim: &Aim) -> Option<Unfit> {
     if !has_space(aim.ring, aim.wanted) {
         return Some(Unfit::Space);
@@ -143,7 +142,7 @@ pub fn why_unfit(aim: &Aim) -> Option<Unfit> {
     None
 }
 
-/// Returns the partitions in which a dead node's slot should move, and fewer owners live than a read asks; ascending.
+/// Returns the partitions, ascending, in which a dead node's slot should move and fewer than R owners live.
 pub fn unread_partitions(aim: &Aim) -> Result<Vec<u32>, Refusal> {
     let dead = Dead::of(aim.dead);
     let mut unread = Vec::new(aim.alloc);

@@ -53,7 +53,7 @@ fn are_nodes(ours: &[Node], theirs: &[Node]) -> bool
     }
 }
 
-/// Whether the rings have the same numbers of partitions and slots, quorums and losses.
+/// Whether the rings have equally many partitions and slots, and equal quorums and losses.
 pub(crate) fn has_space(ring: &Ring, other: &Ring) -> bool
     ensures q { IsTrue result → other.now.q ≡ ring.now.q }
     ensures n { IsTrue result → other.now.n ≡ ring.now.n }

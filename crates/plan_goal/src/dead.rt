@@ -1,4 +1,4 @@
-//! Dead nodes, with a flag for each number, for fast look-ups.
+//! Dead nodes, with flags for fast look-ups.
 
 ghost use Rattle.std.specs.Prelude.{◌≡◌, ◌<◌, ℕ, Some, slice_get};
 ghost use Rattle.ring_names.specs.Lists.{has};
@@ -7,10 +7,10 @@ ghost use Rattle.plan_text.specs.Changes.{numbers};
 use crate::sparing::is_among;
 use ring_names::NodeId;
 
-// As many flags as a ring may have nodes, so that they need no memory.
+// As many flags as a ring may have nodes: they need no memory.
 const FLAGS: usize = 1_024;
 
-/// Dead nodes, and a flag for each of the first numbers.
+/// Dead nodes, and a flag for each possible node.
 #[derive(Drop)]
 pub struct Dead<'a> {
     pub nodes: &'a [NodeId],
@@ -19,7 +19,7 @@ pub struct Dead<'a> {
 }
 
 impl<'a> Dead<'a> {
-    /// Makes the flags of these nodes. Costs a look at each node for each flag.
+    /// Makes the flags. Costs a look at each node for each flag.
     pub fn of(nodes: &'a [NodeId]) -> Dead<'a>
         ensures { result.nodes.now ≡ nodes.now }
     {

@@ -1,4 +1,4 @@
-//! Finds the plan. Nothing is proved of it.
+//! Finds the plan, unproved.
 
 use crate::aim::{Aim, joins, retires};
 use find_rounds::{Handover, Turnover};
@@ -17,7 +17,7 @@ fn find_by<'a>(aim: &'a Aim<'a>, turnover: Turnover<'a>) -> Result<(Plan, Cert),
     handover.plan()
 }
 
-/// Finds a plan that leads there, with its certificate.
+/// Finds a plan that leads there, and its certificate.
 pub fn find(aim: &Aim) -> Result<(Plan, Cert), Refusal> {
     let (joins, retires) = (joins(aim)?, retires(aim)?);
     let turnover = Turnover {

@@ -1,4 +1,4 @@
-//! Checks that a plan may be proposed for a change.
+//! Checks that a plan may be proposed.
 
 ghost use Rattle.std.specs.Prelude.{◌≡◌, ◌↔◌, IsTrue, IfOk, IfErr};
 ghost use Rattle.ring_names.specs.declared.refusal.Refusal.TheVariants.{OutOfMemory};
@@ -14,7 +14,7 @@ use ring_names::Refusal;
 use ring_table::Ring;
 use std::alloc::Global;
 
-/// A ring that is returned, and why.
+/// A returned ring, and the reason.
 #[derive(Drop)]
 pub struct Rejected {
     pub ring: Ring,
@@ -29,8 +29,7 @@ fn makes(ring: &Ring, change: &Change, plan: &Plan, cert: &Cert) -> bool
         && plan.fulfils(change.joins.as_slice(), change.leaves.as_slice())
 }
 
-/// Proposes the plan if it makes the change and the checker accepts it with the certificate. Otherwise returns
-/// the ring and the refusal.
+/// Proposes the plan if it makes the change and the checker accepts it. Otherwise returns ring and refusal.
 ///
 /// That is `NoPlan` if plan or certificate do not suit the ring, or the plan does not make the change; then the
 /// checker's.

@@ -44,7 +44,7 @@ fn is_member_after(aim: &Aim, plan: &Plan, node: NodeId) -> bool
     (aim.ring.is_member(node) || plan.is_joined(node)) && !plan.is_retired(node)
 }
 
-// Whether the node should be a member: it is wanted, or is a dead member.
+// Whether the node should be a member: it is wanted, or a dead member.
 fn is_member_wanted(aim: &Aim, node: NodeId) -> bool
     ensures { result ≡ member_wanted aim.now.ring.now aim.now.wanted.now aim.now.dead.now node.0 }
 {
@@ -54,7 +54,6 @@ fn is_member_wanted(aim: &Aim, node: NodeId) -> bool
 fn has_members(aim: &Aim, plan: &Plan) -> bool
     ensures { IsTrue result → HasMembers aim.now.ring.now aim.now.wanted.now aim.now.dead.now plan.now }
 {
-    // A ring has few nodes.
     let count = aim.ring.nodes().len() as u32;
     'nodes: for number in 0..count {
         let node = NodeId(number);
@@ -74,8 +73,8 @@ fn has_owners(aim: &Aim, plan: &Plan) -> Result<bool, Refusal>
     Ok(are_alike(found.as_slice(), aim.wanted.rows()))
 }
 
-/// Whether the plan leads to the second ring and spares dead nodes. The rings may differ only in owners and
-/// members, and plan and certificate must suit the first.
+/// Whether the plan leads to the second ring and spares dead nodes. The rings may differ only in owners and members,
+/// and plan and certificate must suit the first.
 pub fn leads(aim: &Aim, plan: &Plan, cert: &Cert) -> Result<bool, Refusal>
     ensures ok { IfOk result (λ b. IsTrue b → Leads aim.now.ring.now aim.now.wanted.now aim.now.dead.now plan.now cert.now) }
     ensures memory { IfErr result (λ e. e ≡ OutOfMemory) }

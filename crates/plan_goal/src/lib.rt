@@ -1,4 +1,4 @@
-//! Plans that the checker accepts: for a change of members, and from a ring to another with any owners, also around dead nodes.
+//! Accepted plans: for changes of members, and between rings with any owners, also around dead nodes.
 #![tactic(auto)]
 
 mod aim;

@@ -15,7 +15,6 @@ use ring_names::Refusal;
 use ring_table::Ring;
 use std::alloc::Global;
 
-// The planner's plan, if it makes the change and the checker accepts it.
 fn propose_made(alloc: Global, ring: Ring, change: &Change) -> Result<Proposed, Rejected>
     ensures ring { IfOk result (λ p. p.approved.ring ≡ ring) }
     ensures proposed { IfOk result (λ p. IsProposed ring change.now p.approved.plan p.cert) }
@@ -36,16 +35,16 @@ fn propose_made(alloc: Global, ring: Ring, change: &Change) -> Result<Proposed, 
     }
 }
 
-/// Proposes a plan that makes the change, with a certificate that the checker accepts. If the planner has none and no
-/// node leaves, the change's nodes only join.
+/// Proposes a plan that makes the change, with its certificate. If the planner has none and no node leaves, nodes only
+/// join.
 ///
-/// Fails with `NoPlan` if the planner finds no plan, then as the checker does. If no node leaves, only memory can fail.
+/// Fails with `NoPlan` if the planner finds none, then as the checker.
 pub fn propose(alloc: Global, ring: Ring, change: &Change) -> Result<Proposed, Refusal>
     requires { IsChange ring change.now }
     ensures ring { IfOk result (λ p. p.approved.ring ≡ ring) }
     ensures proposed { IfOk result (λ p. IsProposed ring change.now p.approved.plan p.cert) }
     ensures refused { IfErr result (IsTurnedAway ring change.now) }
-    // If no node leaves, there is always a plan.
+    // Without leaves there is always a plan.
     ensures joins { change.now.leaves ≡ [] → IfErr result (λ e. e ≡ OutOfMemory) }
 {
     match propose_made(alloc, ring, change) {

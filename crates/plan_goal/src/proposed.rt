@@ -1,4 +1,4 @@
-//! A plan that the checker accepted, its certificate, and their texts.
+//! An accepted plan, its certificate, and their texts.
 
 ghost use Rattle.std.specs.Prelude.{◌≡◌, ◌++◌, IfOk, IfErr};
 ghost use Rattle.ring_names.specs.declared.refusal.Refusal.TheVariants.{OutOfMemory};
@@ -16,7 +16,7 @@ use ring_names::Refusal;
 use ring_table::{Ring, write_ring};
 use std::alloc::Global;
 
-/// A plan that the checker accepted, with its ring and certificate.
+/// An accepted plan, with its ring and certificate.
 #[derive(Drop)]
 pub struct Proposed {
     pub approved: Approved,
@@ -24,7 +24,7 @@ pub struct Proposed {
     pub ghost suits: { CertSuits approved.ring cert },
 }
 
-/// Writes a ring, a plan and a certificate. Fails only if memory runs out.
+/// Writes a ring, a plan and a certificate.
 pub fn write_front(alloc: Global, ring: &Ring, plan: &Plan, cert: &Cert) -> Result<Vec<u8>, Refusal>
     requires plan_suits { PlanSuits ring.now plan.now }
     requires cert_suits { CertSuits ring.now cert.now }
@@ -38,7 +38,7 @@ pub fn write_front(alloc: Global, ring: &Ring, plan: &Plan, cert: &Cert) -> Resu
 }
 
 impl Proposed {
-    /// Writes the plan and the certificate. Fails only if memory runs out.
+    /// Writes the plan and the certificate.
     pub fn text(&self, alloc: Global) -> Result<Vec<u8>, Refusal>
         ensures text { IfOk result (λ v. v.items
             ≡ plan_text self.now.approved.ring self.now.approved.plan ++ cert_text self.now.approved.ring self.now.cert) }
@@ -48,7 +48,7 @@ impl Proposed {
         write_texts(alloc, ring, plan, &self.cert)
     }
 
-    /// Writes the ring, the plan and the certificate. Fails only if memory runs out.
+    /// Writes the ring, the plan and the certificate.
     pub fn bundle(&self, alloc: Global) -> Result<Vec<u8>, Refusal>
         ensures text { IfOk result (λ v. v.items ≡ front_text self.now.approved.ring self.now.approved.plan self.now.cert) }
         ensures memory { IfErr result (λ e. e ≡ OutOfMemory) }

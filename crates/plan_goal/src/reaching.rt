@@ -1,4 +1,4 @@
-//! Plans from a ring to another one, accepted by the checker.
+//! Accepted plans from a ring to another.
 
 ghost use Rattle.std.specs.Prelude.{◌≡◌, ◌⊎◌, Some, IfOk, IfErr, OnOk};
 ghost use Rattle.ring_names.specs.declared.refusal.Refusal.TheVariants.{NoPlan, OutOfMemory};
@@ -20,7 +20,7 @@ use ring_names::{NodeId, Refusal};
 use ring_table::Ring;
 use std::alloc::Global;
 
-/// Maps the planner's refusal to lack of memory or `NoPlan`.
+/// Maps the planner's refusal to `OutOfMemory` or `NoPlan`.
 pub(crate) fn cause(refusal: Refusal) -> Refusal
     ensures { (result ≡ OutOfMemory) ⊎ (result ≡ NoPlan) }
 {
@@ -69,11 +69,11 @@ fn checked(alloc: Global, ring: Ring, plan: Plan, cert: Cert) -> Result<Proposed
 
 /// Finds a plan from the ring to the wanted one, with a certificate that the checker accepts.
 ///
-/// The slots of a partition are compared as a set, so only slots that must move do.
+/// Compares a partition's slots as a set: only slots that must move do.
 ///
 /// A dead node gives and takes nothing: its slots are read from R others, and it neither drops nor retires.
 ///
-/// Fails with `NoPlan` if no plan can lead there or none is found, then as the checker does, or with `OutOfMemory`.
+/// Fails with `NoPlan` if no plan can lead there or none is found, then as the checker, or with `OutOfMemory`.
 pub fn reach(alloc: Global, ring: Ring, wanted: &Ring, dead: &[NodeId]) -> Result<Proposed, Refusal>
     ensures ring { IfOk result (λ p. p.approved.ring ≡ ring) }
     ensures reached { IfOk result (λ p. IsReached ring wanted.now dead.now p.approved.plan p.cert) }

@@ -31,10 +31,9 @@ fn read_both(alloc: Global, lines: &mut Lines) -> Result<Goal, Refusal>
     Ok(Goal { ring, wanted })
 }
 
-/// Reads the two rings of a bundle, which must end there. The first faulty line decides. `OutOfMemory` comes only after
-/// the first four lines.
+/// Reads a bundle's two rings, which must end there. The first faulty line decides. `OutOfMemory` comes only after the
+/// first four lines.
 pub fn read_goal(alloc: Global, bytes: &[u8]) -> Result<Goal, Refusal>
-    // Which rings they are, or which fault.
     ensures read { Gives result (whole_text goal_at bytes.now) }
     ensures found { IfOk result (λ g. IsRing g.ring × IsRing g.wanted) }
     ensures late { IfErr result (λ e. e ≡ OutOfMemory → NoFaultBefore 5 (whole_text goal_at bytes.now)) }

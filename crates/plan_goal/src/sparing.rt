@@ -1,4 +1,4 @@
-//! Checks that a plan involves no dead node.
+//! Checks that a plan spares dead nodes.
 
 ghost use Rattle.std.specs.Prelude.{◌≡◌, ◌<◌, ◌==◌, true, map, nat_lt, IsTrue, IfOk, IfErr};
 ghost use Rattle.std.specs.List.{list_all, list_any};
@@ -23,7 +23,7 @@ fn is_number_of(nodes: &[NodeId], number: u32) -> bool
     nodes.iter().any(|x| number == x.0)
 }
 
-/// Whether the node is one of these.
+/// Whether the node is among these.
 pub fn is_among(nodes: &[NodeId], node: NodeId) -> bool
     ensures { result ≡ has node.0 (numbers nodes.now) }
 {
@@ -93,7 +93,7 @@ fn is_step_spared(dead: &Dead, ring: &Ring, present: &Present, step: &Step) -> b
     }
 }
 
-/// Whether no step joins, reads, gives a slot to, drops data of or retires one of these nodes. Costs one pass over the plan.
+/// Whether no step joins, reads, gives a slot to, drops data of or retires these nodes. Costs a pass over the plan.
 pub fn spares(alloc: Global, ring: &Ring, plan: &Plan, dead: &[NodeId]) -> Result<bool, Refusal>
     requires { Suits ring.now plan.now }
     ensures ok { IfOk result (λ b. IsTrue b → spares ring.now plan.now dead.now ≡ true) }

@@ -24,7 +24,7 @@ use ring_names::{NodeId, Refusal};
 use ring_table::Ring;
 use std::alloc::Global;
 
-// A move's number, the steps to be done before it, and its own steps.
+// A move's number, the steps before it, and its own.
 #[derive(Clone, Copy)]
 struct Head<'a> {
     ring: &'a Ring,
@@ -33,7 +33,7 @@ struct Head<'a> {
     steps: &'a [u32],
 }
 
-// The members in front of the move's slot.
+// The members before the move's slot.
 fn write_front(line: &mut Writer, head: &Head, from: NodeId) -> Result<(), Refusal>
     ensures ok { OnOk result (GoesOn line.old line.new (begin_object ∷ key (codes "after")
         ∷ (json_tokens (outline (array (items_of (map number_data head.now.after.now))))
@@ -62,19 +62,17 @@ fn write_object(line: &mut Writer, head: &Head, movement: &Move) -> Result<(), R
     Ok(())
 }
 
-/// Writes the plan's moves as lines of JSON, in the order of their mirrors, for executors that do one move
-/// after another.
+/// Writes the plan's moves as lines of JSON, in mirror order, for executors that do one after another.
 ///
-/// Each line has the number, the slot, the owner until the switch, the mirror, the steps, and those to be done
-/// before.
+/// Each line has the number, the slot, the owner until the switch, the mirror, the steps, and those to be done before.
 ///
-/// A move's steps are the slot's, from its mirror up to the next mirror. Once the earlier ones are done, they
-/// can be done in a row.
+/// A move's steps are the slot's, from its mirror up to the next. Once the earlier ones are done, they can be done in a
+/// row.
 ///
 /// Joins, retirements and steps before a slot's first mirror are in no move.
 ///
-/// Fails only if memory runs out. Costs a pass over the plan; and for each move a binary search in the slot's
-/// steps, looks at dependencies, and a sort.
+/// Costs a pass over the plan; and for each move a binary search in the slot's steps, looks at dependencies, and a
+/// sort.
 pub fn write_moves(alloc: Global, ring: &Ring, plan: &Plan) -> Result<Vec<u8>, Refusal>
     requires { Suits ring.now plan.now }
     ensures text { IfOk result (λ v. v.items ≡ moves_text ring.now plan.now) }

@@ -1,4 +1,4 @@
-//! The objects of steps. Members are sorted by name, so a line begins with the steps to be done before.
+//! The objects of steps. Members are sorted by name: `after` begins a line.
 
 ghost use Rattle.std.specs.Prelude.{◌≡◌, ◌<◌, ◌++◌, ◌∷◌, [], true, map, codes, decimal, IfErr, OnOk};
 ghost use Rattle.json.specs.Token.{begin_object, key, number, string};
@@ -25,7 +25,7 @@ use ring_names::{NodeId, Refusal, Slot};
 use ring_table::Ring;
 use std::alloc::AllocError;
 
-/// A step's number, the steps to be done before it, and the ring.
+/// A step's number, the steps before it, and the ring.
 #[derive(Clone, Copy)]
 pub(crate) struct Head<'a> {
     pub ring: &'a Ring,
@@ -33,7 +33,7 @@ pub(crate) struct Head<'a> {
     pub after: &'a [u32],
 }
 
-// The members in front of a kind's own.
+// The members before a kind's own.
 fn write_front(line: &mut Writer, head: &Head, kind: &str) -> Result<(), AllocError>
     ensures { OnOk result (GoesOn line.old line.new (begin_object ∷ key (codes "after")
         ∷ (json_tokens (outline (array (items_of (map number_data head.now.after.now))))
@@ -45,7 +45,7 @@ fn write_front(line: &mut Writer, head: &Head, kind: &str) -> Result<(), AllocEr
     line.string(kind)
 }
 
-// The slot of a step that lists no slots, and the step's number.
+// The slot of a step without listed slots, and its number.
 fn write_place(line: &mut Writer, head: &Head, slot: Slot) -> Result<(), AllocError>
     ensures { OnOk result (GoesOn line.old line.new (key (codes "partition") ∷ number (decimal slot.partition)
         ∷ key (codes "slot") ∷ number (decimal slot.index) ∷ key (codes "step") ∷ number (decimal head.now.step) ∷ [])) }
@@ -55,7 +55,6 @@ fn write_place(line: &mut Writer, head: &Head, slot: Slot) -> Result<(), AllocEr
     Ok(())
 }
 
-// A step of one node: it joins or retires.
 fn write_of_node(line: &mut Writer, head: &Head, kind: &str, node: NodeId) -> Result<(), Refusal>
     ensures ok { OnOk result (GoesOn line.old line.new (json_tokens (outline
         (node_object kind.now head.now.after.now head.now.step (node_data (names_of head.now.ring.now) node))))) }
@@ -102,7 +101,6 @@ fn write_mirror(line: &mut Writer, head: &Head, slot: Slot, node: NodeId) -> Res
     Ok(())
 }
 
-// The owners of the slots that a copy reads.
 fn write_owners(
     line: &mut Writer,
     ring: &Ring,
@@ -137,7 +135,6 @@ fn write_owners(
     Ok(())
 }
 
-// The mirror's name, or null if there is none.
 fn write_to(line: &mut Writer, ring: &Ring, mirror: Option<NodeId>) -> Result<(), Refusal>
     ensures ok { OnOk result (GoesOn line.old line.new
         (key (codes "to") ∷ json_tokens (outline (mirror_data (names_of ring.now) mirror)))) }
@@ -152,7 +149,6 @@ fn write_to(line: &mut Writer, ring: &Ring, mirror: Option<NodeId>) -> Result<()
     }
 }
 
-// The indexes of the listed slots, if a copy reads them.
 fn write_listed(line: &mut Writer, source: &Source) -> Result<(), AllocError>
     ensures { OnOk result (GoesOn line.old line.new (listed_tokens source.now)) }
 {
@@ -162,7 +158,6 @@ fn write_listed(line: &mut Writer, source: &Source) -> Result<(), AllocError>
     }
 }
 
-// A step that copies the slot to its mirror, from its owner or from listed slots.
 fn write_copy(
     line: &mut Writer,
     head: &Head,
@@ -185,7 +180,7 @@ fn write_copy(
     Ok(())
 }
 
-/// Writes the object of a step, given who serves the slots.
+/// Writes a step's object, given the slots' servers.
 pub(crate) fn write_step(
     line: &mut Writer,
     head: &Head,

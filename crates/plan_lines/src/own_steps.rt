@@ -1,4 +1,4 @@
-//! The steps of a move.
+//! A move's steps.
 
 ghost use Rattle.std.specs.Prelude.{◌≡◌, ◌<◌, true, nat_lt, length, IfOk};
 ghost use Rattle.std.specs.List.{filter};
@@ -16,7 +16,6 @@ fn sets_mirror(plan: &Plan, number: u32) -> bool
     matches!(plan.step(number), Step::Mirror(_, _))
 }
 
-// The steps after this one.
 fn later(steps: &[u32], number: u32) -> &[u32]
     requires { ascending steps.now ≡ true }
     ensures { result.now ≡ filter (λ s. nat_lt number s) steps.now }
@@ -27,9 +26,9 @@ fn later(steps: &[u32], number: u32) -> &[u32]
     }
 }
 
-/// Returns the move's steps, ascending: its mirror, and the slot's later steps up to the next mirror.
+/// Returns the move's steps, ascending: its mirror, and the slot's later steps up to the next.
 ///
-/// Costs a binary search in the slot's steps, and a look at each step of the move.
+/// Costs a binary search in the slot's steps, and a look at each own step.
 pub(crate) fn move_steps(
     alloc: Global,
     plan: &Plan,

@@ -1,4 +1,4 @@
-//! Members of a line's object, and the end of a line.
+//! A line's members, and its end.
 
 ghost use Rattle.std.specs.Prelude.{◌≡◌, ◌++◌, ◌∷◌, [], map, codes, decimal, IfOk, IfErr, OnOk};
 ghost use Rattle.json.specs.Print.{print};
@@ -69,7 +69,7 @@ fn name_of(nodes: &[Node], node: NodeId) -> &[u8]
     }
 }
 
-/// Writes the name of a node, which is plain text in every ring.
+/// Writes a node's name, plain text in every ring.
 pub(crate) fn write_name(line: &mut Writer, ring: &Ring, node: NodeId) -> Result<(), Refusal>
     ensures ok { OnOk result (GoesOn line.old line.new (json_tokens (outline (node_data (names_of ring.now) node)))) }
     ensures memory { IfErr result (λ e. e ≡ OutOfMemory) }
@@ -80,7 +80,7 @@ pub(crate) fn write_name(line: &mut Writer, ring: &Ring, node: NodeId) -> Result
     }
 }
 
-/// Writes the name of a node as a member.
+/// Writes a node's name as a member.
 pub(crate) fn write_node(
     line: &mut Writer,
     name: &str,
@@ -95,7 +95,7 @@ pub(crate) fn write_node(
     write_name(line, ring, node)
 }
 
-/// Adds a line, and returns a writer for the next one that uses the line's memory.
+/// Adds a line. Returns a writer for the next, with the same memory.
 pub(crate) fn push_line(out: &mut Vec<u8>, line: Writer) -> Result<Writer, AllocError>
     ensures line { IfOk result (λ w. (w.before ≡ []) × (w.tokens ≡ [])) }
     ensures out { OnOk result (out.new.items ≡ out.old.items ++ ((line.before ++ print line.tokens) ++ 10 ∷ [])) }

@@ -14,13 +14,12 @@ use ring_names::Refusal;
 use ring_table::Ring;
 use std::alloc::Global;
 
-/// Writes the plan's steps as lines of JSON, in order: number, kind, the steps to be done before, slot and
-/// nodes.
+/// Writes the plan's steps as lines of JSON, in order: number, kind, the steps to be done before, slot and nodes.
 ///
-/// Fails only if memory runs out. Costs one pass over the plan.
+/// Costs one pass over the plan.
 ///
-/// A copy's line names the owners, just before it, of the slots read. It also has the slot's mirror, and the
-/// indexes of listed slots in the plan's order.
+/// A copy's line has its mirror, the owners of the slots read, just before it, and listed slots' indexes in the plan's
+/// order.
 pub fn write_steps(alloc: Global, ring: &Ring, plan: &Plan) -> Result<Vec<u8>, Refusal>
     requires { Suits ring.now plan.now }
     ensures text { IfOk result (λ v. v.items ≡ steps_text ring.now plan.now) }

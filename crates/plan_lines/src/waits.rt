@@ -19,7 +19,6 @@ fn is_among(number: u32, steps: &[u32]) -> bool
     steps.binary_search(&number).is_ok()
 }
 
-// Adds the dependencies of a step that are not the move's own steps.
 fn add_waits(found: &mut BTreeSet<u32>, own: &[u32], after: &[u32]) -> Result<(), Refusal>
     requires { ascending own.now ≡ true }
     ensures ok { OnOk result ((n : ℕ)
@@ -41,7 +40,7 @@ fn in_order(alloc: Global, numbers: &BTreeSet<u32>) -> Result<Vec<u32>, AllocErr
     numbers.iter().copied().collect(alloc)
 }
 
-/// Returns the direct dependencies of a move's steps, except these steps, ascending.
+/// Returns the direct dependencies of a move's steps, without these, ascending.
 ///
 /// Costs a look at each dependency with a binary search in the own steps, and an insertion for each found.
 pub(crate) fn move_after(alloc: Global, plan: &Plan, own: &[u32]) -> Result<Vec<u32>, Refusal>

@@ -1,4 +1,4 @@
-//! How many copies run one after the other.
+//! How many copies run one after another.
 
 ghost use Rattle.std.specs.Prelude.{◌≡◌, ◌<◌, ◌≤◌, true, nat_lt, nat_le, length, IfOk, IfErr};
 ghost use Rattle.std.specs.List.{list_all};
@@ -32,10 +32,10 @@ fn copies(step: &Step) -> u32
     }
 }
 
-/// Returns the round of each step: the most copies on a path of dependencies that ends with it, itself
-/// included. Costs a look at each dependency.
+/// Returns each step's round: the most copies on a path of dependencies up to and including it. Costs a look at each
+/// dependency.
 ///
-/// Copies of one round may run side by side, and each waits for one of the round before.
+/// A round's copies may run side by side, and each waits for a copy of the round before.
 pub fn rounds(alloc: Global, plan: &Plan) -> Result<Vec<u32>, Refusal>
     ensures ok { IfOk result (λ found. AreRounds plan.now found.items) }
     ensures memory { IfErr result (λ e. e ≡ OutOfMemory) }

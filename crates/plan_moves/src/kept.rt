@@ -1,14 +1,14 @@
-//! The hints that remain after a history.
+//! The hints left by a history.
 
 use plan_runs::{Entry, Event, Reply};
 use ring_names::{NodeId, Refusal, Slot};
 use std::alloc::Global;
 use std::collections::BTreeSet;
 
-// A stand-in, and the partition and index of a slot for which it keeps hints.
+// A stand-in, and a partition and index for which it keeps hints.
 type Hint = (u32, u32, u32);
 
-/// Which nodes keep hints for which slots.
+/// Stand-ins and the slots of their hints.
 #[derive(Drop)]
 pub struct Kept {
     hints: BTreeSet<Hint>,
@@ -19,7 +19,7 @@ fn hint_of(node: NodeId, slot: Slot) -> Hint {
 }
 
 impl Kept {
-    /// No hints.
+    /// Starts empty.
     pub fn new(alloc: Global) -> Kept {
         Kept {
             hints: BTreeSet::new(alloc),
@@ -38,7 +38,6 @@ impl Kept {
                 self.hints.remove(&hint_of(*node, *slot));
             }
             Event::Lose(node) => self.lose(alloc, *node)?,
-            // Other events do not concern hints.
             _ => {}
         }
         Ok(())

@@ -1,4 +1,4 @@
-//! What a plan does to its ring: which slots move, how many copies run one after the other, and the final owners.
+//! A plan's effects: moves, rounds of copies, and final owners.
 #![tactic(auto)]
 
 mod depth;

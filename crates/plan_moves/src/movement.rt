@@ -12,13 +12,13 @@ use ring_names::{NodeId, Refusal, Slot};
 use ring_table::Ring;
 use std::alloc::Global;
 
-/// A slot that begins to go from one node to another.
+/// A slot's way from one node to another.
 #[derive(Clone, Copy, Debug)]
 pub struct Move {
     pub slot: Slot,
     /// The owner until the switch.
     pub from: NodeId,
-    /// The mirror, which owns the slot after the switch.
+    /// The mirror, and owner after the switch.
     pub to: NodeId,
     /// The step that sets the mirror.
     pub mirror: u32,
@@ -52,7 +52,7 @@ fn push_move(
     }
 }
 
-/// Returns the moves of the plan, one for each mirror, in order. Costs one pass over the plan.
+/// Returns the plan's moves, one for each mirror, in order. Costs a pass over the plan.
 pub fn moves(alloc: Global, ring: &Ring, plan: &Plan) -> Result<Vec<Move>, Refusal>
     requires { Suits ring.now plan.now }
     ensures ok { IfOk result (λ found. found.items ≡ moves ring.now plan.now) }

@@ -1,4 +1,4 @@
-//! The owners of slots after a plan's last step.
+//! Owners after a plan's last step.
 
 ghost use Rattle.std.specs.Prelude.{◌≡◌, ℕ, ◌<◌, ◌==◌, length, slice_get, count_by, IfOk, IfErr, if◌then◌else◌};
 ghost use Rattle.ring_names.specs.declared.refusal.Refusal.TheVariants.{OutOfMemory};
@@ -12,7 +12,7 @@ use ring_names::{Listed, NodeId, Refusal, Slot};
 use ring_table::Ring;
 use std::alloc::Global;
 
-/// Returns who serves each slot after the last step. Costs one pass over the plan.
+/// Returns each slot's servers after the last step. Costs a pass over the plan.
 pub fn present_after(alloc: Global, ring: &Ring, plan: &Plan) -> Result<Present, Refusal>
     requires { Suits ring.now plan.now }
     ensures ok { IfOk result (IsPast ring.now plan.now) }
@@ -43,7 +43,7 @@ fn row_of(
     Ok(Listed::from_vec(row))
 }
 
-/// Returns the owners after the last step, by partition and index. Costs one pass over the plan.
+/// Returns the owners after the last step, by partition and index. Costs a pass over the plan.
 pub fn last_owners(alloc: Global, ring: &Ring, plan: &Plan) -> Result<Vec<Listed<NodeId>>, Refusal>
     requires { Suits ring.now plan.now }
     ensures ok { IfOk result (λ rows. rows.items ≡ last_owners ring.now plan.now) }
@@ -78,7 +78,7 @@ fn count_row(counts: &mut Vec<u32>, row: &[NodeId])
     }
 }
 
-/// Counts the slots of each node, given rows of owners. Counts stop at 4,294,967,295.
+/// Counts each node's slots in rows of owners, at most 4,294,967,295.
 pub fn owned(alloc: Global, nodes: usize, rows: &[Listed<NodeId>]) -> Result<Vec<u32>, Refusal>
     ensures ok { IfOk result (λ counts. AreOwned nodes rows.now counts.items) }
     ensures memory { IfErr result (λ e. e ≡ OutOfMemory) }

@@ -1,4 +1,4 @@
-//! How far a run of a plan has come.
+//! How far a run has come.
 
 use crate::kept::Kept;
 use helpers::{at, is_set, put, raise};
@@ -7,30 +7,30 @@ use plan_text::Plan;
 use ring_names::Refusal;
 use std::alloc::Global;
 
-/// An open copy, and how many of its 16 chunks were copied.
+/// An open copy, and its copied chunks, of 16.
 #[derive(Clone, Copy, Debug)]
 pub struct OpenCopy {
     pub step: u32,
     pub chunks: u32,
 }
 
-/// The done steps, the open copies, and the nodes that are down after a history.
+/// Done steps, open copies and down nodes after a history.
 #[derive(Drop)]
 pub struct Progress {
     // by step
     done: Vec<bool>,
-    // by step, its copied chunks
+    // by step: copied chunks
     chunks: Vec<u32>,
     // by step
     is_open: Vec<bool>,
-    // by node, as far as one was ever down
+    // by node, up to the last ever down
     is_down: Vec<bool>,
     /// The remaining hints.
     pub kept: Kept,
 }
 
 impl Progress {
-    /// Returns the progress after the history, which is a run of the plan.
+    /// Returns the progress after the history, a run of the plan.
     pub fn of(alloc: Global, plan: &Plan, history: &[Entry]) -> Result<Progress, Refusal> {
         let steps = plan.len() as usize;
         let mut progress = Progress {
@@ -59,7 +59,6 @@ impl Progress {
             Event::AbortCopy(step) => put(self.is_open.as_mut_slice(), *step, false),
             Event::Down(node) => self.put_down(node.0)?,
             Event::Up(node) => put(self.is_down.as_mut_slice(), node.0, false),
-            // Other events concern no step and no node.
             _ => {}
         }
         Ok(())
@@ -88,7 +87,7 @@ impl Progress {
         is_set(self.is_down.as_slice(), node)
     }
 
-    /// Returns how many chunks of the copy are copied, of 16.
+    /// Returns the copy's copied chunks, of 16.
     pub fn chunks(&self, step: u32) -> u32 {
         at(self.chunks.as_slice(), step as usize).min(16)
     }
@@ -104,7 +103,7 @@ impl Progress {
         count
     }
 
-    /// Whether the step is neither done nor open, and all its dependencies are done.
+    /// Whether the step is neither done nor open, with its dependencies done.
     pub fn is_ready(&self, plan: &Plan, step: u32) -> bool {
         if step >= plan.len() || self.is_done(step) || self.is_open(step) {
             return false;

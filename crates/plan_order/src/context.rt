@@ -1,4 +1,4 @@
-//! What the tests of a plan have at hand.
+//! What a plan's tests have at hand.
 
 ghost use Rattle.std.specs.Prelude.{◌≡◌};
 ghost use Rattle.plan_text.specs.Valid.{Suits};
@@ -7,7 +7,7 @@ ghost use Rattle.plan_order.specs.Facts.{is_ordered};
 use crate::facts::Facts;
 use plan_text::{Plan, Ring};
 
-/// A ring, a plan that suits it, and facts of order in the plan.
+/// A ring, a plan that suits it, and the plan's facts of order.
 #[derive(Clone, Copy)]
 pub struct Context<'a> {
     pub ring: &'a Ring,
@@ -17,8 +17,7 @@ pub struct Context<'a> {
 }
 
 impl<'a> Context<'a> {
-    /// Whether step `a` is a direct dependency of step `b`, or one of the facts says that `a` comes before `b`. Takes no memory, and
-    /// costs two searches.
+    /// Whether `b` directly depends on `a`, or a fact orders `a` before `b`. Costs two searches.
     pub fn ordered(&self, a: u32, b: u32) -> bool
         ensures { result ≡ is_ordered self.now.plan.now self.now.facts.now a b }
     {

@@ -15,14 +15,14 @@ use std::alloc::Global;
 use std::marker::Model;
 use std::thread::Threads;
 
-/// The first and the last step of a path.
+/// A path's first and last step.
 #[derive(Clone, Copy, Debug, PartialEq, Eq, PartialOrd, Ord)]
 pub struct Ends {
     pub first: u32,
     pub last: u32,
 }
 
-/// What the paths of a certificate say, once each was verified: its first step is before its last.
+/// The ends of verified paths: the first step is before the last.
 #[derive(Drop)]
 pub struct Facts {
     // ascending
@@ -42,7 +42,7 @@ impl Model for Facts {
     ghost invariant = { λ a. AreSorted a.ends.items };
 }
 
-// The number of the first path that is none. The numbers that no `u32` has are all the greatest.
+// The number of the first bad path, at most the greatest `u32`.
 fn first_bad_path(plan: &Plan, paths: &Rows) -> Option<u32>
     ensures { first_bad plan.now 0 paths.now ≡ option_map (λ n. BadPath n) result }
 {
@@ -54,7 +54,6 @@ fn first_bad_path(plan: &Plan, paths: &Rows) -> Option<u32>
     None
 }
 
-// Whether the path of that number is none.
 fn is_bad_path(plan: &Plan, paths: &Rows, number: usize) -> bool
     requires { number < length paths.now }
     ensures { result ≡ is_bad_at plan.now paths.now number }
@@ -62,7 +61,6 @@ fn is_bad_path(plan: &Plan, paths: &Rows, number: usize) -> bool
     !verify_fact(plan, paths.row(number))
 }
 
-// The number of the first path that is none, found by threads.
 fn first_bad_path_by_threads(rt: &(impl Threads + Sync), plan: &Plan, paths: &Rows) -> Option<u32>
     ensures { first_bad plan.now 0 paths.now ≡ option_map (λ n. BadPath n) result }
 {
@@ -79,7 +77,7 @@ fn first_bad_path_by_threads(rt: &(impl Threads + Sync), plan: &Plan, paths: &Ro
     }
 }
 
-// Adds the ends of a path; one without steps has none.
+// Adds a path's ends, if it has steps.
 fn add_ends(ends: &mut Vec<Ends>, path: &[u32]) -> Result<(), Refusal>
     ensures ok { OnOk result
         ((a b : ℕ) → has_ends a b ends.new.items ≡ (leads a b path.now || has_ends a b ends.old.items)) }
@@ -94,7 +92,6 @@ fn add_ends(ends: &mut Vec<Ends>, path: &[u32]) -> Result<(), Refusal>
     Ok(())
 }
 
-// Adds the ends of each path.
 fn add_all_ends(ends: &mut Vec<Ends>, paths: &Rows) -> Result<(), Refusal>
     ensures ok { OnOk result
         ((a b : ℕ) → has_ends a b ends.new.items ≡ (some_leads a b paths.now || has_ends a b ends.old.items)) }
@@ -107,7 +104,8 @@ fn add_all_ends(ends: &mut Vec<Ends>, paths: &Rows) -> Result<(), Refusal>
 }
 
 impl Facts {
-    /// Verifies paths of the plan. The first that is none is `BadPath` with its number, from 0. Costs a binary search for each link, and a sort.
+    /// Verifies paths of the plan. The first bad one is `BadPath`, by number from 0. Costs a binary search for each
+    /// link, and a sort.
     pub fn verify(alloc: Global, plan: &Plan, paths: &Rows) -> Result<Facts, Refusal>
         ensures bad { (e : TheRefusal) → first_bad plan.now 0 paths.now ≡ Some e → result ≡ Err e }
         ensures good { IfErr result (λ e. first_bad plan.now 0 paths.now ≡ None → e ≡ OutOfMemory) }
@@ -121,7 +119,7 @@ impl Facts {
         }
     }
 
-    /// Verifies paths as `verify` does, by as many threads as there are processors, and looks at every path.
+    /// Verifies paths as `verify`, by as many threads as processors. Looks at every path.
     pub fn verify_parallel(
         rt: &(impl Threads + Sync),
         alloc: Global,
@@ -140,7 +138,6 @@ impl Facts {
         }
     }
 
-    // The ends of paths, none of which is bad.
     fn of_paths(alloc: Global, plan: &Plan, paths: &Rows) -> Result<Facts, Refusal>
         requires { first_bad plan.now 0 paths.now ≡ None }
         ensures memory { IfErr result (λ e. e ≡ OutOfMemory) }
@@ -153,8 +150,7 @@ impl Facts {
         Ok(Facts { ends })
     }
 
-    /// Whether step `a` is a direct dependency of step `b`, or some verified path begins with `a` and ends with `b`. Takes no memory,
-    /// and costs two searches.
+    /// Whether `b` directly depends on `a`, or a verified path leads from `a` to `b`. Costs two searches.
     pub fn ordered(&self, plan: &Plan, a: u32, b: u32) -> bool
         requires { AreFactsOf plan.now self.now }
         ensures value { result ≡ is_ordered plan.now self.now a b }
@@ -163,14 +159,13 @@ impl Facts {
         self.tells(plan, a, b)
     }
 
-    // Whether the facts tell that `a` comes before `b`. Nothing is known of the plan that they are of.
+    // Whether the facts tell that `a` comes before `b`. They may be another plan's.
     pub(crate) fn tells(&self, plan: &Plan, a: u32, b: u32) -> bool
         ensures { result ≡ is_ordered plan.now self.now a b }
     {
         is_link(plan, a, b) || self.has(a, b)
     }
 
-    // Whether some path begins with `a` and ends with `b`.
     fn has(&self, a: u32, b: u32) -> bool
         ensures { result ≡ has_ends a b self.now }
     {

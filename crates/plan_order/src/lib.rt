@@ -1,4 +1,4 @@
-//! Which step must be done before which: direct dependencies, and paths of them that a certificate names.
+//! The order of steps: direct dependencies, and a certificate's paths of them.
 #![tactic(auto)]
 
 mod before;

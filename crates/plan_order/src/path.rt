@@ -6,17 +6,16 @@ ghost use Rattle.plan_order.specs.Paths.{is_path};
 
 use plan_text::Plan;
 
-/// Whether step `a` is a direct dependency of step `b`; steps beyond the plan are none. Takes no memory.
+/// Whether step `b` directly depends on step `a`. False beyond the plan.
 pub fn is_link(plan: &Plan, a: u32, b: u32) -> bool
     ensures { result ≡ depends plan.now a b }
 {
     b < plan.len() && plan.depends(a, b)
 }
 
-/// Whether the path has at least two steps, each a direct dependency of the next. A step beyond the plan makes
-/// it false.
+/// Whether the path has at least two steps of the plan, each a direct dependency of the next.
 ///
-/// Takes no memory, and costs a binary search for each link.
+/// Costs a binary search for each link.
 pub fn verify_fact(plan: &Plan, path: &[u32]) -> bool
     ensures { result ≡ is_path plan.now path.now }
 {

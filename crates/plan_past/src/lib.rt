@@ -1,5 +1,5 @@
-//! Checks that a history matches another one by another plan. Steps are renamed, entries of restarted copies and undone
-//! mirrors are left out, and writes replace chunks.
+//! Checks that a history matches another by another plan: steps are renamed, entries of restarted copies and undone
+//! mirrors left out, and chunks replaced by writes.
 #![tactic(auto)]
 
 mod names;

@@ -1,4 +1,4 @@
-//! The numbers of a plan's steps in another one.
+//! The numbers of a plan's steps in another.
 
 ghost use Rattle.std.specs.Prelude.{◌≡◌};
 ghost use Rattle.plan_past.specs.Past.{number_in, allows, mirror_in};

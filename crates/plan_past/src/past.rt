@@ -15,14 +15,14 @@ use plan_text::Plan;
 use ring_names::Refusal;
 use std::alloc::Global;
 
-/// Two plans, and the numbers of their steps in each other.
+/// Two plans, and their steps' numbers in each other.
 #[derive(Clone, Copy)]
 pub struct SamePast<'a> {
     pub old: &'a Plan,
     pub new: &'a Plan,
-    /// By step of the first plan, its number in the second; none if its entries are left out.
+    /// By the first plan's step, its number in the second; none if its entries are left out.
     pub numbers: &'a [Option<u32>],
-    /// By step of the second plan, its number in the first.
+    /// By the second plan's step, its number in the first.
     pub olds: &'a [u32],
     pub back: Back,
 }
@@ -35,7 +35,7 @@ pub struct Told<'a> {
     pub counts: &'a [u32],
 }
 
-// Whether the entries of the event's step may be left out if it has no number.
+// Whether the event's entries may be left out, if its step has no number.
 fn may_go(back: Back, old: &Plan, numbers: &[Option<u32>], event: &Event) -> bool
     ensures { result ≡ may_go back old.now numbers.now event.now }
 {
@@ -57,7 +57,7 @@ fn may_all_go(back: Back, old: &Plan, numbers: &[Option<u32>], history: &[Entry]
         .all(|entry| may_go(back, old, numbers, &entry.event))
 }
 
-// Adds the slot of a mirror that the event sets, if the mirror is undone.
+// Adds the slot of the event's mirror, if undone.
 fn take_back(
     taken: &mut SlotSet,
     old: &Plan,
@@ -87,7 +87,7 @@ fn cut(entries: &[Entry], count: u32) -> Option<(&[Entry], &[Entry])>
     Some(entries.split_at(count as usize))
 }
 
-// Whether the entries match the earlier ones in order, if no mirror was undone before.
+// Whether the entries match the earlier in order, if no mirror was undone before.
 fn are_told(
     taken: &mut SlotSet,
     old: &Plan,
@@ -119,7 +119,7 @@ fn are_told(
     Ok(left.is_empty())
 }
 
-/// Whether the entries match the earlier history, by the second plan. Costs one pass over both histories.
+/// Whether the entries match the earlier history, by the second plan. Costs a pass over both.
 ///
 /// False if a step differs in both plans, or if the counts do not fit.
 ///

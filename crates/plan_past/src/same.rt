@@ -31,7 +31,7 @@ fn is_step(a: &Step, b: &Step) -> bool
     }
 }
 
-/// Whether the two steps are equal: kind, slots, sources and nodes. False if a step does not exist.
+/// Whether both steps exist and are equal: kind, slots, sources and nodes.
 pub fn have_same(old: &Plan, new: &Plan, step: u32, number: u32) -> bool
     ensures { IsTrue result → AreSame old.now new.now step number }
 {
@@ -43,7 +43,7 @@ pub fn have_same(old: &Plan, new: &Plan, step: u32, number: u32) -> bool
     is_step(mine, theirs)
 }
 
-// Whether the step is the same in the other plan, if it has a number there, and no other step has that number.
+// Whether the step, if it has a number, is the same in the other plan, and no other has that number.
 fn keeps(old: &Plan, new: &Plan, numbers: &[Option<u32>], olds: &[u32], step: u32) -> bool
     ensures { IsTrue result → Keeps old.now new.now numbers.now olds.now step }
 {
@@ -53,7 +53,7 @@ fn keeps(old: &Plan, new: &Plan, numbers: &[Option<u32>], olds: &[u32], step: u3
     olds.get(number as usize) == Some(&step) && have_same(old, new, step, number)
 }
 
-/// Whether each step with a number is the same in the other plan, and no two share a number.
+/// Whether each numbered step is the same in the other plan, and no two share a number.
 pub(crate) fn keep_all(old: &Plan, new: &Plan, numbers: &[Option<u32>], olds: &[u32]) -> bool
     ensures { IsTrue result → (k : ℕ) → Keeps old.now new.now numbers.now olds.now k }
 {

@@ -9,7 +9,7 @@ use ring_names::{Refusal, Slot};
 use std::alloc::Global;
 use std::collections::HashSet;
 
-/// Whether the two slots are equal.
+/// Whether the slots are equal.
 pub fn is_slot(a: Slot, b: Slot) -> bool
     ensures value { result ≡ is_slot a b }
     ensures same { IsTrue result → b ≡ a }
@@ -24,7 +24,7 @@ pub struct SlotSet {
 }
 
 impl SlotSet {
-    /// No slots.
+    /// Starts empty.
     pub fn new(alloc: Global) -> SlotSet
         ensures { (s : TheSlot) → is_in result s ≡ false }
     {

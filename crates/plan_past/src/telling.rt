@@ -1,4 +1,4 @@
-//! Checks that entries match an entry.
+//! Checks entries against an entry.
 
 ghost use Rattle.std.specs.Prelude.{◌≡◌, ◌∷◌, [], IsTrue, IfOk};
 ghost use Rattle.std.specs.List.{list_all};
@@ -41,7 +41,7 @@ fn are_writes(told: &[Entry]) -> bool
     told.iter().all(|entry| is_write(entry))
 }
 
-// Whether the entries may replace the event, which is left out.
+// Whether the entries may replace the left-out event.
 fn stand_for(event: &Event, told: &[Entry]) -> bool
     ensures { IsTrue result → StandFor event.now told.now }
 {

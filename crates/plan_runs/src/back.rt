@@ -1,10 +1,10 @@
-//! Whether a change may be undone in part.
+//! Whether a change may be partly undone.
 
-/// Whether a plan around dead nodes may undo mirrors that have begun.
+/// Whether a plan around dead nodes may undo begun mirrors.
 #[derive(Clone, Copy, Debug, PartialEq, Eq)]
 pub enum Back {
-    /// They stay.
+    /// Mirrors stay.
     Never,
-    /// Those that no copy can fill any more are undone.
+    /// Mirrors that no copy can fill any more are undone.
     Allowed,
 }

@@ -11,44 +11,44 @@ use ring_names::{Listed, NodeId, Slot, Value, WriterId};
 use std::alloc::AllocError;
 use texts::push_numbers;
 
-/// One event. Steps, puts and gets are named by number, puts and gets in order of their start.
+/// One event. Numbers name steps, puts and gets, the last two in order of start.
 #[derive(Debug)]
 pub enum Event {
-    /// A step that is not a copy is done.
+    /// A step other than a copy is done.
     Do(u32),
     /// A copy begins, or continues after an abort.
     OpenCopy(u32),
-    /// The mirror gets one chunk of an open copy.
+    /// The mirror gets a chunk of an open copy.
     ChunkCopy(u32, u32),
-    /// An open copy ends, with all its chunks marked.
+    /// An open copy ends, all chunks marked.
     CloseCopy(u32),
     /// An open copy is aborted; its chunks stay marked.
     AbortCopy(u32),
-    /// A writer starts a put, knowing the replies of these gets.
+    /// A writer that knows these gets' replies starts a put.
     StartPut(WriterId, Key, Value, Seen),
-    /// A put is written to the slot of the index.
+    /// A put is written to the indexed slot.
     Write(u32, u32),
-    /// A stand-in keeps a put as a hint for the slot of the index.
+    /// A stand-in keeps a put as a hint for the indexed slot.
     Hint(u32, u32, NodeId),
     /// A put is acknowledged.
     Ack(u32),
     /// A get starts.
     StartGet(Key),
-    /// A get reads the slot of the index.
+    /// A get reads the indexed slot.
     Read(u32, u32),
     /// A get ends with its reply.
     EndGet(u32),
-    /// A node goes down, and keeps its data.
+    /// A node goes down, with its data.
     Down(NodeId),
     /// A node is up again.
     Up(NodeId),
-    /// A stand-in hands its hints for a slot to the slot's owner and mirror.
+    /// A stand-in hands a slot's hints to the owner and mirror.
     Handoff(NodeId, Slot),
     /// A node loses its data and hints, and stays up or down.
     Lose(NodeId),
 }
 
-// Dropping is a call, so crates above need not check all sixteen kinds.
+// So crates above need not check all sixteen kinds.
 impl Drop for Event {
     fn drop(self) {
         match self {
@@ -79,13 +79,13 @@ impl Drop for Event {
 /// The reply to an event.
 #[derive(Debug)]
 pub enum Reply {
-    /// It is done.
+    /// Done.
     Plain,
-    /// The number of the new put.
+    /// The new put's number.
     Put(u32),
-    /// The slot that has the put, and the slot's generation.
+    /// The slot with the put, and the slot's generation.
     Ticket(Slot, u32),
-    /// The number of the new get.
+    /// The new get's number.
     Get(u32),
     /// The puts that a read found, ascending.
     Found(Listed<u32>),
@@ -111,7 +111,7 @@ pub struct Entry {
 }
 
 impl Event {
-    /// Copies the event, which shares key, value and gets. Takes no memory. Fails only if 2^64 events would share them.
+    /// Copies the event, sharing key, value and gets, without memory. Fails only at 2^64 copies.
     pub fn try_copy(&self) -> Result<Event, AllocError>
         ensures { IfOk result (λ event. event ≡ self.now) }
     {

@@ -1,4 +1,4 @@
-//! Laws about the definitions, at no cost: each is the contract of an empty function.
+//! Laws about the definitions: contracts of empty functions.
 
 ghost use Rattle.std.specs.Prelude.{ℕ, List};
 ghost use Rattle.ring_clock.specs.declared.causes.Cause.{Cause};
@@ -12,11 +12,10 @@ ghost use Rattle.plan_runs.specs.Causes.{puts_of, AreCausesOf, AgreeOn};
 ghost use Rattle.plan_runs.specs.Reached.{Reached};
 ghost use Rattle.plan_runs.specs.Runs.{Always, SplitAnywhere};
 
-/// What every run leads to, whether or not its plan is sound. Finished steps have finished dependencies, open
-/// copies are ready and unfinished, and only ready copies have marks.
+/// Tells what every run reaches. Finished steps have finished dependencies, open copies are ready and unfinished, and
+/// only ready copies have marks.
 ///
-/// Nodes have puts of the slot's partition, gets found puts of their key, and no more nodes lost their data
-/// than the ring allows.
+/// Nodes have puts of the slot's partition, gets found puts of their key, and the ring allows the losses.
 pub fn runs_reach()
     ensures { (ring : RingValue) (plan : List Planned) → Always ring plan (Reached ring plan) }
 {}
@@ -36,8 +35,8 @@ pub fn holding_is_tested()
     ensures { (ring : RingValue) (plan : List Planned) (w : World) → IsHoldingTested ring plan w }
 {}
 
-/// A put of a key succeeds another exactly if its cause does, as clocks use causes. Causes see only earlier puts, as
-/// clocks require.
+/// A put succeeds another of its key exactly if its cause does, as in clocks. Causes see only earlier puts, as clocks
+/// require.
 pub fn succession_is_of_causes()
     ensures earlier { (w : World) (key : List ℕ) (causes : List Cause) → AreCausesOf w (puts_of w key) causes
         → IsEarlier causes }

@@ -1,4 +1,4 @@
-//! Events and replies of a run, the world that they change, and what holds of each run, whether or not its plan is sound.
+//! A run's events and replies, the world that they change, and facts of each run, even of an unsound plan.
 #![tactic(auto)]
 
 mod back;

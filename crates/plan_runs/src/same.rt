@@ -11,7 +11,7 @@ fn is_same_slot(a: Slot, b: Slot) -> bool
     a.partition == b.partition && a.index == b.index
 }
 
-/// Whether the two events are equal. Takes no memory.
+/// Whether the events are equal.
 pub fn is_same_event(a: &Event, b: &Event) -> bool
     ensures { IsTrue result ↔ (a.now ≡ b.now) }
 {
@@ -41,7 +41,7 @@ pub fn is_same_event(a: &Event, b: &Event) -> bool
     }
 }
 
-/// Whether the two replies are equal. Takes no memory.
+/// Whether the replies are equal.
 pub fn is_same_reply(a: &Reply, b: &Reply) -> bool
     ensures { IsTrue result ↔ (a.now ≡ b.now) }
 {

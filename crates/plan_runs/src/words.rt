@@ -1,4 +1,4 @@
-//! The words of an event. Their types keep the limits.
+//! The words of an event. Types keep the limits.
 
 ghost use Rattle.std.specs.Prelude.{◌≡◌, IfOk, IfSome, is_some, true};
 ghost use Rattle.std.specs.List.{list_all};
@@ -29,7 +29,7 @@ impl Model for Key {
 }
 
 impl Key {
-    /// Makes a key of the bytes, if valid. Takes memory for one reference count.
+    /// Makes a key, if valid. Takes memory for a reference count.
     pub fn of(alloc: Global, bytes: Vec<u8>) -> Result<Option<Key>, AllocError>
         ensures some { IfOk result (λ key. is_some key ≡ is_key bytes.items) }
         ensures same { IfOk result (λ key. IfSome key (λ k. k ≡ bytes.items)) }
@@ -48,7 +48,7 @@ impl Key {
         self.bytes.as_slice()
     }
 
-    /// Copies the key, which shares the bytes. Takes no memory. Fails only if 2^64 keys would share them.
+    /// Copies the key, sharing the bytes, without memory. Fails only at 2^64 copies.
     pub fn try_copy(&self) -> Result<Key, AllocError>
         ensures { IfOk result (λ key. key ≡ self.now) }
     {
@@ -94,7 +94,7 @@ fn are_ascending(numbers: &[u32]) -> bool
 }
 
 impl Seen {
-    /// Makes a list of gets, if valid. Takes memory for one reference count, unless empty.
+    /// Makes a list of gets, if valid. Takes memory for a reference count, unless empty.
     pub fn of(alloc: Global, gets: Vec<u32>) -> Result<Option<Seen>, AllocError>
         ensures some { IfOk result (λ seen. is_some seen ≡ is_seen gets.items) }
         ensures same { IfOk result (λ seen. IfSome seen (λ s. s ≡ gets.items)) }
@@ -110,7 +110,7 @@ impl Seen {
         Ok(None)
     }
 
-    /// Returns the numbers of the gets, ascending, at most 16.
+    /// Returns the gets' numbers, ascending, at most 16.
     pub fn as_slice(&self) -> &[u32]
         ensures value { result.now ≡ self.now }
         ensures valid { is_seen result.now ≡ true }
@@ -121,7 +121,7 @@ impl Seen {
         }
     }
 
-    /// Copies the list, which shares the numbers. Takes no memory. Fails only if 2^64 copies would share them.
+    /// Copies the list, sharing the numbers, without memory. Fails only at 2^64 copies.
     pub fn try_copy(&self) -> Result<Seen, AllocError>
         ensures { IfOk result (λ seen. seen ≡ self.now) }
     {

@@ -1,4 +1,4 @@
-//! A law about the definitions, which costs nothing: it is the contract of a function that does nothing.
+//! A law about the definitions: the contract of an empty function.
 
 ghost use Rattle.std.specs.Prelude.{◌≡◌, ℕ, List, true};
 ghost use Rattle.ring_table.specs.Value.{RingValue};
@@ -10,26 +10,17 @@ ghost use Rattle.plan_check.specs.Safe.{Safe};
 ghost use Rattle.plan_sequence.specs.Sequence.{GetsSeePuts, HasOwners, InTurn, IsDone, handed_on};
 ghost use Rattle.plan_moves.specs.Owners.{last_owners};
 
-/// A store that goes through sound plans one after the other keeps the promises of one plan.
+/// A store that goes through sound plans one after another keeps one plan's promises.
 ///
-/// It does not matter which plan was under way when a put was acknowledged.
+/// Puts may have been acknowledged, and gets started, under an earlier plan.
 ///
-/// For each acknowledged put, any R slots of its partition include one whose owner or hint keeper holds the put
-/// or a causal successor.
-///
-/// No two slots of a partition share a node. No node has more transfers open than its allowance. What was
-/// acknowledged stays so.
-///
-/// For each put of the key that was acknowledged before a get started, the get's reply has that put or a causal
-/// successor.
-///
-/// A get may have started under an earlier plan.
+/// `plan_check::check` lists the promises. Acknowledged puts stay acknowledged.
 pub fn plans_in_turn_keep_promises()
     ensures safe { (ring : RingValue) (plan : List Planned) (w : World) → InTurn ring plan w → Safe ring plan w }
     ensures fresh { (ring : RingValue) (plan : List Planned) (start : World) → InTurn ring plan start → GetsSeePuts ring plan start }
     ensures acked { (ring : RingValue) (plan : List Planned) (w u : World) (run : List Entry) → Leads ring plan (handed_on w) run u
         → (v : ℕ) → is_acked w v ≡ true → is_acked u v ≡ true }
-    // Once a plan is done, the ring that it leaves has the owners of the moment.
+    // A done plan's next ring has the owners of the moment.
     ensures ends { (ring : RingValue) (plan : List Planned) (w : World) (next : RingValue) → IsDone plan w → next.owners ≡ last_owners ring plan
         → HasOwners ring plan w next }
 {}

@@ -1,4 +1,4 @@
-//! Plans one after the other over one store: what each of them promises is kept across all.
+//! Plans one after another over one store keep each plan's promises.
 #![tactic(auto)]
 
 mod laws;

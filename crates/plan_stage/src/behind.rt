@@ -17,7 +17,7 @@ use std::alloc::Global;
 /// The later steps' first two switches, first drops by node, and holdings.
 #[derive(Drop)]
 pub struct Behind {
-    /// The first later switch, if any.
+    /// The first later switch.
     pub next_switch: Option<u32>,
     second_switch: Option<u32>,
     drops: Drops,

@@ -1,4 +1,4 @@
-//! Checks a partition's clauses, and returns a slot's stage.
+//! Checks a partition's clauses. Returns a slot's stage.
 
 ghost use Rattle.std.specs.Prelude.{◌≡◌, ◌<◌, IfOk, IfErr, true, length, nat_lt, slice_index, EachIndex};
 ghost use Rattle.std.specs.List.{list_all};
@@ -26,9 +26,9 @@ use std::alloc::Global;
 
 /// Checks a partition's clauses.
 ///
-/// Checks slots by index, each slot's steps by number, then the plan's steps by number.
+/// First slots by index, each slot's steps by number, then the plan's steps by number.
 ///
-/// Reads only the partition's steps, and the retirements of nodes that hold its slots.
+/// Reads only the partition's steps, and retirements of nodes that hold its slots.
 pub fn check_partition(
     alloc: Global,
     ring: &Ring,
@@ -123,7 +123,7 @@ fn check_numbers(
     Ok(())
 }
 
-/// Returns a slot's stage after `k` steps, or all if fewer.
+/// Returns a slot's stage after at most `k` steps.
 pub fn stage_at(
     alloc: Global,
     ring: &Ring,

@@ -51,7 +51,7 @@ fn gather(alloc: Global, ring: &Ring, plan: &Plan, partition: u32) -> Result<Vec
     Ok(numbers)
 }
 
-// Adds the slot's mirrors and copies, and retirements of its first owner and mirrored nodes.
+// Adds the slot's mirrors and copies, and retirements of first owner and mirrored nodes.
 fn add_slot(numbers: &mut Vec<u32>, ring: &Ring, plan: &Plan, slot: Slot) -> Result<(), Refusal>
     requires partition { slot.partition < ring.now.q }
     requires index { slot.index < ring.now.n }
@@ -68,7 +68,7 @@ fn add_slot(numbers: &mut Vec<u32>, ring: &Ring, plan: &Plan, slot: Slot) -> Res
     Ok(())
 }
 
-// Adds a mirror or a copy, and for a mirror the node's retirement.
+// Adds a mirror or a copy, and a mirrored node's retirement.
 fn add_step(numbers: &mut Vec<u32>, plan: &Plan, number: u32) -> Result<(), Refusal>
     requires { number < length plan.now }
     ensures grows { OnOk result (Grows plan.now numbers.old.items numbers.new.items) }

@@ -1,4 +1,4 @@
-//! Where nodes drop what they have of a slot.
+//! The drops of a slot's data.
 
 ghost use Rattle.std.specs.Prelude.{◌≡◌, None, Some, IfErr, OnOk, if◌then◌else◌};
 ghost use Rattle.ring_names.specs.declared.ids.NodeId.{NodeId as TheNode};
@@ -18,7 +18,7 @@ pub struct Dropped {
     pub number: u32,
 }
 
-/// The last drop set for each node. The first few take no memory.
+/// Each node's last drop. The first few take no memory.
 #[derive(Drop)]
 pub struct Drops {
     alloc: Global,
@@ -41,7 +41,7 @@ impl Drops {
         }
     }
 
-    /// Returns the node's drop, if any.
+    /// Returns the node's drop.
     pub fn get(&self, node: NodeId) -> Option<u32>
         ensures { result ≡ dropped_in self.now node }
     {

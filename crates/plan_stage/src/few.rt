@@ -32,7 +32,7 @@ impl<T: Copy> Few<T> {
         }
     }
 
-    /// Adds the value if there is room. Returns whether there was.
+    /// Adds the value if there is room, and says whether.
     pub fn try_push(&mut self, value: T) -> bool
         ensures place { result ≡ nat_lt (length self.old) 4 }
         ensures items { self.new ≡ (if result then self.old ++ value ∷ [] else self.old) }

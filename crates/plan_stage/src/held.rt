@@ -18,7 +18,7 @@ pub struct Found {
     pub holding: Holding,
 }
 
-/// What each node holds of a slot. The first few holdings take no memory.
+/// Each node's holdings of a slot. The first few take no memory.
 #[derive(Drop)]
 pub struct Held {
     alloc: Global,

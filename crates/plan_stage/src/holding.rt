@@ -12,16 +12,14 @@ use ring_names::{Refusal, Slot};
 use ring_table::Ring;
 use std::alloc::Global;
 
-/// A period in which a node holds versions of a slot.
-///
-/// Given by step numbers.
+/// A period in which a node holds versions of a slot, by step numbers.
 #[derive(Clone, Copy, Debug)]
 pub struct Holding {
-    /// The step that mirrored the slot to the node. None for the first owner.
+    /// The slot's mirror step. None for the first owner.
     pub begin: Option<u32>,
     /// After this step, if any, the node no longer owns the slot.
     pub end: Option<u32>,
-    /// The node's next drop of the slot's versions, if any.
+    /// The node's next drop of the slot's versions.
     pub drop: Option<u32>,
 }
 
@@ -43,14 +41,14 @@ fn slot_holdings(alloc: Global, ring: &Ring, plan: &Plan, slot: Slot) -> Result<
     Ok(behind.into_held())
 }
 
-/// What each node holds of a partition's slots, by index.
+/// Each node's holdings of a partition's slots, by index.
 #[derive(Drop)]
 pub struct Holdings {
     slots: Vec<Held>,
 }
 
 impl Holdings {
-    /// Returns what nodes hold of a partition. Costs one pass over its steps.
+    /// Returns a partition's holdings. Costs one pass over its steps.
     pub fn of(alloc: Global, ring: &Ring, plan: &Plan, partition: u32) -> Result<Holdings, Refusal>
         requires partition { partition < ring.now.q }
         requires staged { IsStagedIn ring.now plan.now partition }
@@ -64,7 +62,7 @@ impl Holdings {
         Ok(Holdings { slots })
     }
 
-    /// Returns what nodes hold of a slot, the last holding first.
+    /// Returns a slot's holdings, the last first.
     pub fn slot(&self, index: u32) -> Option<&Held>
         ensures { option_copied result ≡ slice_get self.now.slots.items index }
     {

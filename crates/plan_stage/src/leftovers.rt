@@ -9,10 +9,10 @@ use std::alloc::{AllocError, Global};
 use std::collections::BTreeSet;
 use std::marker::Model;
 
-/// The nodes that owned a slot and have not dropped it. A single one takes no memory.
+/// Nodes that owned a slot and have not dropped it. A single node takes no memory.
 #[derive(Drop)]
 pub struct Leftovers {
-    // The node, if it is the only one.
+    // A single node.
     one: Option<NodeId>,
     // Otherwise all.
     more: BTreeSet<NodeId>,
@@ -51,7 +51,7 @@ impl Leftovers {
         }
     }
 
-    /// Adds the node, unless present.
+    /// Adds the node.
     pub fn add(&mut self, node: NodeId) -> Result<(), Refusal>
         ensures ok { OnOk result (self.new ≡ with_node node self.old) }
         ensures memory { IfErr result (λ e. e ≡ OutOfMemory) }
@@ -70,7 +70,7 @@ impl Leftovers {
         Ok(())
     }
 
-    /// Removes the node, if present.
+    /// Removes the node.
     pub fn remove(&mut self, node: NodeId)
         ensures { self.new ≡ without_node node self.old }
     {

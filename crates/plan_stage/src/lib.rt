@@ -1,4 +1,4 @@
-//! The stages of a slot, the clauses of its steps, and the nodes in a copy.
+//! A slot's stages, its steps' clauses, and a copy's nodes.
 //!
 //! Clauses say that steps act in order, and what mirrors, copies and retirements must meet.
 #![tactic(auto)]

@@ -1,4 +1,4 @@
-//! Finds which clauses may fail: a walk that continues after a failure.
+//! Finds clauses that may fail: a walk that continues after failures.
 
 ghost use Rattle.std.specs.Prelude.{◌≡◌, ℕ, ◌<◌, IfOk, IfErr, OnOk, Some, None, true, false, length, nat_lt};
 ghost use Rattle.std.specs.List.{list_all};
@@ -22,7 +22,7 @@ use plan_order::Context;
 use ring_names::Refusal;
 use std::alloc::Global;
 
-/// The kinds of clauses that may fail at some step.
+/// The kinds of clauses that may fail.
 #[derive(Clone, Copy, Debug)]
 pub struct Missed {
     /// A copy reads too few slots, or one twice.
@@ -145,9 +145,9 @@ fn note_steps(
     note_numbers(context, &holdings, partition, numbers.as_slice(), missed)
 }
 
-/// Notes which clauses may fail at the partition's steps. Costs as much as a `check_partition` that accepts.
+/// Notes the partition's clauses that may fail. Costs as an accepting `check_partition`.
 ///
-/// Returns whether each slot's steps act in order: if not, nothing is noted.
+/// Returns whether each slot's steps act in order: if not, notes nothing.
 pub fn note_partition(
     alloc: Global,
     context: &Context,

@@ -1,4 +1,4 @@
-//! The nodes in a copy.
+//! A copy's nodes.
 
 ghost use Rattle.std.specs.Prelude.{◌≡◌, ◌<◌, true, nat_lt, count_by, map, IfErr, IfOk, OnOk};
 ghost use Rattle.std.specs.List.{list_all};
@@ -18,7 +18,7 @@ use ring_table::{Ring, Side};
 use std::alloc::Global;
 use std::collections::BTreeSet;
 
-/// Returns a copy's nodes by number: mirror, and sources' owners just before. None if the step is not a copy.
+/// Returns a copy's nodes by number: mirror, and sources' owners just before. None if not a copy.
 pub fn parties(
     alloc: Global,
     ring: &Ring,
@@ -32,7 +32,7 @@ pub fn parties(
     parties_on(alloc, ring, plan, Side::Both, step)
 }
 
-/// Returns a copy's source nodes by number: the sources' owners just before. None if the step is not a copy.
+/// Returns a copy's sources' owners just before, by number. None if not a copy.
 pub fn sources(
     alloc: Global,
     ring: &Ring,
@@ -54,7 +54,6 @@ struct Before<'a> {
     step: u32,
 }
 
-// None if the step is not a copy.
 fn parties_on(
     alloc: Global,
     ring: &Ring,
@@ -159,7 +158,6 @@ fn listed_owners(before: &Before, partition: u32, from: &[u8]) -> Result<BTreeSe
     Ok(party)
 }
 
-// Adds the slot's owner just before.
 fn add_owner(before: &Before, slot: Slot, party: &mut BTreeSet<NodeId>) -> Result<(), Refusal>
     requires partition { slot.partition < before.now.ring.now.q }
     requires index { slot.index < before.now.ring.now.n }

@@ -1,4 +1,4 @@
-//! The state of a slot between steps.
+//! A slot's state between steps.
 
 use ring_names::{Listed, NodeId};
 
@@ -7,9 +7,9 @@ use ring_names::{Listed, NodeId};
 pub struct Stage {
     /// The node that answers for the slot.
     pub owner: NodeId,
-    /// The node that also takes the slot's writes, if any.
+    /// The node that also takes the slot's writes.
     pub mirror: Option<NodeId>,
-    /// Whether the mirror has received what the slot has.
+    /// Whether the mirror has the slot's data.
     pub copied: bool,
     /// Former owners that have not dropped the slot, by number.
     pub leftovers: Listed<NodeId>,

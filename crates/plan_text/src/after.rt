@@ -37,7 +37,7 @@ fn dependencies<'a>(
     Ok(row)
 }
 
-/// Reads the numbers after `after`, if any. Takes no memory.
+/// Reads the numbers after `after`, if any.
 #[tactic(auto, unfolding(crate::specs::Reading::after_at))]
 pub fn after<'a>(plan: &Plan, fields: &mut Fields<'a>) -> Result<NumberRow<'a>, Refusal>
     ensures { Does (after_at plan.now) fields.old result fields.new }

@@ -20,7 +20,7 @@ fn is_among(nodes: &[NodeId], node: NodeId) -> bool
     is_number_of(nodes, node.0)
 }
 
-// Whether the node that the step joins is one of `joins`, or the one it retires one of `leaves`.
+// Whether a joined node is in `joins`, a retired one in `leaves`.
 fn names_only(joins: &[NodeId], leaves: &[NodeId], step: &Step) -> bool
     ensures { result ≡ step_names joins.now leaves.now step.now }
 {

@@ -1,4 +1,4 @@
-//! A plan's index, so that no search goes through its steps.
+//! A plan's index: no search goes through the steps.
 
 ghost use Rattle.std.specs.Prelude.{◌≡◌, ℕ, length, ◌++◌, ◌∷◌, [], ◌==◌, ◌&&◌, not, List, Some, None, IfErr, OnOk};
 ghost use Rattle.std.specs.Prelude.{OnErr, if◌then◌else◌, true};
@@ -14,7 +14,7 @@ use ring_names::{NodeId, Refusal, Slot};
 use std::alloc::Global;
 use std::collections::HashMap;
 
-/// Where each node is first named, and whether only once.
+/// Each node's first naming step, and whether all are named only once.
 #[derive(Drop)]
 pub struct NodeIndex {
     firsts: HashMap<NodeId, u32>,
@@ -79,7 +79,7 @@ pub struct Index {
     retirements: NodeIndex,
 }
 
-// Dropping is a call, as a plan's is.
+// So crates above need not check the parts.
 impl Drop for Index {
     fn drop(self) {
         let Index {

@@ -54,7 +54,6 @@ fn source(n: u32, fields: &mut Fields) -> Result<Source, Refusal>
     Err(Refusal::BadLine(fields.line()))
 }
 
-// Reads a slot, and where its copy reads.
 #[tactic(auto, unfolding(crate::specs::Reading::copy_at))]
 fn copy(ring: &Ring, fields: &mut Fields) -> Result<(Slot, Source), Refusal>
     ensures { Does (copy_at ring.now) fields.old result fields.new }
@@ -64,7 +63,7 @@ fn copy(ring: &Ring, fields: &mut Fields) -> Result<(Slot, Source), Refusal>
     both(slot, source)
 }
 
-/// Reads what the plan's next step does. Takes no memory.
+/// Reads what the plan's next step does.
 #[tactic(auto, unfolding(crate::specs::Reading::kind_at))]
 pub fn kind(ring: &Ring, plan: &Plan, fields: &mut Fields) -> Result<Step, Refusal>
     ensures { Does (kind_at ring.now plan.now) fields.old result fields.new }

@@ -1,4 +1,4 @@
-//! Plans: steps that change the ring, each with the earlier steps that it waits for.
+//! Plans: steps that change the ring, each after earlier ones.
 #![tactic(auto)]
 
 mod after;

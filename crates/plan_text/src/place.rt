@@ -21,7 +21,7 @@ fn below(limit: u32, fields: &mut Fields) -> Result<u32, Refusal>
     }
 }
 
-/// Reads a slot of the ring, or fails with `BadLine` or `TooLarge`.
+/// Reads a slot, or fails with `BadLine` or `TooLarge`.
 #[tactic(auto, unfolding(crate::specs::Reading::slot_at))]
 #[inline(always)]
 pub fn slot(ring: &Ring, fields: &mut Fields) -> Result<Slot, Refusal>
@@ -44,9 +44,7 @@ pub fn slot_node(ring: &Ring, fields: &mut Fields) -> Result<(Slot, NodeId), Ref
     both(slot, node)
 }
 
-/// Reads a node that may join, or fails with `Repeated`.
-///
-/// It was not a member before the plan, and no earlier step joins it.
+/// Reads a node that may join. Fails with `Repeated` if a member before the plan or joined earlier.
 #[tactic(auto, unfolding(crate::specs::Reading::joining_at))]
 pub fn joining(ring: &Ring, plan: &Plan, fields: &mut Fields) -> Result<NodeId, Refusal>
     ensures { Does (joining_at ring.now plan.now) fields.old result fields.new }

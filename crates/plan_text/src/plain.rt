@@ -1,4 +1,4 @@
-//! Reads a step of a plainly spelled line.
+//! Reads a plainly spelled step.
 
 ghost use Rattle.std.specs.Prelude.{◌≡◌, ◌+◌, ◌≤◌, ◌++◌, ◌∷◌, [], true, false, length, nat_lt, IfSome, IfNone};
 ghost use Rattle.std.specs.List.{join_with_byte, list_all};
@@ -18,7 +18,7 @@ use ring_names::{NodeId, Slot};
 use ring_table::Ring;
 use texts::{Lines, after_word, plain_number, plain_numbers, plain_word};
 
-// Returns a slot, and the text after it.
+// Returns a slot, and the rest.
 #[inline(always)]
 fn plain_slot<'a>(ring: &Ring, text: &'a [u8]) -> Option<(Slot, &'a [u8])>
     ensures text { IfSome result (λ x. text.now ≡ join_with_byte 32 (slot_fields x.0) ++ x.1.now) }
@@ -33,7 +33,7 @@ fn plain_slot<'a>(ring: &Ring, text: &'a [u8]) -> Option<(Slot, &'a [u8])>
     Some((Slot { partition, index }, rest))
 }
 
-// Returns a slot and a node, and the text after them.
+// Returns a slot, a node, and the rest.
 #[inline(always)]
 fn plain_slot_node<'a>(ring: &Ring, text: &'a [u8]) -> Option<(Slot, NodeId, &'a [u8])>
     ensures text { IfSome result
@@ -48,7 +48,7 @@ fn plain_slot_node<'a>(ring: &Ring, text: &'a [u8]) -> Option<(Slot, NodeId, &'a
     Some((slot, node, rest))
 }
 
-// Returns a step that moves a slot, and the text after it. None for a copy from listed slots.
+// Returns a step that moves a slot, and the rest. None for a copy from listed slots.
 #[inline(always)]
 fn plain_kind<'a>(ring: &Ring, text: &'a [u8]) -> Option<(Step, &'a [u8])>
     ensures text { IfSome result
@@ -88,7 +88,7 @@ fn ascend_below(numbers: &[u32], limit: u32) -> bool
     true
 }
 
-// Returns the dependencies, and the text after the line.
+// Returns the dependencies, and the rest.
 #[inline(always)]
 fn plain_after<'a>(plan: &Plan, text: &'a [u8], after: &mut Vec<u32>) -> Option<&'a [u8]>
     ensures text { IfSome result (λ rest. text.now ≡ spaced (after_fields after.new.items) ++ 10 ∷ rest.now) }
@@ -108,7 +108,7 @@ fn plain_after<'a>(plan: &Plan, text: &'a [u8], after: &mut Vec<u32>) -> Option<
     Some(rest)
 }
 
-// Adds the next line's step, if plainly spelled. Returns the text after the line.
+// Adds a plainly spelled line's step. Returns the rest.
 #[inline(always)]
 fn add_plain<'a>(
     ring: &Ring,
@@ -134,7 +134,7 @@ fn add_plain<'a>(
     }
 }
 
-/// Adds the next line's step, if plainly spelled and there is memory.
+/// Adds the next line's step, if plainly spelled and memory suffices.
 #[inline(always)]
 pub fn take_plain(ring: &Ring, plan: &mut Plan, lines: &mut Lines, after: &mut Vec<u32>) -> bool
     ensures read { result ≡ true → steps_from ring.now plan.new lines.new.line lines.new.lines
@@ -144,7 +144,7 @@ pub fn take_plain(ring: &Ring, plan: &mut Plan, lines: &mut Lines, after: &mut V
     ensures plan { result ≡ false → plan.new ≡ plan.old }
     ensures lines { result ≡ false → lines.new ≡ lines.old }
 {
-    // So the prover knows that the ring is valid.
+    // Proves the ring valid.
     let slots = ring.n();
     prove!(slots <= 7);
     match add_plain(ring, plan, lines.bytes(), after) {

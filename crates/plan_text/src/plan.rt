@@ -15,15 +15,15 @@ use ring_table::Ring;
 use std::alloc::Global;
 use std::marker::Model;
 
-/// A plan. Its steps have numbers from 0, in the order written.
+/// A plan. Its steps are numbered from 0, as written.
 pub struct Plan {
     steps: Vec<Step>,
-    // By step, its dependencies.
+    // Dependencies by step.
     rows: Rows,
     index: Index,
 }
 
-// Dropping is a call, so crates above need not check the parts.
+// So crates above need not check the parts.
 impl Drop for Plan {
     fn drop(self) {
         let Plan { steps, rows, index } = self;
@@ -135,7 +135,7 @@ impl Plan {
         self.deps(b).binary_search(&a).is_ok()
     }
 
-    /// Returns the step that joins the node, if any.
+    /// Returns the step that joins the node.
     pub fn join_of(&self, node: NodeId) -> Option<u32>
         ensures value { result ≡ join_of self.now node.0 }
         ensures within { IfSome result (λ j. j < length self.now) }
@@ -143,7 +143,7 @@ impl Plan {
         self.index.join_of(node)
     }
 
-    /// Returns the step that retires the node, if any.
+    /// Returns the step that retires the node.
     pub fn retirement_of(&self, node: NodeId) -> Option<u32>
         ensures value { result ≡ retirement_of self.now node.0 }
         ensures within { IfSome result (λ j. j < length self.now) }
@@ -165,7 +165,7 @@ impl Plan {
         self.index.is_retired(node)
     }
 
-    /// Whether the plan suits the ring. Takes no memory.
+    /// Whether the plan suits the ring.
     ///
     /// Its nodes and slots are the ring's, no member joins, and no node joins or retires twice.
     pub fn suits(&self, ring: &Ring) -> bool
@@ -180,9 +180,7 @@ impl Plan {
         all_suit(ring, self.steps.as_slice())
     }
 
-    /// Whether the plan joins exactly `joins` and retires exactly `leaves`.
-    ///
-    /// In any order, without memory.
+    /// Whether the plan joins exactly `joins` and retires exactly `leaves`, in any order.
     pub fn fulfils(&self, joins: &[NodeId], leaves: &[NodeId]) -> bool
         ensures { result ≡ fulfils self.now joins.now leaves.now }
     {

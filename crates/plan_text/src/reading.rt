@@ -21,7 +21,6 @@ use ring_table::Ring;
 use std::alloc::Global;
 use texts::{Fields, Lines, NumberRow, end, finish_both, header, need};
 
-// Reads the plan's next step from a line. Takes no memory.
 #[tactic(auto, unfolding(crate::specs::Reading::said_at))]
 fn step_line<'a>(
     ring: &Ring,
@@ -32,7 +31,7 @@ fn step_line<'a>(
     ensures next { IfOk result (λ x. IsNext plan.now (planned_of x)) }
     ensures at { IfErr result (λ e. IsAt fields.entry.number e) }
 {
-    // So the prover knows that the ring is valid.
+    // Proves the ring valid.
     let slots = ring.n();
     prove!(slots <= 7);
     let room = need(plan.len() < 131072, &fields);
@@ -53,14 +52,13 @@ fn add(alloc: Global, plan: &mut Plan, step: Step, after: NumberRow) -> Result<(
     plan.push(step, after.as_slice())
 }
 
-// Reads further steps, up to a line that begins with `end`.
+// Reads further steps, up to a line beginning with `end`.
 fn read_into(alloc: Global, ring: &Ring, plan: &mut Plan, lines: &mut Lines) -> Result<(), Refusal>
     requires none { plan.old ≡ [] }
     ensures read { Reads (map_ok (λ _. plan.new) result) lines.new
         (steps_from ring.now plan.old lines.old.line lines.old.lines) }
     ensures late { Late 1 result lines.old lines.new (steps_from ring.now plan.old lines.old.line lines.old.lines) }
 {
-    // The dependencies.
     let mut after = Vec::new(alloc);
     'steps: while !lines.begins(b"end") {
         if take_plain(ring, plan, lines, &mut after) {
@@ -94,14 +92,13 @@ fn read_parts(alloc: Global, ring: &Ring, lines: &mut Lines) -> Result<Plan, Ref
     Ok(plan)
 }
 
-/// Reads a plan up to its line `end`, and leaves the rest. Fails as `read_plan` does.
+/// Reads a plan up to its line `end`, and leaves the rest. Fails as `read_plan`.
 pub fn read_plan_section(alloc: Global, ring: &Ring, lines: &mut Lines) -> Result<Plan, Refusal>
     ensures read { Reads result lines.new (plan_at ring.now lines.old) }
     ensures found { IfOk result (λ v. IsPlan v × Suits ring.now v) }
-    // Memory may run out only after two lines without a fault, later only after lines without one.
     ensures late { Late 2 result lines.old lines.new (plan_at ring.now lines.old) }
 {
-    // So the prover knows that the ring is valid.
+    // Proves the ring valid.
     let slots = ring.n();
     prove!(slots <= 7);
     read_parts(alloc, ring, lines)
@@ -120,17 +117,15 @@ fn read_whole(alloc: Global, ring: &Ring, text: &[u8]) -> Result<Plan, Refusal>
 /// Reads a plan of the ring from its whole text.
 ///
 /// Fails at the first faulty line with its least number: 1 `BadLine`, 2 `TooLarge`, 3 `UnknownNode`, 4 `Repeated`, 20
-/// `LaterDependency`. `OutOfMemory` comes only after lines without a fault.
+/// `LaterDependency`. `OutOfMemory` comes only after faultless lines, at least two.
 pub fn read_plan(alloc: Global, ring: &Ring, text: &[u8]) -> Result<Plan, Refusal>
     ensures found { IfOk result (λ v. IsPlan v × Suits ring.now v × (text.now ≡ plan_text ring.now v)) }
-    // The text of a plan is read, unless memory runs out.
     ensures only { (v : List Planned) → IsPlan v → Suits ring.now v → text.now ≡ plan_text ring.now v
         → Gives result (Ok v) }
     ensures exact { Gives result (plan_reading ring.now text.now) }
-    // Memory may run out only if the first two lines have no fault.
     ensures late { IfErr result (λ e. e ≡ OutOfMemory → NoFaultBefore 3 (plan_reading ring.now text.now)) }
 {
-    // So the prover knows that the ring is valid.
+    // Proves the ring valid.
     let slots = ring.n();
     prove!(slots <= 7);
     read_whole(alloc, ring, text)

@@ -9,7 +9,7 @@ ghost use Rattle.plan_text.specs.SlotSteps.{has_place, place_of, list_at, number
 use ring_names::{Listed, Lists, Refusal, Slot};
 use std::alloc::Global;
 
-/// Steps by place for slots of a ring, by key for others.
+/// A slot's steps, by place for a ring's slots, by key for others.
 #[derive(Drop)]
 pub struct SlotSteps {
     alloc: Global,
@@ -39,7 +39,6 @@ fn at(lists: &[Listed<u32>], place: usize) -> &[u32]
     }
 }
 
-// Adds empty lists, up to this count.
 fn lengthen(alloc: Global, lists: &mut Vec<Listed<u32>>, count: usize) -> Result<(), Refusal>
     ensures same { (k : ℕ) → list_at lists.new.items k ≡ list_at lists.old.items k }
     ensures room { OnOk result (count ≤ length lists.new.items) }

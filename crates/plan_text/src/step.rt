@@ -10,13 +10,13 @@ use ring_names::{Listed, NodeId, Slot};
 pub enum Step {
     /// Makes the node a member.
     Join(NodeId),
-    /// Sends the slot's writes to the node too, from here on.
+    /// From now on, sends the slot's writes to the node too.
     Mirror(Slot, NodeId),
     /// Gives the mirror what the source has.
     Copy(Slot, Source),
     /// Makes the mirror the owner.
     Switch(Slot),
-    /// Drops what the node still has of a slot that it owned.
+    /// Drops the node's data of a slot that it owned.
     Drop(Slot, NodeId),
     /// Ends the node's membership.
     Retire(NodeId),
@@ -38,7 +38,7 @@ impl Step {
     }
 }
 
-/// Where a copy reads.
+/// A copy's source.
 #[derive(Debug, Drop)]
 pub enum Source {
     /// The slot's owner.

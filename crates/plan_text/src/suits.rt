@@ -1,4 +1,4 @@
-//! Whether a step names only the ring's nodes and slots.
+//! Whether steps name only the ring's nodes and slots.
 
 ghost use Rattle.std.specs.Prelude.{◌≡◌, ◌&&◌, not, length, nat_lt};
 ghost use Rattle.std.specs.List.{list_all};
@@ -30,7 +30,6 @@ pub fn step_suits(ring: &Ring, step: &Step) -> bool
     }
 }
 
-// Whether the indexes are those of slots.
 fn source_suits(ring: &Ring, source: &Source) -> bool
     ensures { result ≡ source_suits ring.now source.now }
 {

@@ -24,7 +24,6 @@ fn push_slot(out: &mut Vec<u8>, slot: Slot) -> Result<(), AllocError>
     push_numbers(out, &[slot.partition, slot.index])
 }
 
-// Writes the indexes, each after a space.
 fn push_indexes(out: &mut Vec<u8>, indexes: &[u8]) -> Result<(), AllocError>
     ensures { OnOk result (out.new.items ≡ out.old.items ++ spaced (map decimal indexes.now)) }
 {
@@ -34,7 +33,6 @@ fn push_indexes(out: &mut Vec<u8>, indexes: &[u8]) -> Result<(), AllocError>
     Ok(())
 }
 
-// Writes where a copy reads, after a space.
 fn push_source(out: &mut Vec<u8>, source: &Source) -> Result<(), AllocError>
     ensures { OnOk result (out.new.items ≡ out.old.items ++ spaced (source_fields source.now)) }
 {
@@ -111,7 +109,7 @@ fn push_steps(out: &mut Vec<u8>, ring: &Ring, plan: &Plan) -> Result<(), AllocEr
     Ok(())
 }
 
-/// Writes the only text of a plan that suits the ring. Fails only with `OutOfMemory`.
+/// Writes the plan's only text.
 pub fn write_plan(alloc: Global, ring: &Ring, plan: &Plan) -> Result<Vec<u8>, Refusal>
     requires { Suits ring.now plan.now }
     ensures text { IfOk result (λ v. v.items ≡ plan_text ring.now plan.now) }

@@ -1,18 +1,18 @@
-//! How many transfers may be open with a node.
+//! How many transfers a node may have open.
 
 ghost use Rattle.std.specs.Prelude.{◌≡◌};
 ghost use Rattle.ring_table.specs.Value.{most_of};
 
 use ring_names::NodeId;
 
-/// The transfers that one number of an allowance counts.
+/// The transfers that a number of an allowance counts.
 #[derive(Clone, Copy, Debug, PartialEq, Eq, Hash)]
 pub enum Side {
-    /// All in which the node takes part.
+    /// All with the node.
     Both,
-    /// Those that it receives.
+    /// All to the node.
     Take,
-    /// Those that read from it.
+    /// All from the node.
     Give,
 }
 
@@ -23,17 +23,17 @@ pub struct NodeSide {
     pub side: Side,
 }
 
-/// The most open transfers of a node, each number from 1 to 64.
+/// A node's most open transfers, each number from 1 to 64.
 #[derive(Clone, Copy, Debug, PartialEq, Eq)]
 pub enum Allowance {
     /// One number for all transfers.
     Joint(u32),
-    /// One number for transfers to the node, and another for transfers from the node. Not in format 1.
+    /// One number for transfers to the node, another for transfers from the node. Not in format 1.
     Split { take: u32, give: u32 },
 }
 
 impl Allowance {
-    /// Returns the side's most open transfers, if the allowance counts the side.
+    /// Returns the side's most open transfers, if counted.
     pub fn most(&self, side: Side) -> Option<u32>
         ensures { result ≡ most_of side self.now }
     {

@@ -103,7 +103,7 @@ impl Ring {
         Ok(Ring::assemble(head, Declared { names, nodes }, owners))
     }
 
-    /// Copies the ring. Fails only if memory runs out.
+    /// Copies the ring.
     pub fn copy(&self, alloc: Global) -> Result<Ring, Refusal>
         ensures ok { IfOk result (λ v. v ≡ self.now) }
         ensures memory { IfErr result (λ e. e ≡ OutOfMemory) }
@@ -112,8 +112,8 @@ impl Ring {
         self.rebuild(alloc, nodes, self.rows())
     }
 
-    /// Copies the ring with other owners, by partition and slot, and other members, by number. A node without a
-    /// flag stays what it is.
+    /// Copies the ring with other owners, by partition and slot, and other members, by number. Nodes without a flag
+    /// stay.
     ///
     /// Fails with `NoPlan` unless the rows are `q` rows of `n` different members.
     pub fn with(

@@ -70,7 +70,7 @@ fn most(fields: &mut Fields) -> Result<u32, Refusal>
     }
 }
 
-// A second such number, if the format has one and a number follows.
+// A second such number, if the format and the line have one.
 #[tactic(auto, unfolding(crate::specs::Reading::second_at))]
 fn second(format: u32, fields: &mut Fields) -> Result<Option<u32>, Refusal>
     ensures { Does (second_at format) fields.old result fields.new }
@@ -93,7 +93,7 @@ fn made(first: u32, second: Option<u32>) -> Allowance
     }
 }
 
-// One number, or in format 2 and 3 perhaps two.
+// One number, or in formats 2 and 3 perhaps two.
 #[tactic(auto, unfolding(crate::specs::Reading::allowance_at))]
 fn allowance(format: u32, fields: &mut Fields) -> Result<Allowance, Refusal>
     ensures { Does (allowance_at format) fields.old result fields.new }
@@ -142,7 +142,7 @@ impl Declared {
         self.nodes.is_empty()
     }
 
-    // Judges a node line after these nodes. Takes no memory.
+    // Judges a node line.
     #[tactic(auto, unfolding(crate::specs::Reading::node_at))]
     fn judge<'a>(&self, format: u32, mut fields: Fields<'a>) -> Result<NodeLine<'a>, Refusal>
         ensures value { map_ok node_of result ≡ node_at format self.now fields.entry.number fields.entry.fields }
@@ -206,7 +206,7 @@ fn read_into(
     Ok(())
 }
 
-/// Reads node lines while lines begin so, at least one.
+/// Reads node lines, at least one.
 #[tactic(auto, unfolding(crate::specs::Reading::nodes_at))]
 pub fn read_nodes(alloc: Global, format: u32, lines: &mut Lines) -> Result<Declared, Refusal>
     ensures read { Reads result lines.new (nodes_at format lines.old) }

@@ -21,9 +21,9 @@ fn is_named(ring: &Ring, node: NodeId, name: &[u8]) -> bool
     place < nodes.len() && nodes[place].name.as_slice() == name
 }
 
-/// Takes a field that must name a node of the ring, or fails with `BadLine` or `UnknownNode`.
+/// Takes a node of the ring, or fails with `BadLine` or `UnknownNode`.
 ///
-/// If it is the `likely` node, as in successive lines of one node, the name is not looked up.
+/// The `likely` node, as in successive lines of one node, is not looked up.
 #[tactic(auto, unfolding(crate::specs::Reading::declared_at))]
 #[inline(always)]
 pub fn node_field(

@@ -12,7 +12,7 @@ ghost use Rattle.ring_table.specs.Reading.{head_at};
 use ring_names::Refusal;
 use texts::{Fields, Lines, both, finish};
 
-/// A partition's slots, how many of them answer a read and a write, and how many nodes may lose their data.
+/// A partition's slots, how many answer a read and a write, and how many nodes may lose their data.
 #[derive(Clone, Copy)]
 pub struct Quorum {
     pub n: u32,
@@ -104,7 +104,7 @@ fn judge_quorum(line: u32, n: u32, r: u32, w: u32, loss: u32) -> Result<Quorum, 
     Ok(Quorum { n, r, w, loss })
 }
 
-// How many nodes may lose their data, if the format says it.
+// How many nodes may lose their data, if the format has it.
 #[tactic(auto, unfolding(crate::specs::Reading::loss_at))]
 fn loss(format: u32, fields: &mut Fields) -> Result<u32, Refusal>
     ensures { Does (loss_at format) fields.old result fields.new }
@@ -132,7 +132,7 @@ fn quorum_line(format: u32, mut fields: Fields) -> Result<Quorum, Refusal>
     }
 }
 
-/// Reads the lines before the nodes. Takes no memory.
+/// Reads the lines before the nodes.
 #[tactic(auto, unfolding(crate::specs::Reading::head_at))]
 pub fn read_head(lines: &mut Lines) -> Result<Head, Refusal>
     ensures read { Answers result lines.new (head_at lines.old) }

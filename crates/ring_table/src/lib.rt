@@ -1,4 +1,4 @@
-//! The ring: its nodes, how many must answer, and the owner of each slot.
+//! The ring: its nodes, its quorum, and each slot's owner.
 #![tactic(auto)]
 
 mod allowance;

@@ -12,9 +12,9 @@ use ring_names::{Listed, NodeId};
 pub struct Node {
     /// 1 to 32 bytes of `a-z0-9_.:-`.
     pub name: Listed<u8>,
-    /// The most open transfers of this node.
+    /// The node's most open transfers.
     pub allowance: Allowance,
-    /// Whether it is a member before the first step of a plan (`in`) or not (`out`).
+    /// Whether a member before a plan (`in`) or not (`out`).
     pub is_member: bool,
 }
 

@@ -19,7 +19,7 @@ use ring_names::{Listed, NodeId, Refusal};
 use std::alloc::Global;
 use texts::{Lines, end};
 
-// The nodes of a ring, and the owners of each partition's slots.
+// A ring's nodes, and its rows of owners.
 #[derive(Drop)]
 struct Body {
     declared: Declared,
@@ -39,15 +39,12 @@ fn read_body(alloc: Global, head: Head, lines: &mut Lines) -> Result<Body, Refus
     Ok(Body { declared, owners })
 }
 
-/// Reads the lines of a ring, up to its `end`, and leaves what follows. Fails as `read_ring` does.
+/// Reads a ring's lines, up to `end`, and leaves the rest. Fails as `read_ring`.
 #[tactic(auto, unfolding(crate::specs::Reading::ring_at))]
 pub fn read_ring_section(alloc: Global, lines: &mut Lines) -> Result<Ring, Refusal>
     ensures read { Reads result lines.new (ring_at lines.old) }
-    // The result is a ring.
     ensures found { IfOk result (λ v. IsRing v) }
-    // Memory may run out only after lines without faults, and after at least the first four.
     ensures late { Late 4 result lines.old lines.new (ring_at lines.old) }
-    // It has at least four lines.
     ensures far { OnOk result (lines_on 4 lines.old.line ≤ lines.new.line) }
 {
     let head = read_head(lines)?;
@@ -67,17 +64,12 @@ fn read_whole(alloc: Global, text: &[u8]) -> Result<Ring, Refusal>
 
 /// Reads a ring from its whole text.
 ///
-/// The first faulty line decides, and in it the fault of the least number. `OutOfMemory` comes only after lines
-/// without faults.
+/// The first faulty line decides, and its least number. `OutOfMemory` comes only after faultless lines, at least four.
 ///
-/// 1 `BadLine`, 2 `TooLarge`, 3 `UnknownNode`, 4 `Repeated`, 10 `QuorumTooSmall`, 11 `SharedNode`, 12
-/// `NotMember`.
+/// 1 `BadLine`, 2 `TooLarge`, 3 `UnknownNode`, 4 `Repeated`, 10 `QuorumTooSmall`, 11 `SharedNode`, 12 `NotMember`.
 pub fn read_ring(alloc: Global, text: &[u8]) -> Result<Ring, Refusal>
-    // The result is a ring with this text.
     ensures found { IfOk result (λ v. IsRing v × (text.now ≡ ring_text v)) }
-    // A ring's text is read, unless memory runs out.
     ensures only { (v : RingValue) → IsRing v → text.now ≡ ring_text v → Gives result (Ok v) }
-    // Which fault it is.
     ensures exact { Gives result (ring_reading text.now) }
     ensures late { IfErr result (λ e. e ≡ OutOfMemory → NoFaultBefore 5 (ring_reading text.now)) }
 {

@@ -11,11 +11,10 @@ use crate::node::{Node, is_member, name_at};
 use ring_names::{Listed, Names, NodeId, Slot};
 use std::marker::Model;
 
-/// A ring. Partitions are `q` equal parts of the hash space (section 6.2 of DeCandia et al. 2007, strategy 3).
-/// Each has `n` slots with one owner each, a member.
+/// A ring. Partitions are `q` equal parts of the hash space (section 6.2 of DeCandia et al. 2007, strategy 3). Each has
+/// `n` slots, each owned by a member.
 ///
-/// `r` slots answer a read and `w` take a write, with `r + w > n + f` (section 4.5), if `f` nodes may lose
-/// their data.
+/// `r` slots answer a read and `w` take a write, with `r + w > n + f` (section 4.5), if `f` nodes may lose their data.
 pub struct Ring {
     format: u32,
     q: u32,
@@ -28,7 +27,7 @@ pub struct Ring {
     owners: Vec<Listed<NodeId>>,
 }
 
-// Dropping is a call, so crates above need not check the parts.
+// So crates above need not check the parts.
 impl Drop for Ring {
     fn drop(self) {
         let Ring {
@@ -86,7 +85,7 @@ impl Ring {
         }
     }
 
-    /// Returns the format of the ring's text: 1, 2 or 3.
+    /// Returns the text's format: 1, 2 or 3.
     pub fn format(&self) -> u32
         ensures value { result ≡ self.now.format }
         ensures valid { IsRing self.now }
@@ -94,7 +93,7 @@ impl Ring {
         self.format
     }
 
-    /// Turns a ring of format 1 into one of format 2. Nothing else changes.
+    /// Turns format 1 into 2. Nothing else changes.
     pub fn migrate(mut self) -> Ring
         ensures { result ≡ migrated self }
     {
@@ -104,7 +103,7 @@ impl Ring {
         self
     }
 
-    /// Returns the number of partitions, a power of two from 1 to 4,096.
+    /// Counts the partitions: a power of two from 1 to 4,096.
     pub fn q(&self) -> u32
         ensures value { result ≡ self.now.q }
         ensures space { is_space result ≡ true }
@@ -113,7 +112,7 @@ impl Ring {
         self.q
     }
 
-    /// Returns the slots of each partition, 1 to 7.
+    /// Counts the slots of a partition, 1 to 7.
     pub fn n(&self) -> u32
         ensures value { result ≡ self.now.n }
         ensures valid { IsRing self.now }
@@ -121,7 +120,7 @@ impl Ring {
         self.n
     }
 
-    /// Returns how many slots must answer a read, 1 to `n`.
+    /// Returns how many slots answer a read, 1 to `n`.
     pub fn r(&self) -> u32
         ensures value { result ≡ self.now.r }
         ensures valid { IsRing self.now }
@@ -129,7 +128,7 @@ impl Ring {
         self.r
     }
 
-    /// Returns how many slots must take a write, 1 to `n`.
+    /// Returns how many slots take a write, 1 to `n`.
     pub fn w(&self) -> u32
         ensures value { result ≡ self.now.w }
         ensures valid { IsRing self.now }
@@ -145,7 +144,7 @@ impl Ring {
         self.loss
     }
 
-    /// Returns the node's most open transfers on the side, if declared and counted.
+    /// Returns the node's most open transfers on the side, if counted.
     pub fn allowance(&self, of: NodeSide) -> Option<u32>
         ensures { result ≡ allowance_of self.now of.node.0 of.side }
     {
@@ -155,7 +154,7 @@ impl Ring {
         }
     }
 
-    /// Returns the nodes by number, 1 to 1,024 of them.
+    /// Returns the nodes by number, 1 to 1,024.
     pub fn nodes(&self) -> &[Node]
         ensures value { result.now ≡ self.now.nodes }
         ensures valid { IsRing self.now }
@@ -163,17 +162,16 @@ impl Ring {
         self.nodes.as_slice()
     }
 
-    /// Returns the node's name, or no bytes if the ring lacks it. Takes no memory.
+    /// Returns the node's name, or no bytes.
     pub fn name(&self, node: u32) -> &[u8]
         ensures { result.now ≡ name_at (names_of self.now) (record { 0 = node }) }
     {
         name_at(self.nodes.as_slice(), NodeId(node))
     }
 
-    /// Returns the node of that name. Takes no memory.
+    /// Returns the node of that name.
     pub fn number_of(&self, name: &[u8]) -> Option<NodeId>
         ensures value { option_map (λ x. x.0) result ≡ place (names_of self.now) name.now }
-        // Names of a ring are valid names.
         ensures name { IfSome result (λ _. is_name name.now ≡ true) }
     {
         match self.names.number_of(name) {
@@ -182,14 +180,14 @@ impl Ring {
         }
     }
 
-    /// Whether the node is a member before the first step of a plan.
+    /// Whether the node is a member before a plan.
     pub fn is_member(&self, node: NodeId) -> bool
         ensures { result ≡ is_member self.now.nodes node }
     {
         is_member(self.nodes.as_slice(), node)
     }
 
-    /// Returns the owners of a partition's slots, by index.
+    /// Returns a partition's owners, by slot index.
     pub fn row(&self, partition: u32) -> &[NodeId]
         requires { partition < self.now.q }
         ensures value { row_of self.now partition ≡ Some result.now }
@@ -198,7 +196,7 @@ impl Ring {
         self.owners[partition as usize].as_slice()
     }
 
-    /// Returns the owners of all slots, by partition.
+    /// Returns the owners, by partition.
     pub fn rows(&self) -> &[Listed<NodeId>]
         ensures value { result.now ≡ self.now.owners }
         ensures valid { IsRing self.now }
@@ -206,7 +204,7 @@ impl Ring {
         self.owners.as_slice()
     }
 
-    /// Returns the owner of a slot before the first step of a plan.
+    /// Returns a slot's owner before a plan.
     pub fn owner(&self, slot: Slot) -> NodeId
         requires partition { slot.partition < self.now.q }
         requires index { slot.index < self.now.n }

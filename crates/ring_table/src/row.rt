@@ -18,7 +18,7 @@ use std::alloc::Global;
 use std::marker::Model;
 use texts::{Fields, Lines, both, finish, is_name};
 
-// Up to 7 owners, stored from the back: the first one read is stored last.
+// Up to 7 owners, stored in reverse: the first one read is last.
 #[derive(Drop)]
 struct Row {
     owners: [NodeId; 7],
@@ -62,7 +62,7 @@ impl Row {
     }
 }
 
-// Looks up a declared node. Only an unknown field is checked to be a name.
+// Looks up a declared node. Checks only unknown fields to be names.
 #[tactic(auto, using(crate::proofs::RowLaws::found_name))]
 fn declared_node(names: &Names, fields: &mut Fields) -> Result<NodeId, Refusal>
     requires { EachIsName names.now }
@@ -147,7 +147,7 @@ fn judge(
     Ok(row)
 }
 
-// `slots <p>` and the owners of the partition's slots. Takes no memory.
+// `slots <p>` and the partition's owners.
 fn row_line(declared: &Declared, slots: u32, partition: u32, fields: Fields) -> Result<Row, Refusal>
     requires { slots ≤ 7 }
     ensures value { result ≡ row_at declared.now slots partition fields.entry.number fields.entry.fields }
@@ -156,7 +156,7 @@ fn row_line(declared: &Declared, slots: u32, partition: u32, fields: Fields) -> 
     judge(declared, slots, partition, fields)
 }
 
-/// Reads one row for each partition: `slots <p>` and the owners of its slots.
+/// Reads each partition's row: `slots <p>` and its owners.
 pub fn read_rows(
     alloc: Global,
     declared: &Declared,

@@ -36,7 +36,6 @@ fn push_space(out: &mut Vec<u8>, q: u32) -> Result<(), AllocError>
     Ok(())
 }
 
-// How many nodes may lose their data, if the format says it.
 fn push_loss(out: &mut Vec<u8>, format: u32, loss: u32) -> Result<(), AllocError>
     ensures { OnOk result (out.new.items ≡ out.old.items ++ spaced (loss_fields format loss)) }
 {
@@ -59,7 +58,6 @@ fn push_quorum(out: &mut Vec<u8>, ring: &Ring) -> Result<(), AllocError>
     Ok(())
 }
 
-// The numbers of an allowance, each after a space
 fn push_allowance(out: &mut Vec<u8>, allowance: &Allowance) -> Result<(), AllocError>
     ensures { OnOk result (out.new.items ≡ out.old.items ++ spaced (allowance_fields allowance.now)) }
 {
@@ -93,7 +91,7 @@ fn push_nodes(out: &mut Vec<u8>, nodes: &[Node]) -> Result<(), AllocError>
     Ok(())
 }
 
-/// Adds a space and the name of a declared node.
+/// Adds a space and a declared node's name.
 pub fn push_name(out: &mut Vec<u8>, nodes: &[Node], owner: NodeId) -> Result<(), AllocError>
     ensures { OnOk result (out.new.items ≡ out.old.items ++ 32 ∷ name_at (map (λ x. x.name) nodes.now) owner) }
 {
@@ -111,7 +109,7 @@ fn push_owners(out: &mut Vec<u8>, nodes: &[Node], row: &[NodeId]) -> Result<(), 
     Ok(())
 }
 
-/// Adds a partition's line: `slots`, its number, and the names of its owners.
+/// Adds a partition's line: `slots`, its number, its owners' names.
 pub fn push_row(
     out: &mut Vec<u8>,
     nodes: &[Node],
@@ -139,7 +137,7 @@ fn push_rows(out: &mut Vec<u8>, nodes: &[Node], rows: &[Listed<NodeId>]) -> Resu
     Ok(())
 }
 
-/// Writes the ring's only text. Fails only with `OutOfMemory`.
+/// Writes the ring's only text.
 pub fn write_ring(alloc: Global, ring: &Ring) -> Result<Vec<u8>, Refusal>
     ensures text { IfOk result (λ v. v.items ≡ ring_text ring.now) }
     ensures memory { IfErr result (λ e. e ≡ OutOfMemory) }
