@@ -1,4 +1,4 @@
-//! Bundles of a drive.
+//! A drive's bundles.
 
 ghost use Rattle.std.specs.Prelude.{◌≡◌, IfOk, IfErr};
 ghost use Rattle.ring_names.specs.declared.refusal.Refusal.TheVariants.{OutOfMemory};
@@ -17,7 +17,7 @@ use script_text::Script;
 use std::alloc::Global;
 use texts::Lines;
 
-/// A ring, a plan, its certificate, and the scripts of 1 to 8 clients with the names of their writers, by number.
+/// A ring, a plan, its certificate, and 1 to 8 clients' scripts with their writers' names, by number.
 #[derive(Drop)]
 pub struct DriveBundle {
     pub ring: Ring,
@@ -46,13 +46,12 @@ fn read_parts(alloc: Global, lines: &mut Lines) -> Result<DriveBundle, Refusal>
     })
 }
 
-/// Reads the parts of a drive's bundle, which must end there. The first faulty line decides. `OutOfMemory`
-/// comes only after the ring's first four lines.
+/// Reads a drive's bundle, which must end there. The first faulty line decides. `OutOfMemory` comes only after the
+/// ring's first four lines.
 ///
-/// In scripts, lines begin with `put`, `get`, `down` or `up`; others are `BadLine`. Writers are numbered by
-/// first sight over all scripts.
+/// Lines of scripts begin with `put`, `get`, `down` or `up`; others are `BadLine`. Numbers writers by first sight over
+/// all scripts.
 pub fn read_drive(alloc: Global, bytes: &[u8]) -> Result<DriveBundle, Refusal>
-    // Which bundle it is, or which fault.
     ensures read { Gives result (whole_text drive_at bytes.now) }
     ensures parts { IfOk result IsDrive }
     ensures late { IfErr result (λ e. e ≡ OutOfMemory → NoFaultBefore 5 (whole_text drive_at bytes.now)) }

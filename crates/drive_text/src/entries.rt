@@ -1,4 +1,4 @@
-//! The entries of a history, and the finishers of steps, as JSON lists.
+//! A history's entries, and steps' finishers, as JSON lists.
 
 ghost use Rattle.std.specs.Prelude.{◌≡◌, ◌++◌, ◌∷◌, [], map, IfOk, IfErr, OnOk};
 ghost use Rattle.serde_json.specs.View.{view};
@@ -24,7 +24,7 @@ fn entry_value(alloc: Global, ring: &Ring, writers: &Names, entry: &Entry) -> Re
     Ok(json!(in alloc; [event, reply])?)
 }
 
-/// Returns the pairs of a history, in order.
+/// Returns a history's pairs, in order.
 pub(crate) fn entry_values(
     alloc: Global,
     ring: &Ring,

@@ -1,4 +1,4 @@
-//! The texts of drives: bundles with clients' scripts, and reports of events and finishers in one line of JSON.
+//! Texts of drives: bundles with clients' scripts, and reports in a line of JSON.
 #![tactic(auto)]
 
 mod bundle;

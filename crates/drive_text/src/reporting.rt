@@ -1,4 +1,4 @@
-//! The report of a drive.
+//! A drive's report.
 
 ghost use Rattle.std.specs.Prelude.{◌≡◌, ◌++◌, ◌∷◌, [], false, IfOk, IfErr};
 ghost use Rattle.serde_json.specs.View.{view};
@@ -13,10 +13,10 @@ use ring_receipts::Outcome;
 use serde_json::{Value, json};
 use std::alloc::{AllocError, Global};
 
-/// Returns the report's value. `events` has pairs of an event's text and its reply's, in order. `steps` has the
-/// worker that finished each step, and `workers` their number.
+/// Returns the report. `events` has pairs of an event's text and its reply's, in order. `steps` has each step's
+/// finisher, and `workers` their number.
 ///
-/// Fails if memory runs out, and with `Disagree` if an event's text is not UTF-8, such as a writer's name.
+/// Fails if memory runs out, and with `Disagree` if an event's text, such as a writer's name, is not UTF-8.
 pub fn report(
     alloc: Global,
     approved: &Approved,
@@ -33,7 +33,6 @@ pub fn report(
     Ok(json!(in alloc; {"events": events, "steps": steps, "workers": workers})?)
 }
 
-// The compact text of a value, and a newline.
 fn line_of(alloc: Global, value: &Value) -> Result<Vec<u8>, AllocError>
     requires { has_float (view value.now) ≡ false }
     ensures { IfOk result (λ v. v.items ≡ compact_text (view value.now) ++ 10 ∷ []) }
@@ -43,7 +42,7 @@ fn line_of(alloc: Global, value: &Value) -> Result<Vec<u8>, AllocError>
     Ok(line)
 }
 
-/// Writes the report as one line of compact JSON. Fails as `report` does.
+/// Writes the report as one line of compact JSON. Fails as `report`.
 pub fn write_report(
     alloc: Global,
     approved: &Approved,

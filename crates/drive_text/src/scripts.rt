@@ -52,7 +52,7 @@ fn read_more(
     Ok(())
 }
 
-/// Reads one client's script, and up to seven more while lines are left. Writers are numbered by first sight over all of them.
+/// Reads one client's script, and up to seven more while lines are left. Numbers writers by first sight over all.
 #[tactic(auto, unfolding(crate::specs::Drives::scripts_at))]
 pub fn read_scripts(
     alloc: Global,
@@ -63,7 +63,6 @@ pub fn read_scripts(
     requires { writers.old ≡ [] }
     ensures read { Reads (map_ok (λ s. (s, writers.new)) result) lines.new (scripts_at ring.now lines.old) }
     ensures clients { IfOk result AreOfClients }
-    // Memory may run out only after lines without faults.
     ensures late { Late 0 result lines.old lines.new (scripts_at ring.now lines.old) }
 {
     let mut scripts = Vec::new(alloc);

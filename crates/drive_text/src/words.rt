@@ -26,7 +26,7 @@ fn text_value(bytes: Vec<u8>) -> Result<Value, Refusal>
     }
 }
 
-/// Returns the text of an event, as in a script.
+/// Returns an event's text, as in a script.
 pub(crate) fn event_value(
     alloc: Global,
     ring: &Ring,

@@ -12,11 +12,11 @@ use ring_table::Ring;
 use std::alloc::{AllocError, Global};
 use std::marker::Model;
 
-/// Cuts a history to some partitions, entry by entry. Keeps eight bytes for each put and get so far.
+/// Cuts a history to some partitions, entry by entry. Keeps eight bytes for each put and get.
 #[derive(Drop)]
 pub struct Cut<'a> {
     ring: &'a Ring,
-    // by partition, whether it is in the part
+    // by partition
     partitions: &'a [bool],
     puts: Marks,
     gets: Marks,
@@ -30,7 +30,7 @@ impl<'a> Model for Cut<'a> {
     ghost view = { λ a. record { ring = a.ring.now; partitions = a.partitions.now; puts = a.puts; gets = a.gets } };
 }
 
-// The gets that a put names, by their numbers in the part.
+// A put's gets, by their numbers in the part.
 fn seen_in(alloc: Global, gets: &Marks, seen: &Seen) -> Result<Seen, AllocError>
     ensures { IfOk result (λ named. named ≡ all_renumbered gets.now seen.now) }
 {
@@ -42,7 +42,7 @@ fn seen_in(alloc: Global, gets: &Marks, seen: &Seen) -> Result<Seen, AllocError>
 }
 
 impl<'a> Cut<'a> {
-    /// Starts a cut to these partitions of the ring, before any put or get.
+    /// Starts before any put or get.
     pub fn new(alloc: Global, ring: &'a Ring, partitions: &'a [bool]) -> Cut<'a>
         ensures { result ≡ first_cut ring.now partitions.now }
     {
@@ -91,7 +91,6 @@ impl<'a> Cut<'a> {
         }
     }
 
-    // The event by its numbers in the part.
     fn event_in(&self, alloc: Global, event: &Event) -> Result<Event, AllocError>
         ensures { IfOk result (λ cut. cut ≡ event_in self.now.puts self.now.gets event.now) }
     {
@@ -111,7 +110,6 @@ impl<'a> Cut<'a> {
         })
     }
 
-    // The reply by its numbers in the part.
     fn reply_in(&self, alloc: Global, reply: &Reply) -> Result<Reply, AllocError>
         ensures { IfOk result (λ cut. cut ≡ reply_in self.now.puts self.now.gets reply.now) }
     {
@@ -129,7 +127,7 @@ impl<'a> Cut<'a> {
         })
     }
 
-    // Marks a put or get that the event starts, by whether it is in the part.
+    // Marks a started put or get, by whether it is in the part.
     fn note(&mut self, event: &Event, is_mine: bool) -> Result<(), AllocError>
         requires puts { length self.now.puts < 4294967295 }
         requires gets { length self.now.gets < 4294967295 }
@@ -143,7 +141,7 @@ impl<'a> Cut<'a> {
         }
     }
 
-    /// Returns the entry as the part sees it, if it does. After an error nothing more can be cut.
+    /// Returns the entry as the part sees it, if so. Cuts no more after an error.
     pub fn entry(&mut self, alloc: Global, entry: &Entry) -> Result<Option<Entry>, AllocError>
         requires puts { length self.now.puts < 4294967295 }
         requires gets { length self.now.gets < 4294967295 }
@@ -162,8 +160,8 @@ impl<'a> Cut<'a> {
     }
 }
 
-/// Returns the part of a history that these partitions see: all of steps, copies and nodes, and clients' events on
-/// their keys. Puts and gets are renumbered.
+/// Returns the part that these partitions see: all of steps, copies and nodes, and clients' events on their keys.
+/// Renumbers puts and gets.
 pub fn part(
     alloc: Global,
     ring: &Ring,

@@ -1,4 +1,4 @@
-//! The parts of a history by its partitions. A history is a run exactly if its parts are.
+//! A history's parts by partitions. A history is a run exactly if its parts are.
 #![tactic(auto)]
 
 mod choice;

@@ -1,4 +1,4 @@
-//! A history that is read line by line, and cut.
+//! A history read line by line, and cut.
 
 ghost use Rattle.std.specs.Prelude.{◌≡◌, ◌≢◌, ◌+◌, ◌<◌, ◌++◌, List, length, IfErr, OnOk};
 ghost use Rattle.ring_names.specs.declared.refusal.Refusal.TheVariants.{OutOfMemory};
@@ -14,7 +14,7 @@ use ring_names::{Names, Refusal};
 use ring_table::Ring;
 use std::alloc::Global;
 
-/// The part of a history so far.
+/// A history's part so far.
 #[derive(Drop)]
 pub struct Kept<'a> {
     pub cut: Cut<'a>,
@@ -22,7 +22,7 @@ pub struct Kept<'a> {
     pub place: Place,
 }
 
-/// A history of which some lines are read, and its part so far. Entries are not kept.
+/// A partly read history, and its part so far. Does not keep entries.
 #[derive(Drop)]
 pub struct Cutter<'a> {
     pub reader: Reader<'a>,

@@ -1,4 +1,4 @@
-//! Cutting a bundle while it is read.
+//! Cuts a bundle while reading it.
 
 ghost use Rattle.std.specs.Prelude.{◌≡◌, ◌++◌, ℕ, List, codes, IfOk};
 ghost use Rattle.ring_table.specs.Valid.{IsRing};
@@ -21,18 +21,18 @@ use ring_names::{Choice, Refusal};
 use std::alloc::Global;
 use std::io::Read;
 
-/// The bundle of a part.
+/// A part's bundle.
 #[derive(Drop)]
 pub struct Part {
     /// Its text, at most `MAX_INPUT` bytes.
     pub text: Vec<u8>,
-    /// How many entries its history has, at most 1,000,000.
+    /// Its history's number of entries, at most 1,000,000.
     pub entries: u32,
-    /// The wanted entry, counted in the whole history from 0, if the part has it.
+    /// The wanted entry's place in the whole history, from 0, if the part has it.
     pub place: Option<u64>,
 }
 
-/// Why there is no bundle of a part.
+/// Why a part has no bundle.
 #[derive(Clone, Copy, Debug, PartialEq, Eq)]
 pub enum NoPart {
     /// The input is refused, or reading or memory failed.
@@ -42,7 +42,7 @@ pub enum NoPart {
 }
 
 impl NoPart {
-    /// Returns the refusal. A part that is too large is `TooLarge(0)`.
+    /// Returns the refusal: `TooLarge(0)` for a part that is too large.
     pub fn refusal(&self) -> Refusal
         ensures { result ≡ refusal_of self.now }
     {
@@ -156,12 +156,14 @@ fn end_part(unended: Unended) -> Result<Part, NoPart>
     }
 }
 
-/// Reads a bundle to its end, and cuts it to what the chosen partitions see. Returns the part's bundle, and the place of its entry `wanted` in the whole.
+/// Reads a bundle to its end, and cuts it to what the chosen partitions see. Returns the part's bundle, and the place
+/// of its entry `wanted` in the whole.
 ///
-/// Writers keep their numbers. The history may have any number of entries. The front, a line and the part have at most `MAX_INPUT` bytes.
+/// Writers keep their numbers. The history may have any length. The front, a line and the part have at most `MAX_INPUT`
+/// bytes.
 ///
-/// The first line at fault decides, as in `read_replay`. A longer line, and the 4,294,967,295th put or get, are `TooLarge`. A front that is not
-/// whole within `MAX_INPUT` bytes is `TooLarge(0)`.
+/// The first faulty line decides, as in `read_replay`. A longer line, and the 4,294,967,295th put or get, are
+/// `TooLarge`. A front not whole within `MAX_INPUT` bytes is `TooLarge(0)`.
 ///
 /// Keeps the front, the part and eight bytes for each put and get.
 pub fn cut_stream<R: Read + Drop>(

@@ -1,4 +1,4 @@
-//! The front of a bundle: its ring, its plan and its certificate.
+//! A bundle's front: ring, plan and certificate.
 
 ghost use Rattle.std.specs.Prelude.{◌≡◌, ◌≢◌, ℕ, List, IfOk, IfErr, Err};
 ghost use Rattle.ring_names.specs.declared.refusal.Refusal.TheVariants.{OutOfMemory};
@@ -15,7 +15,7 @@ use ring_table::{Ring, write_ring};
 use std::alloc::Global;
 use texts::Lines;
 
-/// A bundle's ring, the text of its front, and the number of the next line.
+/// A bundle's ring, its front's text, and the next line's number.
 #[derive(Drop)]
 pub struct FrontText {
     pub ring: Ring,
@@ -23,7 +23,7 @@ pub struct FrontText {
     pub line: u32,
 }
 
-/// Reads the front with which the bytes begin, whatever follows.
+/// Reads the front of the bytes, whatever follows.
 pub fn read_front(alloc: Global, bytes: &[u8]) -> Result<FrontText, Refusal>
     ensures ok { IfOk result (λ front. (value : Value) × (rest : List ℕ) × IsFront bytes.now front value rest) }
     ensures err { IfErr result (λ e. e ≢ OutOfMemory → front_at (record { line = 1; lines = lines_of bytes.now }) ≡ Err e) }

@@ -1,4 +1,4 @@
-//! Reading an input piece by piece.
+//! Reads an input piece by piece.
 
 ghost use Rattle.std.specs.Prelude.{◌≡◌, ◌<◌, ◌≤◌, ℕ, List, Option, length, IfOk, IfErr};
 ghost use Rattle.std.specs.Io.KnownBytes.{Consumes};
@@ -15,7 +15,7 @@ pub const MOST_ENTRIES: u64 = 1_000_000;
 /// The bytes of one read.
 pub const CHUNK: usize = 65_536;
 
-// Reads some bytes to the start of the chunk, and returns their number: 0 only at the input's end. Tries again after a signal.
+// Reads some bytes to the start of the chunk, and counts them: 0 only at the input's end. Tries again after a signal.
 fn read_chunk<R: Read + Drop>(input: &mut R, chunk: &mut [u8]) -> Result<usize, Refusal>
     requires { 0 < length chunk.old }
     ensures ok { IfOk result (λ n. Takes (R.remaining input.old) (R.remaining input.new) chunk.new n) }
@@ -34,7 +34,7 @@ fn read_chunk<R: Read + Drop>(input: &mut R, chunk: &mut [u8]) -> Result<usize, 
     Err(Refusal::ReadFailed)
 }
 
-/// Reads the next bytes, at most so many: none only at the input's end.
+/// Reads the next bytes, at most `most`: none only at the input's end.
 pub fn read_some<R: Read + Drop>(
     alloc: Global,
     input: &mut R,
@@ -50,7 +50,7 @@ pub fn read_some<R: Read + Drop>(
     Ok(bytes)
 }
 
-/// The first bytes of an input.
+/// An input's first bytes.
 #[derive(Drop)]
 pub struct Head {
     pub bytes: Vec<u8>,
@@ -58,7 +58,7 @@ pub struct Head {
     pub is_whole: bool,
 }
 
-/// Reads on to the first `most` bytes of an input, or to its end.
+/// Reads on to an input's first `most` bytes, or to its end.
 pub fn read_head<R: Read + Drop>(
     alloc: Global,
     bytes: Vec<u8>,

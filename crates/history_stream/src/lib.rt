@@ -1,4 +1,4 @@
-//! The part of a bundle that some partitions see, cut while the bundle is read: its history may have any number of entries.
+//! The part of a bundle that some partitions see, cut while reading: histories may have any length.
 #![tactic(auto)]
 
 mod cutter;

@@ -1,4 +1,4 @@
-//! The first bytes of an input, and their front.
+//! An input's first bytes, and their front.
 
 ghost use Rattle.std.specs.Prelude.{◌≡◌, ◌≢◌, true, ℕ, List, IfOk, IfErr, Err};
 ghost use Rattle.ring_names.specs.declared.refusal.Refusal.TheVariants.{OutOfMemory, ReadFailed};
@@ -20,7 +20,7 @@ const SHORT: usize = 1_048_576;
 
 const MIDDLE: usize = 16_777_216;
 
-/// The first bytes of an input, and their front.
+/// An input's first bytes, and their front.
 #[derive(Drop)]
 pub struct Opened {
     pub head: Head,
@@ -67,7 +67,7 @@ fn last_front(alloc: Global, head: Head) -> Result<Opened, Refusal>
     }
 }
 
-/// Reads the front of an input, and some bytes after it: few if the front is short.
+/// Reads an input's front, and some bytes after it: few if the front is short.
 pub fn open<R: Read + Drop>(alloc: Global, input: &mut R) -> Result<Opened, Refusal>
     ensures ok { IfOk result (λ opened. IsOpened (R.remaining input.old) (R.remaining input.new) opened) }
     ensures err { IfErr result (λ e. e ≢ OutOfMemory → e ≢ ReadFailed → HasNone (R.remaining input.old) (R.remaining input.new) e) }

@@ -1,22 +1,22 @@
-//! The place of a part's entry in the whole.
+//! A part's entry in the whole.
 
 ghost use Rattle.std.specs.Prelude.{ℕ, Bool, []};
 ghost use Rattle.ring_table.specs.Value.{RingValue};
 ghost use Rattle.history_stream.specs.Place.{Finds, FindsMore};
 
-/// Which entry of the whole is a wanted entry of the part.
+/// The whole's entry for a wanted entry of the part.
 #[derive(Clone, Copy, Debug)]
 pub struct Place {
-    /// The wanted entry in the part, counted from 0.
+    /// The wanted entry in the part, from 0.
     pub wanted: u32,
     /// How many entries of the whole were read.
     pub seen: u64,
-    /// The wanted entry in the whole, counted from 0, if it was read.
+    /// The wanted entry in the whole, from 0, if read.
     pub found: Option<u64>,
 }
 
 impl Place {
-    /// Returns the place before the first entry.
+    /// Starts before the first entry.
     pub fn of(wanted: u32) -> Place
         ensures { (ring : RingValue) (is_in : ℕ → Bool) → Finds ring is_in [] wanted result }
     {
@@ -27,7 +27,7 @@ impl Place {
         }
     }
 
-    /// Counts an entry of the whole. `before` entries of the part came before.
+    /// Counts an entry of the whole, after `before` entries of the part.
     pub fn count(&mut self, is_kept: bool, before: u64)
         ensures { FindsMore self.old self.new is_kept before }
     {

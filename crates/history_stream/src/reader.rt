@@ -1,4 +1,4 @@
-//! A history that is read line by line.
+//! A history read line by line.
 
 ghost use Rattle.std.specs.Prelude.{◌≡◌, ◌≢◌, ◌≤◌, ◌++◌, ℕ, true, List, codes, length, take, drop, IfOk, IfErr, OnOk, OnErr};
 ghost use Rattle.ring_names.specs.declared.refusal.Refusal.TheVariants.{OutOfMemory, TooLarge};
@@ -21,7 +21,7 @@ use ring_table::Ring;
 use std::alloc::Global;
 use texts::{Fields, both, finish};
 
-/// Which line comes next.
+/// The next line.
 #[derive(Clone, Copy, Debug, PartialEq, Eq)]
 pub enum Stage {
     /// `history 1`.
@@ -32,17 +32,17 @@ pub enum Stage {
     Over,
 }
 
-/// A history of which some lines are read. Keeps their entries until they are taken.
+/// A partly read history. Keeps entries until taken.
 #[derive(Drop)]
 pub struct Reader<'a> {
     pub ring: &'a Ring,
     pub writers: Names,
-    /// The number of the next line.
+    /// The next line's number.
     pub line: u32,
     pub stage: Stage,
-    /// How many puts and gets were started.
+    /// How many puts and gets started.
     pub started: u32,
-    /// The entries that were read and not taken.
+    /// The entries read and not taken.
     pub entries: Vec<Entry>,
 }
 
@@ -64,7 +64,6 @@ fn next_line(line: u32) -> u32
     if line < u32::MAX { line + 1 } else { line }
 }
 
-// Whether a put or a get starts.
 fn is_start(event: &Event) -> bool
     ensures { result ≡ is_start event.now }
 {
@@ -75,7 +74,7 @@ fn is_start(event: &Event) -> bool
 }
 
 impl<'a> Reader<'a> {
-    /// Returns a reader. The history's first line has that number.
+    /// Returns a reader. `line` is the first line's number.
     pub fn of(alloc: Global, ring: &'a Ring, line: u32) -> Reader<'a>
         ensures { IsFirst ring.now line result }
     {
@@ -89,7 +88,7 @@ impl<'a> Reader<'a> {
         }
     }
 
-    // Counts an event that starts a put or a get. The 4,294,967,295th is `TooLarge`.
+    // Counts a starting put or get. The 4,294,967,295th is `TooLarge`.
     fn count(&mut self, line: u32, event: &Event) -> Result<(), Refusal>
         ensures ok { OnOk result (Counts self.old self.new event.now) }
         ensures err { IfErr result (λ e. (e ≡ TooLarge line) × (4294967294 ≤ self.old.started) × (is_start event.now ≡ true)) }
@@ -160,7 +159,6 @@ impl<'a> Reader<'a> {
         Ok(())
     }
 
-    // Reads a line, without its line feed.
     fn take_line(&mut self, alloc: Global, text: &[u8]) -> Result<(), Refusal>
         ensures counted { OnOk result ((taken : ℕ) → Counted taken self.old → Counted taken self.new) }
         ensures ok { OnOk result (Takes self.old self.new (line_and text.now)) }
@@ -174,7 +172,7 @@ impl<'a> Reader<'a> {
         }
     }
 
-    /// Reads all whole lines, and returns how many bytes they have.
+    /// Reads all whole lines, and counts their bytes.
     pub fn take_lines(&mut self, alloc: Global, bytes: &[u8]) -> Result<usize, Refusal>
         ensures counted { OnOk result ((taken : ℕ) → Counted taken self.old → Counted taken self.new) }
         ensures within { IfOk result (λ taken. taken ≤ length bytes.now) }
@@ -194,7 +192,6 @@ impl<'a> Reader<'a> {
         }
     }
 
-    // Reads all whole lines, and keeps the rest.
     fn take_left(&mut self, alloc: Global, left: &mut Vec<u8>) -> Result<(), Refusal>
         ensures counted { OnOk result ((taken : ℕ) → Counted taken self.old → Counted taken self.new) }
         ensures ok { OnOk result (TakesSome self.old self.new left.old.items left.new.items) }
@@ -205,7 +202,8 @@ impl<'a> Reader<'a> {
         Ok(())
     }
 
-    /// Reads the whole lines of what is left and these bytes. A line of more than `MAX_INPUT` bytes is `TooLarge`. Keeps the entries before a fault.
+    /// Reads the whole lines of what is left and these bytes. A line of more than `MAX_INPUT` bytes is `TooLarge`.
+    /// Keeps the entries before a fault.
     pub fn take_some(
         &mut self,
         alloc: Global,
@@ -229,7 +227,7 @@ impl<'a> Reader<'a> {
         }
     }
 
-    /// Refuses a history that is not over, or has more text, as `BadLine`.
+    /// Fails with `BadLine` if the history is not over, or has more text.
     pub fn end(&self, left: &[u8]) -> Result<(), Refusal>
         requires { IsRun left.now }
         ensures { (ring : RingValue) (said : List SaidEntry) → map_ok (λ _. said) result

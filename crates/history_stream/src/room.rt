@@ -1,4 +1,4 @@
-//! Text that is kept while a replay would take it, and counted in any case.
+//! Text kept while a replay would take it, and always counted.
 
 ghost use Rattle.std.specs.Prelude.{◌≡◌, ◌≤◌, ◌-◌, ◌+◌, ◌++◌, ◌↔◌, ℕ, List, IsTrue, OnOk, length, min};
 ghost use Rattle.ring_table.specs.Value.{names_of};
@@ -14,7 +14,7 @@ use ring_names::Names;
 use ring_table::Ring;
 use std::alloc::AllocError;
 
-/// The text of a part so far, with its bytes and entries. The text is dropped if a replay would not take it.
+/// A part's text so far, with its bytes and entries. Dropped if a replay would not take it.
 #[derive(Drop)]
 pub struct PartText {
     pub text: Vec<u8>,
@@ -23,7 +23,7 @@ pub struct PartText {
 }
 
 impl PartText {
-    /// Returns this text, without entries.
+    /// Wraps the text, without entries.
     pub fn of(text: Vec<u8>) -> PartText
         ensures { Holds result text.items 0 }
     {
@@ -41,7 +41,7 @@ impl PartText {
         self.bytes <= MAX_INPUT as u64 && self.entries <= MOST_ENTRIES
     }
 
-    // Counts what was added, and drops the text if it is too long.
+    // Counts added bytes, and drops the text if too long.
     fn count(&mut self, before: usize)
         requires { before ≤ length self.old.text.items }
         ensures bytes { self.new.bytes ≡ min (self.old.bytes + (length self.old.text.items - before)) most }
@@ -64,7 +64,7 @@ impl PartText {
         Ok(())
     }
 
-    /// Adds the line of an entry.
+    /// Adds an entry's line.
     pub fn push_entry(
         &mut self,
         ring: &Ring,

@@ -19,7 +19,7 @@ fn ticket(fields: &mut Fields) -> Result<((u32, u32), u32), Refusal>
     both(both(partition, index), generation)
 }
 
-// The numbers of a row, if they have 32 bits.
+// The row's numbers, if they have 32 bits.
 fn small<'a>(fields: &Fields, row: NumberRow<'a>) -> Result<SmallRow<'a>, Refusal>
     ensures { result ≡ judge_numbers fields.now.number row.entry }
 {
@@ -36,7 +36,7 @@ fn numbers<'a>(fields: &mut Fields<'a>) -> Result<SmallRow<'a>, Refusal>
     small(fields, row)
 }
 
-/// Returns what the reply says. Takes no memory.
+/// Reads a reply's fields.
 #[tactic(auto, unfolding(crate::specs::Reading::reply_at))]
 pub fn said_reply<'a>(fields: &mut Fields<'a>) -> Result<SaidReply<'a>, Refusal>
     ensures { Does reply_at fields.old (map_ok reply_of result) fields.new }

@@ -1,4 +1,4 @@
-//! Bundles of a replay.
+//! A replay's bundles.
 
 ghost use Rattle.std.specs.Prelude.{◌≡◌, IfOk, IfErr};
 ghost use Rattle.ring_names.specs.declared.refusal.Refusal.TheVariants.{OutOfMemory};
@@ -17,7 +17,7 @@ use ring_table::Ring;
 use std::alloc::Global;
 use texts::Lines;
 
-/// A ring, a plan of it, the plan's certificate, and a history with the names of its writers, by number.
+/// A ring, a plan of it, the plan's certificate, and a history with its writers' names, by number.
 #[derive(Drop)]
 pub struct ReplayBundle {
     pub ring: Ring,
@@ -27,7 +27,7 @@ pub struct ReplayBundle {
     pub history: Vec<Entry>,
 }
 
-/// Reads a ring, a plan, its certificate and a history, and leaves what follows. The first line at fault decides.
+/// Reads a ring, a plan, its certificate and a history, and leaves the rest. The first faulty line decides.
 #[tactic(auto, unfolding(crate::specs::Replays::replay_at))]
 pub fn read_replay_section(alloc: Global, lines: &mut Lines) -> Result<ReplayBundle, Refusal>
     ensures read { Reads (map_ok parts_of result) lines.new (replay_at lines.old) }
@@ -47,13 +47,13 @@ pub fn read_replay_section(alloc: Global, lines: &mut Lines) -> Result<ReplayBun
     })
 }
 
-/// Reads a bundle for a replay: the texts of a ring, a plan, its certificate and a history. Numbers writers in order of first sight.
+/// Reads a replay's bundle: a ring, a plan, its certificate and a history. Numbers writers by first sight.
 ///
-/// The first line at fault decides, by the reader of its part. A line after the history is `BadLine`. `OutOfMemory` comes only after four lines.
+/// The first faulty line decides, by its part's reader. A line after the history is `BadLine`. `OutOfMemory` comes only
+/// after four lines.
 pub fn read_replay(alloc: Global, bytes: &[u8]) -> Result<ReplayBundle, Refusal>
     ensures read { Gives (map_ok parts_of result) (whole_text replay_at bytes.now) }
     ensures parts { IfOk result IsReplay }
-    // Memory may run out only if the first four lines have no fault.
     ensures late { IfErr result (λ e. e ≡ OutOfMemory → NoFaultBefore 5 (whole_text replay_at bytes.now)) }
 {
     let mut lines = Lines::of(bytes);

@@ -1,4 +1,4 @@
-//! The writers and nodes that a history names.
+//! A history's writers and nodes.
 
 ghost use Rattle.std.specs.Prelude.{◌↔◌, IsTrue, length};
 ghost use Rattle.script_text.specs.Valid.{IsKnown};

@@ -1,4 +1,4 @@
-//! The texts of histories: what happened to a store, and what it answered.
+//! Texts of histories: events and replies.
 #![tactic(auto)]
 
 mod answers;

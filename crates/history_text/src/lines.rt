@@ -1,4 +1,4 @@
-//! The line of an entry.
+//! An entry's line.
 
 ghost use Rattle.std.specs.Prelude.{◌≡◌, ◌<◌, ◌+◌, ◌++◌, ◌∷◌, [], length, IfOk, IfErr, OnOk};
 ghost use Rattle.ring_names.specs.declared.refusal.Refusal.TheVariants.{OutOfMemory};
@@ -17,7 +17,7 @@ use script_text::{SaidEvent, keep_event, said_event};
 use std::alloc::Global;
 use texts::{Fields, both, finish, need};
 
-// What the fields before the sign say.
+// Reads the fields before the sign.
 fn event_part<'a>(
     ring: &Ring,
     names: &Names,
@@ -32,7 +32,7 @@ fn event_part<'a>(
     Ok(said)
 }
 
-// What the fields after the sign say, if there is one.
+// Reads the fields after the sign.
 fn reply_part<'a>(line: u32, fields: Option<Fields<'a>>) -> Result<SaidReply<'a>, Refusal>
     ensures { map_ok reply_of result ≡ reply_line line fields.entry }
 {
@@ -60,7 +60,7 @@ fn judge_line<'a>(
     both(event, reply)
 }
 
-/// Returns what an entry's line says. Takes no memory.
+/// Reads an entry's line.
 pub fn entry_line<'a>(
     ring: &Ring,
     names: &Names,
@@ -76,7 +76,7 @@ pub fn entry_line<'a>(
     judge_line(ring, names, history, fields)
 }
 
-/// Returns the entry of a line that was read, and adds a new writer. Its only refusal is `OutOfMemory`, and the writer may be added all the same.
+/// Returns a read line's entry, and adds a new writer, perhaps also if it fails.
 pub fn keep_entry(
     alloc: Global,
     names: &mut Names,
@@ -93,7 +93,7 @@ pub fn keep_entry(
     Ok(Entry { event, reply })
 }
 
-/// Adds the entry of a line that was read.
+/// Adds a read line's entry.
 pub fn add(
     alloc: Global,
     names: &mut Names,

@@ -1,4 +1,4 @@
-//! Taking an entry from the front of a text, if its line is spelled plainly.
+//! Reads plainly spelled entries.
 
 ghost use Rattle.std.specs.Prelude.{◌≡◌, ◌<◌, ◌≤◌, ◌+◌, ◌++◌, ◌∷◌, [], List, ℕ, map, length, true, false, IfSome, IfNone};
 ghost use Rattle.std.specs.Fmt.{decimal};
@@ -18,7 +18,7 @@ use script_text::{plain_event, plain_pair};
 use std::alloc::Global;
 use texts::{Lines, after_word, plain_number, plain_numbers};
 
-// Takes numbers, each after a space, and returns the text after them.
+// Takes numbers, each after a space, and returns the rest.
 #[inline(always)]
 fn plain_counts<'a>(text: &'a [u8], out: &mut Vec<u32>) -> Option<&'a [u8]>
     ensures text { IfSome result (λ rest. text.now ≡ spaced (map decimal out.new.items) ++ rest.now) }
@@ -28,7 +28,7 @@ fn plain_counts<'a>(text: &'a [u8], out: &mut Vec<u32>) -> Option<&'a [u8]>
     Some(rest)
 }
 
-// The puts that a read or a get names, and the text after them.
+// Reads the puts of a read or a get, and returns the rest.
 fn plain_puts(alloc: Global, text: &[u8]) -> Option<(Listed<u32>, &[u8])>
     ensures text { IfSome result (λ x. text.now ≡ spaced (map decimal x.0) ++ x.1.now) }
     ensures counts { IfSome result (λ x. AllByRecursion IsCount x.0) }
@@ -38,7 +38,7 @@ fn plain_puts(alloc: Global, text: &[u8]) -> Option<(Listed<u32>, &[u8])>
     Some((Listed::from_vec(puts), rest))
 }
 
-// A reply that does not start a put or a get, and the text after it.
+// Reads a reply that does not start a put or a get, and returns the rest.
 #[inline(always)]
 fn plain_reply(alloc: Global, text: &[u8]) -> Option<(Reply, &[u8])>
     ensures text { IfSome result (λ x. text.now ≡ reply_text x.0 ++ x.1.now) }
@@ -62,7 +62,7 @@ fn plain_reply(alloc: Global, text: &[u8]) -> Option<(Reply, &[u8])>
     Some((Reply::Answer(puts), rest))
 }
 
-// Adds the entry of the next line, if the line is spelled plainly, and returns the text after the line.
+// Adds the next line's entry, if plainly spelled. Returns the rest.
 #[inline(always)]
 fn add_plain<'a>(alloc: Global, history: &mut Vec<Entry>, text: &'a [u8]) -> Option<&'a [u8]>
     ensures taken { IfSome result (λ rest. (x : Entry) × (length history.old.items < 1000000) × (history.new.items ≡ history.old.items ++ x ∷ [])
@@ -82,7 +82,7 @@ fn add_plain<'a>(alloc: Global, history: &mut Vec<Entry>, text: &'a [u8]) -> Opt
     }
 }
 
-/// Takes the next line and adds its entry, if the line is spelled plainly and there is memory.
+/// Adds the next line's entry, if plainly spelled and memory suffices.
 #[inline(always)]
 pub fn take_plain(alloc: Global, history: &mut Vec<Entry>, lines: &mut Lines) -> bool
     ensures read { result ≡ true → (ring : RingValue) (names : List (List ℕ)) → entries_from ring history.new.items names lines.new.line lines.new.lines

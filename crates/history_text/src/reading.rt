@@ -1,4 +1,4 @@
-//! Reading a history.
+//! Reads a history.
 
 ghost use Rattle.std.specs.Prelude.{◌≡◌, ◌≤◌, List, ℕ, [], length, Ok, IfOk, IfErr, OnOk};
 ghost use Rattle.ring_names.specs.declared.refusal.Refusal.TheVariants.{OutOfMemory};
@@ -19,7 +19,6 @@ use ring_table::Ring;
 use std::alloc::Global;
 use texts::{Lines, end, header};
 
-// Reads entries up to a line that begins with `end`.
 fn read_into(
     alloc: Global,
     ring: &Ring,
@@ -80,8 +79,8 @@ fn read_parts(
     Ok(history)
 }
 
-/// Reads a history up to its line `end`, and leaves what follows. Adds new writers after those that were seen, some also if it is refused.
-/// Refusals are those of `read_history`.
+/// Reads a history up to its line `end`, and leaves the rest. Adds new writers after those seen, perhaps also if it
+/// fails. Fails as `read_history`.
 pub fn read_history_section(
     alloc: Global,
     ring: &Ring,
@@ -92,16 +91,14 @@ pub fn read_history_section(
         (history_at ring.now writers.old lines.old) }
     ensures found { IfOk result (λ h. AreWriters writers.old → IsHistoryOf ring.now writers.old writers.new h.items) }
     ensures few { IfOk result (λ h. length h.items ≤ 1000000) }
-    // Memory may run out only after the first two lines, and after lines without a fault.
     ensures late { Late 2 result lines.old lines.new (history_at ring.now writers.old lines.old) }
 {
-    // A ring is valid, which the prover knows once a number of it is read.
+    // Proves the ring valid.
     let slots = ring.n();
     prove!(slots <= 7);
     read_parts(alloc, ring, writers, lines)
 }
 
-// Reads a history from its whole text.
 fn read_whole(
     alloc: Global,
     ring: &Ring,
@@ -119,13 +116,16 @@ fn read_whole(
     Ok(history)
 }
 
-/// Reads a history from its whole text. Numbers new writers in order of first sight, some also if the text is refused.
+/// Reads a history from its whole text. Numbers new writers by first sight, perhaps also if it fails.
 ///
-/// A wrong line is `BadLine`, also one without ` = ` or with fields after its reply. A node that the ring does not declare is `UnknownNode`.
+/// A wrong line is `BadLine`, also without ` = ` or with fields after its reply. A node that the ring lacks is
+/// `UnknownNode`.
 ///
-/// A number above 4,294,967,295, an entry after 1,000,000, a writer after 1,024 and more than 16 gets of a put are `TooLarge`.
+/// A number above 4,294,967,295, an entry after 1,000,000, a writer after 1,024 and more than 16 gets of a put are
+/// `TooLarge`.
 ///
-/// The first line at fault decides, and in this line the least number: 1 `BadLine`, 2 `TooLarge`, 3 `UnknownNode`. `OutOfMemory` comes last.
+/// The first faulty line decides, and its least number: 1 `BadLine`, 2 `TooLarge`, 3 `UnknownNode`. `OutOfMemory` comes
+/// last, after two lines.
 pub fn read_history(
     alloc: Global,
     ring: &Ring,
@@ -134,17 +134,15 @@ pub fn read_history(
 ) -> Result<Vec<Entry>, Refusal>
     ensures found { IfOk result (λ h. AreWriters writers.old → IsHistoryOf ring.now writers.old writers.new h.items
         × (text.now ≡ history_text ring.now writers.new h.items)) }
-    // Each history over the ring is read from its text, unless memory runs out.
     ensures only { (h : List Entry) (names : List (List ℕ)) → IsHistoryOf ring.now writers.old names h
         → text.now ≡ history_text ring.now names h
         → Gives {A = List Entry × List (List ℕ)} (map_ok (λ h. (h.items, writers.new)) result) (Ok (h, names)) }
     ensures exact { Gives (map_ok (λ h. (h.items, writers.new)) result)
         (history_reading ring.now writers.old text.now) }
-    // Memory may run out only if the first two lines have no fault.
     ensures late { IfErr result
         (λ e. e ≡ OutOfMemory → NoFaultBefore 3 (history_reading ring.now writers.old text.now)) }
 {
-    // A ring is valid, which the prover knows once a number of it is read.
+    // Proves the ring valid.
     let slots = ring.n();
     prove!(slots <= 7);
     read_whole(alloc, ring, writers, text)

@@ -1,4 +1,4 @@
-//! What a reply's fields say, before anything is kept of it.
+//! What a reply's fields say, still text.
 
 ghost use Rattle.std.specs.Prelude.{◌≡◌, true, IfOk, IfErr};
 ghost use Rattle.ring_names.specs.declared.refusal.Refusal.TheVariants.{OutOfMemory};
@@ -29,7 +29,7 @@ impl<'a> Model for SmallRow<'a> {
 }
 
 impl<'a> SmallRow<'a> {
-    /// Returns these numbers.
+    /// Wraps the numbers.
     pub fn of(row: NumberRow<'a>) -> SmallRow<'a>
         requires { are_small row ≡ true }
         ensures { result ≡ row.entry }
@@ -37,7 +37,7 @@ impl<'a> SmallRow<'a> {
         SmallRow { row }
     }
 
-    /// Returns the numbers in memory of their own.
+    /// Returns the numbers in owned memory.
     pub fn to_listed(&self, alloc: Global) -> Result<Listed<u32>, Refusal>
         ensures ok { IfOk result (λ numbers. numbers ≡ self.now) }
         ensures memory { IfErr result (λ e. e ≡ OutOfMemory) }
@@ -47,7 +47,7 @@ impl<'a> SmallRow<'a> {
     }
 }
 
-/// A reply that takes no memory of its own.
+/// A reply without memory of its own.
 #[derive(Drop)]
 pub enum SaidReply<'a> {
     Plain,
@@ -59,7 +59,7 @@ pub enum SaidReply<'a> {
 }
 
 impl<'a> SaidReply<'a> {
-    /// Returns the reply in memory of its own.
+    /// Returns the reply in owned memory.
     pub fn to_reply(&self, alloc: Global) -> Result<Reply, Refusal>
         ensures ok { IfOk result (λ reply. reply ≡ reply_of self.now) }
         ensures memory { IfErr result (λ e. e ≡ OutOfMemory) }

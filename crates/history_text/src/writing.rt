@@ -1,4 +1,4 @@
-//! Writing a history.
+//! Writes a history.
 
 ghost use Rattle.std.specs.Prelude.{◌≡◌, ◌≤◌, ◌++◌, length, OnOk};
 ghost use Rattle.std.specs.List.{flat_map};
@@ -13,7 +13,7 @@ use ring_table::Ring;
 use script_text::push_event;
 use std::alloc::AllocError;
 
-/// Adds the line of an entry.
+/// Adds an entry's line.
 pub fn push_entry(
     out: &mut Vec<u8>,
     ring: &Ring,

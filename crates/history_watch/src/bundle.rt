@@ -10,7 +10,7 @@ use ring_script::{Kind, read_bundle};
 use std::alloc::Global;
 use std::io::{Read, Write};
 
-/// Judges a history by the plan of a bundle, as `watch_history` does. A text or a plan that is refused is refused as by `check`, before anything is read.
+/// Judges a history by a bundle's plan, as `watch_history`. First refuses texts or plans as `check`, before reading.
 pub fn watch_bundle<R: Read + Drop, W: Write>(
     alloc: Global,
     bytes: &[u8],
@@ -32,7 +32,7 @@ pub fn watch_bundle<R: Read + Drop, W: Write>(
     }
 }
 
-/// Begins a judge by the plan of a bundle. A text or a plan that is refused is refused as by `check`.
+/// Begins a judge by a bundle's plan. Refuses a text or a plan as `check`.
 pub fn start_judge(alloc: Global, bytes: &[u8]) -> Result<Judge, Refusal>
     ensures { StartsJudge bytes.now result }
 {

@@ -1,4 +1,4 @@
-//! A judge that borrows nothing: a watch that rests between calls.
+//! A judge that borrows nothing: a watch at rest between calls.
 
 ghost use Rattle.std.specs.Prelude.{◌≡◌, ◌≢◌, ◌≤◌, ◌++◌, ◌↔◌, ℕ, List, [], IsTrue, IfOk, IfErr, OnOk};
 ghost use Rattle.ring_names.specs.declared.refusal.Refusal.{Refusal as TheRefusal};
@@ -16,7 +16,7 @@ use ring_names::Refusal;
 use std::alloc::Global;
 use std::mem::replace;
 
-/// A judge of a history of which some bytes have come. It owns its plan, and stays refused after a refusal.
+/// A judge of a partly read history. It owns its plan, and stays refused after a refusal.
 pub struct Judge {
     approved: Approved,
     state: State,
@@ -24,7 +24,7 @@ pub struct Judge {
     ghost ready: { IsReadyState approved.ring approved.plan count state } by { Prim.hlevel props },
 }
 
-// Dropped by a call, so that no crate above goes through all that a judge keeps.
+// So crates above need not check the parts.
 impl Drop for Judge {
     fn drop(self) {
         let Judge {
@@ -40,7 +40,7 @@ impl Drop for Judge {
 impl Judge {
     ghost use Rattle.history_watch.specs.Judging.{IsJudging, IsOver, HasRefused, IsUnchanged};
 
-    /// Begins a judge before the first byte of a history.
+    /// Starts before a history's first byte.
     pub fn start(alloc: Global, approved: Approved) -> Result<Judge, Refusal>
         ensures ok { IfOk result (λ j. IsJudging approved.ring approved.plan [] j) }
         ensures first { IfOk result (λ j. j.count ≡ 0) }
@@ -54,21 +54,22 @@ impl Judge {
         })
     }
 
-    /// Returns how many entries were followed.
+    /// Counts the entries followed.
     pub fn count(&self) -> u32
         ensures { result ≡ self.now.count }
     {
         self.count
     }
 
-    /// Returns whether the line `end` has come.
+    /// Whether the line `end` has come.
     pub fn is_over(&self) -> bool
         ensures { IsTrue result ↔ IsOver self.now }
     {
         self.state.is_over()
     }
 
-    /// Takes the next bytes, which may end anywhere. Bytes after the line `end` are left out. A refused judge answers its refusal again.
+    /// Takes the next bytes, which may end anywhere. Ignores bytes after the line `end`. A refused judge repeats its
+    /// refusal.
     pub fn take(&mut self, alloc: Global, bytes: &[u8]) -> Result<(), Refusal>
         ensures ok { OnOk result ((ring : RingValue) (plan : List Planned) (before : List ℕ) → IsJudging ring plan before self.old → IsJudging ring plan (before ++ bytes.now) self.new) }
         ensures err { IfErr result (λ e. e ≢ OutOfMemory → (ring : RingValue) (plan : List Planned) (before : List ℕ) → IsJudging ring plan before self.old → IsRefused ring plan (before ++ bytes.now) e) }
@@ -92,7 +93,7 @@ impl Judge {
         }
     }
 
-    /// Returns what a replay prints if no more bytes come. The judge stays as it was, and may take more.
+    /// Returns what a replay prints if no more bytes come. The judge may take more.
     pub fn end(&mut self, alloc: Global) -> Result<Vec<u8>, Refusal>
         ensures ok { IfOk result (λ text. (ring : RingValue) (plan : List Planned) (bytes : List ℕ) (so : IsJudging ring plan bytes self.old) → IsAnswer ring plan bytes so.watch so.is.said text.items) }
         ensures err { IfErr result (λ e. e ≢ OutOfMemory → (ring : RingValue) (plan : List Planned) (bytes : List ℕ) → IsJudging ring plan bytes self.old → IsCutOff ring plan bytes e) }

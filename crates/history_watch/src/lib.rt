@@ -1,4 +1,4 @@
-//! A history that is judged while it grows: each entry is followed as soon as its line has come.
+//! Judges a growing history: each entry is followed as soon as its line has come.
 #![tactic(auto)]
 
 mod bundle;

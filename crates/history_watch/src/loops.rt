@@ -1,4 +1,4 @@
-//! Judging a history while it is read.
+//! Judges a history while reading it.
 
 ghost use Rattle.std.specs.Prelude.{◌≡◌, ◌≤◌, ◌++◌, ℕ, List, IfOk, IfErr, OnOk, OnErr};
 ghost use Rattle.std.specs.Io.KnownBytes.{Appends};
@@ -16,14 +16,12 @@ use ringplan_jobs::write_all;
 use std::alloc::{AllocError, Global};
 use std::io::{Read, Write};
 
-// Whether a line is printed after so many entries.
 fn is_shown(every: u32, count: u32) -> bool
     ensures { result ≡ is_shown every count }
 {
     every > 0 && count % every == 0
 }
 
-// The line that is printed after so many entries.
 fn so_far_line(alloc: Global, count: u32) -> Result<Vec<u8>, AllocError>
     ensures { IfOk result (λ line. line.items ≡ so_far_line count) }
 {
@@ -33,7 +31,6 @@ fn so_far_line(alloc: Global, count: u32) -> Result<Vec<u8>, AllocError>
     Ok(line)
 }
 
-// Prints the line after so many entries, if there is one.
 fn show<W: Write>(alloc: Global, output: &mut W, every: u32, count: u32) -> Result<(), Refusal>
     ensures ok { OnOk result (Appends (W.contents output.old) (W.contents output.new) (shown_at every count)) }
     ensures part { OnErr result (AppendsPart (W.contents output.old) (W.contents output.new) (shown_at every count)) }
@@ -46,7 +43,7 @@ fn show<W: Write>(alloc: Global, output: &mut W, every: u32, count: u32) -> Resu
     Ok(())
 }
 
-// Prints the lines after each of the entries that were judged since there were `before`.
+// Prints the lines after each entry judged since `before`.
 fn show_all<W: Write>(
     alloc: Global,
     output: &mut W,
@@ -90,8 +87,9 @@ fn watch_some<W: Write>(
     taken
 }
 
-/// Judges a history while it is read, to its line `end`, to the first entry or line that is refused, or to the input's end. The text is what a replay of
-/// the history prints. After each `every` entries, unless that is 0, a line of their number is printed at once. No byte is read once the answer is known.
+/// Judges a history while reading it: to its line `end`, to the first refused entry or line, or to the input's end.
+/// Returns what a replay prints. After each `every` entries, unless 0, prints a line of their number at once. Reads no
+/// byte once the answer is known.
 pub fn watch_history<R: Read + Drop, W: Write>(
     alloc: Global,
     approved: &Approved,

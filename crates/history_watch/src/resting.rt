@@ -1,4 +1,4 @@
-//! A watch at rest: what it keeps, apart from the plan that it borrows.
+//! A watch at rest, without its borrowed plan.
 
 ghost use Rattle.std.specs.Prelude.{◌≡◌, ◌≢◌, ◌≤◌, ◌++◌, ◌↔◌, ℕ, List, IsTrue, IfOk, IfErr, OnOk};
 ghost use Rattle.ring_names.specs.declared.refusal.Refusal.TheVariants.{OutOfMemory};
@@ -17,15 +17,15 @@ use ring_core::{Rest, World};
 use ring_names::{Names, Refusal};
 use std::alloc::Global;
 
-/// What a watch keeps while it rests.
+/// A watch at rest.
 #[derive(Drop)]
 pub struct Paused {
     pub rest: Rest,
     pub writers: Names,
-    /// The number of the next line.
+    /// The next line's number.
     pub line: u32,
     pub stage: Stage,
-    /// How many puts and gets were started.
+    /// How many puts and gets started.
     pub started: u32,
     /// The start of a line.
     pub left: Vec<u8>,
@@ -41,7 +41,7 @@ pub enum State {
 }
 
 impl State {
-    /// Returns the refusal, if there is one.
+    /// Returns the refusal, if any.
     pub(crate) fn answer(&self) -> Result<(), Refusal>
         ensures { result ≡ answer_in self.now }
     {
@@ -51,7 +51,7 @@ impl State {
         }
     }
 
-    /// Returns whether the line `end` has come.
+    /// Whether the line `end` has come.
     pub(crate) fn is_over(&self) -> bool
         ensures { IsTrue result ↔ IsOverAt self.now }
     {
@@ -63,7 +63,6 @@ impl State {
 }
 
 impl Paused {
-    // Whether the line `end` has come.
     fn is_over(&self) -> bool
         ensures { IsTrue result ↔ (self.now.stage ≡ Over) }
     {
@@ -145,7 +144,7 @@ impl<'a> Watch<'a> {
     }
 }
 
-/// What comes of bytes.
+/// The effect of bytes.
 #[derive(Drop)]
 pub(crate) struct Taken {
     pub(crate) state: State,
@@ -182,7 +181,7 @@ pub(crate) fn take_more(
     }
 }
 
-/// What a watch answers at the end, and the watch at rest.
+/// A watch's answer at the end, and the watch at rest.
 #[derive(Drop)]
 pub(crate) struct Ended {
     pub(crate) paused: Paused,

@@ -1,4 +1,4 @@
-//! The state of a judge.
+//! A judge's state.
 
 ghost use Rattle.std.specs.Prelude.{◌≡◌, ◌≢◌, ◌≤◌, ◌+◌, ◌++◌, ◌↔◌, ℕ, List, [], IsTrue, length, IfOk, IfErr, OnOk};
 ghost use Rattle.ring_names.specs.declared.refusal.Refusal.TheVariants.{OutOfMemory};
@@ -19,10 +19,10 @@ use ring_script::write_ending;
 use ring_table::Ring;
 use std::alloc::Global;
 
-// The most entries that are counted.
+// The most entries counted.
 const MOST: u32 = u32::MAX - 1;
 
-/// A judge of a history of which some bytes have come: a store that follows each entry as soon as its line is whole.
+/// A judge of a partly read history: a store that follows each entry as soon as its line is whole.
 #[derive(Drop)]
 pub struct Watch<'a> {
     pub ring: &'a Ring,
@@ -34,7 +34,6 @@ pub struct Watch<'a> {
     pub count: u32,
 }
 
-// Whether memory ran out.
 fn is_memory(refusal: &Refusal) -> bool
     ensures { IsTrue result ↔ (refusal.now ≡ OutOfMemory) }
 {
@@ -69,7 +68,7 @@ fn follow_all(
 }
 
 impl<'a> Watch<'a> {
-    /// A judge before the first byte of a history.
+    /// Starts before a history's first byte.
     pub fn start(alloc: Global, approved: &'a Approved) -> Result<Watch<'a>, Refusal>
         ensures ok { IfOk result (λ w. IsWatching approved.now.ring approved.now.plan [] w) }
         ensures room { IfOk result HasRoom }
@@ -85,7 +84,7 @@ impl<'a> Watch<'a> {
         })
     }
 
-    /// How many entries were followed.
+    /// Counts the entries followed.
     pub fn count(&self) -> u32
         ensures { result ≡ self.now.count }
     {
@@ -102,7 +101,7 @@ impl<'a> Watch<'a> {
         }
     }
 
-    // Follows the entries that the reader kept, and takes them.
+    // Follows the reader's entries, and takes them.
     fn follow_kept(&mut self) -> Result<(), Refusal>
         requires puts { put_count self.old.world ≤ self.old.count }
         requires gets { get_count self.old.world ≤ self.old.count }
@@ -122,7 +121,7 @@ impl<'a> Watch<'a> {
         Ok(())
     }
 
-    /// Takes the next bytes of the history, which may end anywhere. If the line `end` has come, the bytes after it are left out.
+    /// Takes the history's next bytes, which may end anywhere. Ignores bytes after the line `end`.
     pub fn take(&mut self, alloc: Global, bytes: &[u8]) -> Result<(), Refusal>
         requires { HasRoom self.old }
         ensures room { OnOk result (HasRoom self.new) }
@@ -149,7 +148,7 @@ impl<'a> Watch<'a> {
         }
     }
 
-    /// What a replay of the history prints, if no more bytes come. A history may stop after any whole line but the first.
+    /// Returns what a replay prints if no more bytes come. A history may stop after any whole line but the first.
     pub fn end(&self, alloc: Global) -> Result<Vec<u8>, Refusal>
         requires { HasRoom self.now }
         ensures ok { IfOk result (λ text. (ring : RingValue) (plan : List Planned) (bytes : List ℕ) (so : IsWatching ring plan bytes self.now) → IsAnswer ring plan bytes self.now so.said text.items) }
@@ -162,7 +161,6 @@ impl<'a> Watch<'a> {
         Err(Refusal::BadLine(self.reader.line))
     }
 
-    // Whether the history may stop here.
     fn is_whole(&self) -> bool
         ensures { result ≡ is_whole self.now.reader.stage self.now.left.items }
     {

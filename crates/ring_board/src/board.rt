@@ -18,10 +18,10 @@ use std::marker::Model;
 /// The most workers of a board.
 pub const MAX_WORKERS: u32 = 65;
 
-// The word of a step finished by worker w is this plus w.
+// A step finished by worker w has this plus w as word.
 const FINISHED: u64 = 128;
 
-/// The steps of a plan, each free, claimed or finished. Takes 8 bytes a step. Threads share it by `&`.
+/// A plan's steps, each free, claimed or finished. Takes 8 bytes a step. Threads share it by `&`.
 #[derive(Drop)]
 pub struct Board {
     pub(crate) alloc: Global,
@@ -42,7 +42,7 @@ impl Model for Board {
 }
 
 impl Board {
-    /// A board of free steps, and its first seat, which belongs to no worker and makes the workers' seats.
+    /// A board of free steps, and its first seat, which has no worker and makes the workers' seats.
     pub fn new(alloc: Global, steps: u32, workers: u32) -> Result<(Board, Seat), Refusal>
         requires { workers ≤ 65 }
         ensures board { IfOk result (λ r. (r.0.steps ≡ steps) × (r.0.workers ≡ workers)) }
@@ -51,27 +51,27 @@ impl Board {
     {
         let size = Size { steps, workers };
         let words = vec![in alloc; 0u64; steps as usize + 1]?;
-        // One empty slot for each worker: by their number, a seat proves that its worker is the board's.
+        // One empty slot for each worker: the number proves that a seat's worker is the board's.
         let (table, seat) = Table::vacant(alloc, words.as_slice(), workers as usize, &size)?;
         let seat = Seat { seat, worker: None };
         Ok((Board { alloc, table, size }, seat))
     }
 
-    /// Returns the number of steps.
+    /// Counts the steps.
     pub fn steps(&self) -> u32
         ensures { result ≡ self.now.steps }
     {
         self.size.steps
     }
 
-    /// Returns the number of workers.
+    /// Counts the workers.
     pub fn workers(&self) -> u32
         ensures { result ≡ self.now.workers }
     {
         self.size.workers
     }
 
-    /// Makes a seat for the worker, with half of the other seat's share of the board. Takes no memory, and never fails.
+    /// Makes the worker's seat, with half of the other seat's share of the board. Takes no memory.
     pub fn seat(&self, seat: &mut Seat, worker: u32) -> Result<Seat, Refusal>
         requires board { seat.old.board ≡ self.now.id }
         requires worker { worker < self.now.workers }
@@ -112,7 +112,7 @@ impl Board {
         }
     }
 
-    /// Frees a step that the seat holds.
+    /// Frees a held step.
     pub fn give_back(&self, seat: &mut Seat, step: u32)
         requires board { seat.old.board ≡ self.now.id }
         requires step { step < self.now.steps }
@@ -125,7 +125,7 @@ impl Board {
             .store::<GivingBack>(&mut seat.seat, place, 0);
     }
 
-    /// Marks a step that the seat holds as finished, for good.
+    /// Marks a held step as finished, for good.
     pub fn mark_done(&self, seat: &mut Seat, step: u32)
         requires board { seat.old.board ≡ self.now.id }
         requires step { step < self.now.steps }

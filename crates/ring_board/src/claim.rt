@@ -1,10 +1,10 @@
-//! The result of a claim.
+//! A claim's result.
 
-/// The result of a claim.
+/// A claim's result.
 #[derive(Clone, Copy, Debug, PartialEq, Eq)]
 pub enum Claim {
-    /// The step was free, and is now the seat's.
+    /// The step was free, and is now held.
     Won,
-    /// The step was claimed or finished before. The value is its word.
+    /// The step was claimed or finished before; its word.
     Taken(u64),
 }

@@ -16,7 +16,7 @@ use atomic_table::{Closed, Seat as TableSeat, Shared};
 use ring_names::Refusal;
 use std::alloc::Global;
 
-// A seat that knows all that the seats knew.
+// A seat with the knowledge of all seats.
 fn join(
     shared: &Shared<Option<()>, View, Size, Rule>,
     mut seats: Vec<Seat>,
@@ -73,7 +73,7 @@ fn free(mut closed: Closed<Option<()>, Global>)
 }
 
 impl Board {
-    /// Returns the words of the steps, in order. Fails if memory runs out.
+    /// Returns the steps' words, in order.
     pub fn close(self, seats: Vec<Seat>) -> Result<Vec<u64>, Refusal>
         requires some { 0 < vec_len seats }
         requires boards { All (λ s. s.board ≡ self.id) seats.items }
@@ -94,7 +94,7 @@ impl Board {
         words
     }
 
-    /// Closes the board as `close` does, with its words in a value that nothing else makes. Fails if memory runs out.
+    /// Closes the board as `close`, with its words in a value that nothing else makes.
     pub fn end(self, seats: Vec<Seat>) -> Result<ClosedBoard, Refusal>
         requires some { 0 < vec_len seats }
         requires boards { All (λ s. s.board ≡ self.id) seats.items }

@@ -4,7 +4,7 @@ ghost use Rattle.std.specs.Prelude.{◌≡◌, List, ℕ};
 
 use std::marker::Model;
 
-/// The words of a closed board's steps, in order. Only `Board::end` makes them.
+/// A closed board's words, in the order of steps. Only `Board::end` makes it.
 #[derive(Debug, Drop)]
 pub struct ClosedBoard {
     pub(crate) words: Vec<u64>,

@@ -1,6 +1,5 @@
-//! The lock-free board on which workers claim the steps of a plan. Each step has an atomic word: 0 if free, `w + 1` if
-//! worker `w` has claimed it, `128 + w` if worker `w` has finished it. A worker uses its own seat, which knows what it
-//! holds, finished, and saw finished.
+//! The lock-free board on which workers claim a plan's steps. Each step has an atomic word: 0 if free, `w + 1` if
+//! claimed by worker `w`, `128 + w` if finished. A worker's seat knows what it holds, finished, and saw finished.
 #![tactic(auto)]
 
 mod board;

@@ -6,7 +6,7 @@ use crate::view::View;
 use atomic_table::Seat as TableSeat;
 use std::marker::Model;
 
-/// What one thread knows of a board's steps, with the right to change the held ones. One thread has it at a time.
+/// A thread's knowledge of a board's steps, with the right to change the held ones. One thread has it at a time.
 #[derive(Drop)]
 pub struct Seat {
     pub(crate) seat: TableSeat<Option<()>, View>,
@@ -26,7 +26,7 @@ impl Model for Seat {
 }
 
 impl Seat {
-    /// Returns the worker of the seat, if any.
+    /// Returns the seat's worker.
     pub fn worker(&self) -> Option<u32>
         ensures { result ≡ self.now.worker }
     {

@@ -1,9 +1,9 @@
-//! What seats know, for proofs only, and how it relates to the words.
+//! The seats' knowledge, for proofs only, and its relation to the words.
 
 use atomic_table::{Join, Play, Split, TableRule};
 use std::collections::LinkedList;
 
-/// The numbers of steps and workers of a board.
+/// A board's numbers of steps and workers.
 #[derive(Clone, Copy)]
 pub struct Size {
     pub steps: u32,
@@ -16,7 +16,7 @@ pub struct Mark {
     pub worker: u32,
 }
 
-/// A step, and its word as read by a lost claim.
+/// A step, and its word read by a lost claim.
 pub struct Sight {
     pub step: u32,
     pub word: u64,
@@ -24,7 +24,7 @@ pub struct Sight {
 
 /// What a seat holds, finished, knows to be done, and read by lost claims; and its parts.
 ///
-/// Part e is one of 2^e equal ones. All seats together have the board once.
+/// Part e is one of 2^e equal parts. All seats together have the board once.
 pub struct View {
     pub held: LinkedList<Mark>,
     pub finished: LinkedList<Mark>,

@@ -1,4 +1,4 @@
-//! Checks that lists of receipts are those of a drive.
+//! Checks that lists of receipts are a drive's.
 
 ghost use Rattle.std.specs.Prelude.{◌≡◌, ◌↔◌, ◌+◌, ◌<◌, ◌≤◌, ℕ, [], true, length, slice_index_or, IfOk, IfErr, IsTrue};
 ghost use Rattle.std.specs.List.{list_all};
@@ -51,7 +51,7 @@ fn are_clients(
     Ok(true)
 }
 
-// The parts of a drive: the plan's steps, the clients' scripts, and the number of workers.
+// A drive's plan, clients' scripts, and number of workers.
 #[derive(Clone, Copy)]
 struct Cast<'a> {
     steps: u32,
@@ -59,7 +59,7 @@ struct Cast<'a> {
     workers: u32,
 }
 
-// Whether the lists are those of a drive, with `front` lists before the workers'.
+// Whether the lists are a drive's, with `front` lists before the workers'.
 fn agrees_behind(
     alloc: Global,
     cast: &Cast,
@@ -83,13 +83,13 @@ fn agrees_behind(
     Ok(interleaved && finished && served && worked && handed && all)
 }
 
-/// Whether a drive's threads have these lists of receipts, and the history interleaves them. Each step's
-/// finisher must be the worker whose list has its `do` or `close`.
+/// Whether a drive's threads have these receipts, and the history interleaves them. Each step's finisher must be the
+/// worker whose list has its `do` or `close`.
 ///
-/// The last lists are the workers', with events of steps only, then the clients', with a block for each line,
-/// and that of handoffs.
+/// The last lists are the workers', with events of steps only, the clients', with a block for each line, and the
+/// handoffs'.
 ///
-/// Takes a byte for each entry and step, and the keys of a script's gets. Fails only with `OutOfMemory`.
+/// Takes a byte for each entry and step, and the keys of a script's gets.
 pub fn agrees(
     alloc: Global,
     approved: &Approved,

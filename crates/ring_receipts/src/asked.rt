@@ -1,8 +1,8 @@
-//! The gets of a script.
+//! A script's gets.
 
 use plan_runs::Key;
 
-/// A get of a script: the number in the history, the key, and whether it ended.
+/// A script's get: number in the history, key, and whether ended.
 #[derive(Debug, Drop)]
 pub struct Asked {
     pub number: u32,

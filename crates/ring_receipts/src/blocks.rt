@@ -1,4 +1,4 @@
-//! The block of a script's line, which a list of receipts begins with.
+//! The block of a script's line, which begins receipts.
 
 ghost use Rattle.std.specs.Prelude.{◌≡◌, List, true, IfOk, IfErr, IfSome, IfNone};
 ghost use Rattle.ring_names.specs.declared.refusal.Refusal.TheVariants.{OutOfMemory};
@@ -46,7 +46,7 @@ fn behind_reads(get: u32, list: &[Receipt]) -> &[Receipt]
     rest
 }
 
-// Whether the list begins with the get's end, and the list after it.
+// Whether the list begins with the get's end, and the rest.
 fn behind_end(get: u32, list: &[Receipt]) -> (bool, &[Receipt])
     ensures ends { result.0 ≡ begins_with (λ r. ends get r.event) list.now }
     ensures rest { result.1.now ≡ behind_one (λ r. ends get r.event) list.now }
@@ -83,7 +83,7 @@ fn behind_put_line<'a>(
     }
 }
 
-// The list after the block of a get's line, if there is one. Adds the get.
+// The list after the block of a get's line, if any. Adds the get.
 fn behind_get_line<'a>(
     asked: &mut Vec<Asked>,
     key: &Key,
@@ -106,7 +106,7 @@ fn behind_get_line<'a>(
     Ok(Some(rest))
 }
 
-// The list after the block of a line that takes a node down or up. There is always one.
+// The list after the block of a line that takes a node down or up.
 fn behind_node_line<'a>(line: &Event, list: &'a [Receipt]) -> &'a [Receipt]
     requires { turns_a_node line.now ≡ true }
     ensures { (asked : List TheAsked) → Leaves asked line.now list.now result.now asked }
@@ -121,7 +121,7 @@ fn behind_node_line<'a>(line: &Event, list: &'a [Receipt]) -> &'a [Receipt]
     }
 }
 
-/// Returns the list after the line's block, if there is one. Adds the get of a get's line.
+/// Returns the list after the line's block, if any. Adds a line's get.
 pub(crate) fn behind_line<'a>(
     asked: &mut Vec<Asked>,
     line: &Event,

@@ -1,4 +1,4 @@
-//! Checks that a list of receipts is that of a script's client.
+//! Checks that receipts are a script's client's.
 
 ghost use Rattle.std.specs.Prelude.{◌≡◌, ◌↔◌, IfOk, IfErr, IsTrue};
 ghost use Rattle.ring_names.specs.declared.refusal.Refusal.TheVariants.{OutOfMemory};

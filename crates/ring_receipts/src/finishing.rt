@@ -1,4 +1,4 @@
-//! Checks that each step's finisher is the worker whose list has the step's end.
+//! Checks that each step's finisher is the worker whose list has its end.
 
 ghost use Rattle.std.specs.Prelude.{◌≡◌, ◌↔◌, ◌<◌, ◌≤◌, ◌||◌, ℕ, false, length, vec_len, slice_index_or, IfOk, IfErr};
 ghost use Rattle.std.specs.Prelude.{IsTrue};
@@ -10,7 +10,7 @@ use crate::receipt::Receipt;
 use ring_names::{Listed, Refusal};
 use std::alloc::Global;
 
-// Marks the steps that the list finishes. Returns whether each has that finisher.
+// Marks the steps that the list finishes. Returns whether all have that finisher.
 fn mark(finishers: &[u32], marks: &mut Vec<bool>, worker: usize, list: &[Receipt]) -> bool
     requires { vec_len marks.old ≡ length finishers.now }
     ensures len { vec_len marks.new ≡ vec_len marks.old }
@@ -34,7 +34,7 @@ fn mark(finishers: &[u32], marks: &mut Vec<bool>, worker: usize, list: &[Receipt
     true
 }
 
-// The worker of the list at the place; the number of workers for the lists before theirs.
+// The worker of the list at the place; the number of workers for earlier lists.
 fn worker_of(front: usize, workers: u32, place: usize) -> usize
     ensures { result ≡ worker_at front workers place }
 {
@@ -45,10 +45,9 @@ fn worker_of(front: usize, workers: u32, place: usize) -> usize
     }
 }
 
-/// Whether each step ends in some list, and its finisher is the worker of each such list. Takes a byte for each
-/// step.
+/// Whether each step ends in some list, and its finisher is the worker of each such list. Takes a byte for each step.
 ///
-/// The finisher of steps that end in the `front` lists is the number of workers.
+/// Steps that end in the `front` lists have the number of workers as finisher.
 pub(crate) fn are_finishers(
     alloc: Global,
     finishers: &[u32],

@@ -52,7 +52,7 @@ fn all_stand(history: &[Entry], list: &[Receipt]) -> bool
     true
 }
 
-// Counts the receipts of each place, up to 255.
+// Counts each place's receipts, up to 255.
 fn count_in(counts: &mut Vec<u8>, list: &[Receipt])
     ensures len { vec_len counts.new ≡ vec_len counts.old }
     ensures counts { (k : ℕ) → k < vec_len counts.old → slice_index counts.new.items k
@@ -79,7 +79,7 @@ fn are_once(counts: &[u8]) -> bool
     true
 }
 
-/// Whether the history is an interleaving of the lists. Takes a byte for each entry.
+/// Whether the history interleaves the lists. Takes a byte for each entry.
 pub(crate) fn interleaves(
     alloc: Global,
     history: &[Entry],

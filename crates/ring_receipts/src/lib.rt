@@ -1,4 +1,4 @@
-//! The lists of receipts from a drive's threads, and whether they match its history: replies, order, and finishers of steps.
+//! A drive's receipts, and whether they match its history: replies, order, and finishers of steps.
 #![tactic(auto)]
 
 mod agreeing;

@@ -2,7 +2,7 @@
 
 use plan_runs::{Event, Reply};
 
-/// The place of an event in the history, from 0, the event and its reply.
+/// An event's place in the history, from 0, the event and its reply.
 #[derive(Debug, Drop)]
 pub struct Receipt {
     pub index: u32,

@@ -11,7 +11,7 @@ use crate::receipt::Receipt;
 use plan_runs::{Event, Key, Reply, Seen};
 use ring_names::{Value, WriterId};
 
-/// Whether each number is that of an earlier get of the script, with this key and an end.
+/// Whether each number is an earlier ended get of the script, with this key.
 pub fn all_ended(asked: &[Asked], key: &Key, seen: &Seen) -> bool
     ensures { result ≡ are_ended asked.now key.now seen.now }
 {
@@ -56,7 +56,7 @@ fn are_numbers(asked: &[Asked], seen: &[u32], numbers: &[u32]) -> bool
     rest.is_empty()
 }
 
-/// A put's line: writer, key and value, and the script's gets that the writer has seen.
+/// A put's line: writer, key and value, and the script's gets that it has seen.
 #[derive(Clone, Copy)]
 pub(crate) struct PutLine<'l> {
     pub writer: WriterId,

@@ -1,4 +1,4 @@
-//! Bundles: the texts that a command is given.
+//! A command's bundles.
 
 ghost use Rattle.std.specs.Prelude.{◌≡◌, [], IfOk, IfErr};
 ghost use Rattle.ring_names.specs.declared.refusal.Refusal.TheVariants.{OutOfMemory};
@@ -16,7 +16,7 @@ use script_text::{Script, read_script_section};
 use std::alloc::Global;
 use texts::Lines;
 
-/// Which sections a bundle has.
+/// The sections of a bundle.
 #[derive(Clone, Copy, Debug, PartialEq, Eq)]
 pub enum Kind {
     /// A ring, a plan of it and the plan's certificate.
@@ -25,8 +25,7 @@ pub enum Kind {
     Play,
 }
 
-/// A ring, a plan of it, the plan's certificate, and the events of a script with the names of their writers. A bundle without a script has no
-/// events.
+/// A ring, a plan of it, the plan's certificate, and a script's events, if any, with their writers' names.
 #[derive(Drop)]
 pub struct Bundle {
     pub ring: Ring,
@@ -36,7 +35,6 @@ pub struct Bundle {
     pub script: Script,
 }
 
-// The events of the script, if the bundle has one.
 fn read_events(
     alloc: Global,
     kind: Kind,
@@ -54,7 +52,7 @@ fn read_events(
     }
 }
 
-// Reads a bundle's front and its script. A fault of the front comes first.
+// Reads a bundle's front and script. A fault of the front comes first.
 #[tactic(auto, unfolding(crate::specs::Bundles::bundle_at))]
 fn read_parts(alloc: Global, kind: Kind, lines: &mut Lines) -> Result<Bundle, Refusal>
     ensures read { Reads result lines.new (bundle_at kind lines.old) }
@@ -74,15 +72,12 @@ fn read_parts(alloc: Global, kind: Kind, lines: &mut Lines) -> Result<Bundle, Re
     })
 }
 
-/// Reads the parts of a bundle of that kind, which must end there. Writers are numbered by first sight.
+/// Reads a bundle of that kind, which must end there. Numbers writers by first sight.
 ///
-/// The first line at fault decides. `OutOfMemory` comes only if memory ran out, after the ring's first four
-/// lines.
+/// The first faulty line decides. `OutOfMemory` comes only after the ring's first four lines.
 pub fn read_bundle(alloc: Global, kind: Kind, bytes: &[u8]) -> Result<Bundle, Refusal>
-    // Which bundle it is, or which fault.
     ensures read { Gives result (whole_text (bundle_at kind) bytes.now) }
     ensures parts { IfOk result IsOfRing }
-    // Memory may run out only if the first four lines have no fault.
     ensures late { IfErr result (λ e. e ≡ OutOfMemory → NoFaultBefore 5 (whole_text (bundle_at kind) bytes.now)) }
 {
     let mut lines = Lines::of(bytes);

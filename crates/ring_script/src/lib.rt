@@ -1,4 +1,4 @@
-//! Bundles, and what a play of a script and a replay of a history print.
+//! Bundles, and what a script's play and a history's replay print.
 #![tactic(auto)]
 
 mod bundle;

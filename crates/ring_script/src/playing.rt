@@ -1,4 +1,4 @@
-//! Playing a script.
+//! Plays a script.
 
 ghost use Rattle.std.specs.Prelude.{◌≡◌, ◌≤◌, ◌++◌, ◌∷◌, [], codes, length, map, IfOk, IfErr, OnOk};
 ghost use Rattle.ring_names.specs.declared.refusal.Refusal.TheVariants.{OutOfMemory};
@@ -18,7 +18,6 @@ use script_text::Script;
 use std::alloc::{AllocError, Global};
 use std::mem::forget;
 
-// The event at that place, and its line.
 fn play_event(
     world: &mut World,
     out: &mut Vec<u8>,
@@ -45,7 +44,6 @@ fn play_event(
     }
 }
 
-// All events in order, and their lines.
 fn play_events(world: &mut World, out: &mut Vec<u8>, events: &[Event]) -> Result<(), Refusal>
     requires few { length events.now ≤ 1000000 }
     requires puts { put_count world.old ≡ 0 }
@@ -59,7 +57,6 @@ fn play_events(world: &mut World, out: &mut Vec<u8>, events: &[Event]) -> Result
     Ok(())
 }
 
-// Plays an event that is given up.
 fn play_given(world: &mut World, out: &mut Vec<u8>, place: u32, event: Event) -> Result<(), Refusal>
     requires { HasNumber world.old event }
     ensures ok { OnOk result (Happens world.old event world.new out.old.items place out.new.items) }
@@ -68,7 +65,6 @@ fn play_given(world: &mut World, out: &mut Vec<u8>, place: u32, event: Event) ->
     play_event(world, out, place, &event)
 }
 
-// All events in order, each of which is given up once it happened, and their lines.
 fn play_queue(
     world: &mut World,
     out: &mut Vec<u8>,
@@ -88,7 +84,6 @@ fn play_queue(
     Ok(())
 }
 
-// The lines of owners, from partition 0 on.
 fn push_owners(out: &mut Vec<u8>, nodes: &[Node], rows: &[Listed<NodeId>]) -> Result<(), AllocError>
     requires { length rows.now ≤ 4096 }
     ensures { OnOk result
@@ -100,7 +95,7 @@ fn push_owners(out: &mut Vec<u8>, nodes: &[Node], rows: &[Listed<NodeId>]) -> Re
     Ok(())
 }
 
-/// Appends the line of owners of each partition, and `end`.
+/// Appends each partition's line of owners, and `end`.
 pub(crate) fn push_table(
     out: &mut Vec<u8>,
     ring: &Ring,
@@ -114,7 +109,6 @@ pub(crate) fn push_table(
     Ok(())
 }
 
-// The line of the owners of each partition now, and `end`.
 fn push_ending(world: &World, ring: &Ring, out: &mut Vec<u8>) -> Result<(), Refusal>
     requires { ring_of world.now ≡ ring.now }
     ensures ok { OnOk result ((w : TheWorld) → Meets world.now w
@@ -126,7 +120,6 @@ fn push_ending(world: &World, ring: &Ring, out: &mut Vec<u8>) -> Result<(), Refu
     Ok(())
 }
 
-// What is printed of the events and behind them, over a store that nothing has happened to.
 fn played(
     alloc: Global,
     ring: &Ring,
@@ -147,8 +140,7 @@ fn played(
     Ok(out)
 }
 
-// The first line, with room for what so many events mostly print. A text that grows is moved, and leaves a gap
-// in memory.
+// The first line, with room for the usual output. A text that grows is moved, and leaves a gap in memory.
 fn first_line(alloc: Global, events: usize) -> Result<Vec<u8>, Refusal>
     ensures items { IfOk result (λ v. v.items ≡ codes "yes" ++ 10 ∷ []) }
     ensures memory { IfErr result (λ e. e ≡ OutOfMemory) }
@@ -158,7 +150,6 @@ fn first_line(alloc: Global, events: usize) -> Result<Vec<u8>, Refusal>
     Ok(out)
 }
 
-// What is printed of events that are given up and after them, over a store that nothing has happened to.
 fn played_queue(
     alloc: Global,
     ring: &Ring,
@@ -179,13 +170,11 @@ fn played_queue(
     Ok(out)
 }
 
-/// Plays the script: returns `yes`, a line for each event, the line of owners of each partition after the last
-/// event, and `end`.
+/// Plays the script: returns `yes`, a line for each event, each partition's line of owners after the last event, and
+/// `end`.
 ///
-/// An event's line has the place, counted from 0, and the reply or the refusal's line. A refused event changes
-/// nothing, and the next one follows.
-///
-/// Fails only with `OutOfMemory`, if memory ran out at some event.
+/// An event's line has the place, from 0, and the reply or the refusal's line. A refused event changes nothing, and the
+/// next follows.
 pub fn play(alloc: Global, approved: &Approved, script: &Script) -> Result<Vec<u8>, Refusal>
     ensures text { IfOk result (λ v. v.items ≡ play_text approved.now.ring approved.now.plan script.now) }
     ensures memory { IfErr result (λ e. e ≡ OutOfMemory) }
@@ -194,10 +183,10 @@ pub fn play(alloc: Global, approved: &Approved, script: &Script) -> Result<Vec<u
     played(alloc, approved.ring(), &mut world, script.events())
 }
 
-/// Plays a script that is given up: each event's memory is free once it happened, so the store can take it.
+/// Plays a given script: frees each event's memory once it happened, for the store.
 ///
-/// If the program `ends` afterwards, the store's memory is left to the system. To free what a million events
-/// have left takes a fifth of the time of the play.
+/// If the program `ends` afterwards, leaves the store's memory to the system. Freeing what a million events left takes
+/// a fifth of the play's time.
 pub fn play_whole(
     alloc: Global,
     approved: &Approved,

@@ -1,4 +1,4 @@
-//! Replaying a history.
+//! Replays a history.
 
 ghost use Rattle.std.specs.Prelude.{◌≡◌, ◌≢◌, ◌≤◌, length, IfOk, IfErr};
 ghost use Rattle.ring_names.specs.declared.refusal.Refusal.TheVariants.{OutOfMemory};
@@ -16,7 +16,6 @@ use ring_table::Ring;
 use std::alloc::Global;
 use std::mem::forget;
 
-// What is printed of a history that is a run: `yes`, the line of owners of each partition, and `end`.
 fn write_owners(alloc: Global, ring: &Ring, rows: &[Listed<NodeId>]) -> Result<Vec<u8>, Refusal>
     requires { length rows.now ≡ ring.now.q }
     ensures text { IfOk result (λ v. v.items ≡ rows_text ring.now rows.now) }
@@ -27,7 +26,7 @@ fn write_owners(alloc: Global, ring: &Ring, rows: &[Listed<NodeId>]) -> Result<V
     Ok(out)
 }
 
-/// What a replay prints of a history that led the store here: `yes`, the line of owners of each partition, and `end`.
+/// Returns a replay's output at this store: `yes`, each partition's line of owners, and `end`.
 pub fn write_ending(alloc: Global, ring: &Ring, world: &World) -> Result<Vec<u8>, Refusal>
     requires { ring_of world.now ≡ ring.now }
     ensures text { IfOk result
@@ -38,7 +37,6 @@ pub fn write_ending(alloc: Global, ring: &Ring, world: &World) -> Result<Vec<u8>
     write_owners(alloc, ring, rows.as_slice())
 }
 
-// What is printed of a history that is given up, over a store of the plan that nothing has happened to.
 fn replayed(
     alloc: Global,
     approved: &Approved,
@@ -59,14 +57,14 @@ fn replayed(
     write_ending(alloc, approved.ring(), world)
 }
 
-/// Replays the history, if it is a run of the plan. Returns `yes`, each partition's line of owners after the
-/// last entry, and `end`.
+/// Replays the history, if a run of the plan. Returns `yes`, each partition's line of owners after the last entry, and
+/// `end`.
 ///
-/// Otherwise fails with `Mismatch`: the place of the first entry, from 0, whose event is refused or has another
-/// reply. Its second number is that refusal's, or 0.
+/// Otherwise fails with `Mismatch`: the place, from 0, of the first entry refused or with another reply. Its second
+/// number is that refusal's, or 0.
 ///
-/// Memory may run out at any entry, and each entry's memory is free once it was followed. If the program `ends`
-/// afterwards, the store's memory is left to the system.
+/// Memory may run out at any entry. Each entry's memory is freed once followed. If the program `ends` afterwards,
+/// leaves the store's memory to the system.
 pub fn replay_history(
     alloc: Global,
     approved: &Approved,

@@ -1,9 +1,9 @@
-//! The result of a put or a get.
+//! A put's or get's result.
 
 use ring_names::Refusal;
 use ring_receipts::Receipt;
 
-/// The receipts of a put or a get, and its last refusal. None if it was acknowledged or ended.
+/// A put's or get's receipts, and its last refusal: none if acknowledged or ended.
 #[derive(Debug, Drop)]
 pub struct Attempt {
     pub receipts: Vec<Receipt>,

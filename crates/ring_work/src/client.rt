@@ -125,7 +125,7 @@ fn do_line<L: RunLedger, R: Wait, G: Gate>(
     }
 }
 
-// Returns whether all lines were run before all threads had to stop.
+// Returns whether all lines ran before all threads had to stop.
 fn do_lines<L: RunLedger, R: Wait, G: Gate>(
     site: &Site<L, R, G>,
     done: &mut Done<L>,

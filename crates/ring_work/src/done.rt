@@ -1,4 +1,4 @@
-//! What a thread returns.
+//! A thread's result.
 
 use crate::noting::note;
 use crate::site::LockedStore;
@@ -10,7 +10,7 @@ use ring_receipts::Receipt;
 use std::alloc::Global;
 use std::sync::Wait;
 
-/// What a thread did, and how it ended.
+/// A thread's receipts and end.
 #[derive(Drop)]
 pub(crate) struct Done<L: RunLedger> {
     pub receipts: Vec<Receipt>,
@@ -44,7 +44,7 @@ impl<L: RunLedger> Done<L> {
         note(store, &mut self.share, &mut self.receipts, event)
     }
 
-    /// Submits under one lock, up to the first refusal. Keeps the receipts before it.
+    /// Submits under one lock, up to the first refusal. Keeps earlier receipts.
     pub fn note_row<R: Wait>(
         &mut self,
         store: &LockedStore<L, R>,

@@ -29,7 +29,7 @@ use std::sync::Wait;
 use std::sync::ledger::Blank;
 use std::thread::Threads;
 
-// The extra seat claims what the entries finished.
+// The extra seat claims steps that the entries finished.
 fn board_of(
     alloc: Global,
     steps: u32,
@@ -96,7 +96,7 @@ fn finish_of(alloc: Global, end: Result<ClosedBoard, Refusal>) -> Result<Finish,
     Ok(Finish { board, finishers })
 }
 
-/// Returns the history, and whether it finishes every step.
+/// Returns the history, and whether it finishes all steps.
 pub(crate) fn history_of<'a, L: RunLedger>(
     approved: &Approved,
     ledgered: Ledgered<'a, L>,
@@ -137,7 +137,7 @@ pub(crate) fn empty_fault(alloc: Global, approved: &Approved, refusal: Refusal) 
     }
 }
 
-// Returns why the outcome fails; a stopped thread first.
+// Returns the outcome's failure; a stopped thread first.
 fn judge<'a, R: Wait, G: Gate>(
     job: &Job<'a, R, G>,
     lists: usize,
@@ -250,7 +250,7 @@ fn prepare<'a, R: Wait, G: Gate>(
     Ok((board, first, last, front))
 }
 
-// Complete if all threads were started and ran all lines.
+// Complete if all threads started and ran all lines.
 #[derive(Drop)]
 struct Ran<L: RunLedger> {
     shares: Vec<Share<L>>,
@@ -298,7 +298,7 @@ fn run<'a, L: RunLedger + Send + Sync, R: Threads + Wait + Sync, G: Gate + Sync>
     })
 }
 
-// Returns the outcome, or its history and why it fails.
+// Returns the outcome, or its history and failure.
 fn check_outcome<'a, R: Wait, G: Gate>(
     job: &Job<'a, R, G>,
     outcome: Outcome,
@@ -377,7 +377,7 @@ fn finish_drive<'a, L: RunLedger, R: Wait, G: Gate>(
     }
 }
 
-/// Runs the threads on a store that has the entries. Their lists follow `front`.
+/// Runs the threads on a store with these entries. Their lists follow `front`.
 pub(crate) fn drive_on<'a, L: RunLedger + Send + Sync, R: Threads + Wait + Sync, G: Gate + Sync>(
     job: &Job<'a, R, G>,
     executor: Executor<'a, L>,
@@ -445,7 +445,7 @@ fn drive_as<'a, L: RunLedger + Send + Sync, R: Threads + Wait + Sync, G: Gate + 
 ///
 /// Workers pass the gate after opening a copy: as worker `w`, at the step.
 ///
-/// Clients pass it before each line: as worker 64 plus the script's number, at the line's number.
+/// Clients pass before each line: as worker 64 plus the script's number, at the line's number.
 ///
 /// Fails with 71 if a worker took 1,000,000 turns without finishing a step, or the gate refused.
 ///

@@ -131,7 +131,7 @@ fn break_off<L: RunLedger, R: Wait>(
     Ok(())
 }
 
-/// Returns the restored entries' receipts, then those of aborting open copies.
+/// Returns the entries' receipts, then those of aborting open copies.
 pub(crate) fn earlier_list<L: RunLedger, R: Wait>(
     store: &LockedStore<L, R>,
     alloc: Global,
@@ -168,7 +168,7 @@ fn finish(board: &Board, seat: &mut Seat, step: u32)
     }
 }
 
-/// Claims and finishes each step that the entries finished.
+/// Claims and finishes the entries' finished steps.
 pub(crate) fn finish_all(board: &Board, seat: &mut Seat, entries: &[Entry])
     requires board { seat.old.board ≡ board.now.id }
     requires worker { is_some seat.old.worker ≡ true }

@@ -1,9 +1,9 @@
-//! The result of a drive that breaks off.
+//! The result of a failed drive.
 
 use plan_runs::Entry;
 use ring_names::Refusal;
 
-/// Why a drive broke off, and the history up to then.
+/// Why a drive failed, and the history up to then.
 ///
 /// The history is empty if no store was made, or if the threads' counts do not add up to its length.
 #[derive(Debug, Drop)]

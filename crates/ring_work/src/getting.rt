@@ -55,7 +55,7 @@ pub(crate) fn start_get<L: RunLedger, R: Wait>(
     submit_get(store, share, receipts, &Event::StartGet(key))
 }
 
-// A bit for each slot that a get has read.
+// A bit for each read slot.
 #[derive(Drop)]
 struct Slots {
     mask: u32,
@@ -77,7 +77,7 @@ impl Slots {
     }
 }
 
-// Reads the unread slots in order, until R are read.
+// Reads unread slots in order, until R are read.
 fn read_round<L: RunLedger, R: Wait>(
     store: &LockedStore<L, R>,
     share: &mut Share<L>,
@@ -147,7 +147,7 @@ fn read_rounds<L: RunLedger, R: Wait>(
     Ok(())
 }
 
-/// Reads slots for a started get and ends it. Returns the last refusal otherwise.
+/// Reads slots for a started get and ends it. Otherwise returns the last refusal.
 pub(crate) fn finish_get<L: RunLedger, R: Wait>(
     store: &LockedStore<L, R>,
     share: &mut Share<L>,
@@ -186,7 +186,7 @@ fn get_on<L: RunLedger, R: Wait>(
 
 /// Gets the key: starts, reads R slots in order, and ends.
 ///
-/// Reads in at most 64 rounds. One without replies is repeated only if the history grew.
+/// Reads in at most 64 rounds. Repeats one without replies only if the history grew.
 ///
 /// A refused start, a full history or lack of memory ends the get at once.
 pub fn get_all<'a, L: RunLedger, R: Wait>(
@@ -196,7 +196,7 @@ pub fn get_all<'a, L: RunLedger, R: Wait>(
     share: &mut Share<L>,
     key: Key,
 ) -> Attempt
-    // Ended exactly if nothing is refused; empty if the start is refused.
+    // Ended exactly if nothing is refused; empty if the start is.
     ensures block { IsGetAttempt key result.receipts.items result.refusal }
     ensures count { share.new.count ≡ share.old.count + vec_len result.receipts }
     ensures parts { share.new.token.parts ≡ share.old.token.parts }

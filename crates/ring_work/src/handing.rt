@@ -28,10 +28,10 @@ fn hand<L: RunLedger, R: Wait, G: Gate>(
     }
 }
 
-// Walks over the hints until a walk that began after all other threads had ended. If a walk finds nothing, the next
-// waits for the bell.
+// Walks over the hints until a walk that began after all other threads had ended. After an empty walk, the next waits
+// for the bell.
 //
-// A successful handoff leaves the next hint at position n; a refused one increases n.
+// A successful handoff leaves the next hint at n; a refused one raises n.
 fn walks<L: RunLedger, R: Wait, G: Gate>(
     site: &Site<L, R, G>,
     done: &mut Done<L>,

@@ -1,4 +1,4 @@
-//! What the threads of a drive leave.
+//! What a drive's threads leave.
 
 ghost use Rattle.std.specs.Prelude.{◌≡◌, ◌⊎◌, ◌≤◌, All, None, false, vec_len, IfOk, IfErr, IsTrue};
 ghost use Rattle.ring_names.specs.declared.refusal.Refusal.TheVariants.{OutOfMemory};
@@ -11,7 +11,7 @@ use ring_names::{Listed, Refusal};
 use ring_receipts::Receipt;
 use std::alloc::Global;
 
-/// The threads' results, in the order of joins, and the worst refusal. Room is reserved first, so that none is lost.
+/// The threads' results, by join, and the worst refusal. Reserves room first, to lose none.
 #[derive(Drop)]
 pub(crate) struct Left<L: RunLedger> {
     pub seats: Vec<Seat>,

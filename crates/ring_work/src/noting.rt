@@ -1,4 +1,4 @@
-//! Submits events and keeps their receipts.
+//! Submits events and keeps receipts.
 
 ghost use Rattle.std.specs.Prelude.{◌≡◌, ◌≢◌, ◌+◌, ◌∷◌, ◌++◌, ◌⊎◌, ◌↔◌, [], true, vec_len, if◌then◌else◌, IfOk, IfErr, OnOk, OnErr, IsTrue};
 ghost use Rattle.ring_names.specs.declared.refusal.Refusal.TheVariants.{HistoryFull, OutOfMemory, TurnsSpent};
@@ -61,7 +61,7 @@ pub(crate) fn submit<L: RunLedger, R: Wait>(
     Ok(())
 }
 
-/// Submits, and takes the event, so that callers need not drop it.
+/// Submits and takes the event: callers need not drop it.
 pub(crate) fn note<L: RunLedger, R: Wait>(
     store: &LockedStore<L, R>,
     share: &mut Share<L>,
@@ -98,7 +98,7 @@ pub(crate) fn get_number(reply: &Reply) -> u32
     }
 }
 
-/// Returns refusals that end everything: full history, lack of memory.
+/// Returns refusals that end all: full history, lack of memory.
 pub(crate) fn go_on(refusal: Refusal) -> Result<(), Refusal>
     ensures { IfErr result (λ e. (e ≡ HistoryFull) ⊎ (e ≡ OutOfMemory)) }
 {

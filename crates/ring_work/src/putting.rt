@@ -119,14 +119,14 @@ fn round<L: RunLedger, R: Wait>(
     Ok(())
 }
 
-// How many tickets were current after a round, and whether another can help.
+// The current tickets after a round, and whether another can help.
 #[derive(Drop)]
 struct Last {
     current: u32,
     idle: Idle,
 }
 
-// Skips rounds that would be refused like the last one.
+// Skips rounds that would be refused like the last.
 fn another_round<L: RunLedger, R: Wait>(
     store: &LockedStore<L, R>,
     share: &mut Share<L>,
@@ -150,7 +150,7 @@ fn another_round<L: RunLedger, R: Wait>(
     came
 }
 
-// Returns the last refusal if the put is not acknowledged.
+// Returns the last refusal if unacknowledged.
 fn send_rounds<L: RunLedger, R: Wait>(
     store: &LockedStore<L, R>,
     share: &mut Share<L>,
@@ -197,9 +197,9 @@ pub(crate) fn put_on<L: RunLedger, R: Wait>(
 
 /// Puts the value, knowing the replies of the gets `seen`.
 ///
-/// Runs at most 64 rounds. Each writes to the slots in order, then asks for the acknowledgement.
+/// Runs at most 64 rounds. Each writes to the slots in order, then asks for acknowledgement.
 ///
-/// For a slot with a node down, a round tries hints at the nodes by number.
+/// For a slot with a node down, tries hints at the nodes by number.
 ///
 /// Too few current tickets lead to another round; after one without replies, only if the history grew.
 ///
@@ -214,7 +214,7 @@ pub fn put_all<'a, L: RunLedger, R: Wait>(
     value: Value,
     seen: Seen,
 ) -> Attempt
-    // Acknowledged exactly if nothing is refused; empty if the start is refused.
+    // Acknowledged exactly if nothing is refused; empty if the start is.
     ensures block { IsPutAttempt (StartPut writer key value seen) result.receipts.items result.refusal }
     ensures count { share.new.count ≡ share.old.count + vec_len result.receipts }
     ensures parts { share.new.token.parts ≡ share.old.token.parts }

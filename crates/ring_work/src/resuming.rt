@@ -179,11 +179,11 @@ fn resume_as<'a, L: RunLedger + Send + Sync, R: Threads + Wait + Sync, G: Gate +
 ///
 /// Restores the store, aborts open copies by step number, then does as `drive`.
 ///
-/// The first list of receipts has the entries, then these aborts. Steps finished by the entries have the number of
+/// The first list of receipts has the entries, then these aborts. Steps that the entries finished have the number of
 /// workers as finisher.
 ///
-/// Over 1,000,000 entries are refused first, then `Mismatch` names the first entry that is not part of a run; both with
-/// an empty history.
+/// Over 1,000,000 entries are refused first, then `Mismatch` names the first entry outside a run; both with an empty
+/// history.
 ///
 /// Later refusals are those of `drive`, with 70 also if an abort does not fit the history. Lack of memory comes last at
 /// each entry.
@@ -200,7 +200,7 @@ pub fn resume<R: Threads + Wait + Sync, G: Gate + Sync>(
     requires scripts { (0 < length scripts.now) × (length scripts.now ≤ 8) }
     requires clients { AllByRecursion (λ s. list_all is_client_event s ≡ true) scripts.now }
     ensures ok { IfOk result (λ o. Resumed approved.now.ring approved.now.plan scripts.now workers entries.now o.history.items o.receipts.items o.finishers.items) }
-    // For what came before, workers, clients and handoffs.
+    // For earlier events, workers, clients and handoffs.
     ensures threads { IfOk result (λ o. vec_len o.receipts ≡ 1 + (workers + (length scripts.now + 1))) }
     // Only closing a board makes such words.
     ensures board { IfOk result (λ o. map finished_word o.finishers.items ≡ o.board) }

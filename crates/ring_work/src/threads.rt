@@ -97,7 +97,6 @@ fn start_handoffs<'s, 'x, 'e, 'a, L: RunLedger + Send + Sync, R: Wait + Sync, G:
     }
 }
 
-// Returns whether the start was refused.
 fn start_worker<'s, 'x, 'e, 'a, L: RunLedger + Send + Sync, R: Wait + Sync, G: Gate + Sync>(
     scope: &Scope<'s, &'x ()>,
     site: &'s Site<'e, 'a, L, R, G>,
@@ -126,7 +125,7 @@ fn start_worker<'s, 'x, 'e, 'a, L: RunLedger + Send + Sync, R: Wait + Sync, G: G
     }
 }
 
-// Starts the last first, so that the first is joined first. Returns whether one was refused.
+// Starts the last first, to join the first first. Returns whether one was refused.
 fn start_workers<'s, 'x, 'e, 'a, L: RunLedger + Send + Sync, R: Wait + Sync, G: Gate + Sync>(
     scope: &Scope<'s, &'x ()>,
     site: &'s Site<'e, 'a, L, R, G>,

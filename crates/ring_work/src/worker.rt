@@ -25,7 +25,7 @@ const CHUNKS: u32 = 16;
 
 const NONE: u32 = 0xffff_ffff;
 
-// What a worker knows of the steps. Walks skip finished steps and waiting ones.
+// A worker's knowledge of the steps. Walks skip finished steps and waiting ones.
 //
 // So a step is looked at again only after a change, and each dependency is passed once.
 #[derive(Drop)]
@@ -207,8 +207,8 @@ fn rest_of(alloc: Global, step: u32) -> Result<Vec<Event>, Refusal> {
     Ok(rest)
 }
 
-// Submits under one lock, from after the chunks already marked. Returns whether the copy was closed; if a node is down
-// it must be aborted.
+// Submits under one lock, from after the marked chunks on. Returns whether the copy was closed; if a node is down it
+// must be aborted.
 fn copy_rest<L: RunLedger, R: Wait, G: Gate>(
     site: &Site<L, R, G>,
     done: &mut Done<L>,
@@ -392,7 +392,6 @@ fn turns<L: RunLedger, R: Wait, G: Gate>(
     Ok(())
 }
 
-// At first no step is known to be finished.
 fn work_on<L: RunLedger, R: Wait, G: Gate>(
     site: &Site<L, R, G>,
     sat: &mut Sat<L>,

@@ -1,11 +1,11 @@
-//! What a client can do by itself.
+//! What a client can do.
 
 ghost use Rattle.std.specs.Prelude.{◌≡◌};
 ghost use Rattle.script_text.specs.Client.{is_client_event};
 
 use plan_runs::Event;
 
-/// Whether a client can bring the event about: a put or get that starts, a node that goes down or up.
+/// Whether a client can cause the event: a put or get starts, a node goes down or up.
 pub fn is_client_event(event: &Event) -> bool
     ensures { result ≡ is_client_event event.now }
 {

@@ -11,7 +11,7 @@ use ring_names::{Names, NodeId, Refusal, WriterId};
 use ring_table::{Ring, node_field};
 use texts::{CAP, Fields, NumberRow, both, is_name};
 
-/// Takes a number. Another field is `BadLine`, a greater number `TooLarge`.
+/// Takes a number. Fails with `BadLine`, or with `TooLarge` if greater than a `u32`.
 #[inline(always)]
 pub fn count(fields: &mut Fields) -> Result<u32, Refusal>
     ensures { Does count_at fields.old result fields.new }
@@ -19,7 +19,7 @@ pub fn count(fields: &mut Fields) -> Result<u32, Refusal>
     fields.number(u32::MAX)
 }
 
-/// Takes two numbers, as `number` does.
+/// Takes two numbers, as `count`.
 #[inline(always)]
 #[tactic(auto, unfolding(crate::specs::Reading::pair_at))]
 pub fn pair(fields: &mut Fields) -> Result<(u32, u32), Refusal>
@@ -30,7 +30,7 @@ pub fn pair(fields: &mut Fields) -> Result<(u32, u32), Refusal>
     both(first, second)
 }
 
-// A writer that was seen, or a new one if there is room.
+// A seen writer, or a new one if there is room.
 fn writer<'a>(names: &Names, fields: &mut Fields<'a>) -> Result<SaidWriter<'a>, Refusal>
     ensures { Does (λ k. field_at k (judge_writer names.now k)) fields.old result fields.new }
 {
@@ -48,7 +48,7 @@ fn writer<'a>(names: &Names, fields: &mut Fields<'a>) -> Result<SaidWriter<'a>, 
     }
 }
 
-/// Takes a key. Another field is `BadLine`.
+/// Takes a key, or fails with `BadLine`.
 pub fn key<'a>(fields: &mut Fields<'a>) -> Result<KeyWord<'a>, Refusal>
     ensures { Does (λ k. field_at k (judge_key k)) fields.old result fields.new }
 {
@@ -94,7 +94,7 @@ fn known<'a>(fields: &Fields, row: NumberRow<'a>) -> Result<SeenRow<'a>, Refusal
     Ok(SeenRow::of(row))
 }
 
-// Nothing, or `seen` and the numbers after it.
+// Perhaps `seen` and the numbers after it.
 #[tactic(auto, unfolding(crate::specs::Reading::seen_at))]
 fn seen<'a>(fields: &mut Fields<'a>) -> Result<SeenRow<'a>, Refusal>
     ensures { Does seen_at fields.old result fields.new }
@@ -109,7 +109,7 @@ fn seen<'a>(fields: &mut Fields<'a>) -> Result<SeenRow<'a>, Refusal>
     Err(Refusal::BadLine(fields.line()))
 }
 
-/// Takes what starts a put: writer, key, value, and the gets that it knows. Takes no memory.
+/// Takes a put's fields: writer, key, value, and the gets that it knows.
 #[tactic(auto, unfolding(crate::specs::Reading::put_at))]
 pub fn put<'a>(names: &Names, fields: &mut Fields<'a>) -> Result<SaidPut<'a>, Refusal>
     ensures { Does (put_at names.now) fields.old result fields.new }
@@ -127,7 +127,7 @@ pub fn put<'a>(names: &Names, fields: &mut Fields<'a>) -> Result<SaidPut<'a>, Re
     })
 }
 
-/// Takes a put, the index of a slot, and a declared node.
+/// Takes a put, a slot's index, and a declared node.
 #[tactic(auto, unfolding(crate::specs::Reading::hint_at))]
 pub fn hint(ring: &Ring, fields: &mut Fields) -> Result<((u32, u32), NodeId), Refusal>
     ensures { Does (hint_at ring.now) fields.old result fields.new }

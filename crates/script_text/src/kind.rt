@@ -1,4 +1,4 @@
-//! Events, by the first word of a line and its other fields.
+//! Events, by a line's first word and other fields.
 
 ghost use Rattle.std.specs.Prelude.{◌≡◌, Some};
 ghost use Rattle.std.specs.Map.{lookup};
@@ -14,7 +14,6 @@ use ring_names::{Names, Refusal, Slot};
 use ring_table::{Ring, node_field};
 use texts::Fields;
 
-// The first word of an event's line.
 #[derive(Clone, Copy)]
 enum EventWord {
     Do,
@@ -61,7 +60,8 @@ impl EventWord {
     }
 }
 
-// What the line says after its first word. Inlined into the readers of scripts and of histories: a call for each line would cost more.
+// Reads the fields after the first word. Inlined into readers of scripts and histories: a call for each line would cost
+// more.
 #[inline(always)]
 fn said_behind<'a>(
     word: EventWord,
@@ -98,9 +98,10 @@ fn said_behind<'a>(
     }
 }
 
-/// Takes what an event's line says. Takes no memory.
+/// Reads an event's line.
 ///
-/// A wrong field is `BadLine`. A number above 4,294,967,295, more than 16 gets and a writer after 1,024 are `TooLarge`. `BadLine` comes first.
+/// A wrong field is `BadLine`. A number above 4,294,967,295, more than 16 gets and a writer after 1,024 are `TooLarge`.
+/// `BadLine` comes first.
 #[inline(always)]
 #[tactic(auto, unfolding(crate::specs::Reading::kind_at))]
 pub fn said_event<'a>(

@@ -1,4 +1,4 @@
-//! Taking an event of numbers from the front of a text, if it is spelled plainly.
+//! Reads plainly spelled events.
 
 ghost use Rattle.std.specs.Prelude.{◌≡◌, ◌++◌, ◌∷◌, List, ℕ, IfSome};
 ghost use Rattle.std.specs.Fmt.{decimal};
@@ -9,7 +9,7 @@ ghost use Rattle.script_text.specs.Valid.{HasNumbers};
 use plan_runs::Event;
 use texts::{after_word, plain_number};
 
-/// Two numbers, and the text after them.
+/// Reads two numbers, and returns the rest.
 #[inline(always)]
 pub fn plain_pair(text: &[u8]) -> Option<(u32, u32, &[u8])>
     ensures { IfSome result (λ x. text.now ≡ decimal x.0 ++ 32 ∷ (decimal x.1 ++ x.2.now)) }
@@ -20,7 +20,7 @@ pub fn plain_pair(text: &[u8]) -> Option<(u32, u32, &[u8])>
     Some((first, second, rest))
 }
 
-// An event of a copy or a step, and the text after it.
+// Reads an event of a copy or a step, and returns the rest.
 fn plain_step(text: &[u8]) -> Option<(Event, &[u8])>
     ensures text { IfSome result (λ x. (nodes names : List (List ℕ)) → text.now ≡ join_with_byte 32 (event_fields nodes names x.0) ++ x.1.now) }
     ensures numbers { IfSome result (λ x. HasNumbers x.0) }
@@ -42,7 +42,7 @@ fn plain_step(text: &[u8]) -> Option<(Event, &[u8])>
     Some((Event::CloseCopy(step), rest))
 }
 
-/// An event that names numbers only, and the text after it.
+/// Reads an event that names only numbers, and returns the rest.
 #[inline(always)]
 pub fn plain_event(text: &[u8]) -> Option<(Event, &[u8])>
     ensures text { IfSome result (λ x. (nodes names : List (List ℕ)) → text.now ≡ join_with_byte 32 (event_fields nodes names x.0) ++ x.1.now) }

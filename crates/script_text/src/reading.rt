@@ -1,4 +1,4 @@
-//! Reading a script.
+//! Reads a script.
 
 ghost use Rattle.std.specs.Prelude.{◌≡◌, ℕ, true, List, Ok, IfOk, IfErr};
 ghost use Rattle.std.specs.List.{list_all};
@@ -24,7 +24,6 @@ use ring_table::Ring;
 use std::alloc::Global;
 use texts::{Fields, Lines, both, end, finish, header, need};
 
-// What an event's line says, after the events so far. Takes no memory.
 #[tactic(auto, unfolding(crate::specs::Reading::said_at))]
 fn judge_line<'a>(
     ring: &Ring,
@@ -40,7 +39,7 @@ fn judge_line<'a>(
     Ok(said)
 }
 
-// The event of a line, if the speaker may say it.
+// The line's event, if the speaker may say it.
 fn event_line<'a>(
     may: bool,
     ring: &Ring,
@@ -82,7 +81,6 @@ impl Speaker {
     }
 }
 
-// Reads the lines of a speaker's script.
 #[tactic(auto, unfolding(crate::specs::Reading::section_at))]
 fn read_parts(
     alloc: Global,
@@ -101,8 +99,8 @@ fn read_parts(
     Ok(script)
 }
 
-/// Reads a script up to its line `end`, and leaves what follows. Adds new writers after those that were seen, some also if it is refused.
-/// Refusals are those of `read_script`.
+/// Reads a script up to its line `end`, and leaves the rest. Adds new writers after those seen, perhaps also if it
+/// fails. Fails as `read_script`.
 pub fn read_script_section(
     alloc: Global,
     ring: &Ring,
@@ -111,16 +109,16 @@ pub fn read_script_section(
 ) -> Result<Script, Refusal>
     ensures read { Reads (map_ok (λ s. (s, writers.new)) result) lines.new (script_at ring.now writers.old lines.old) }
     ensures found { IfOk result (λ s. AreWriters writers.old → IsScriptOf ring.now writers.old writers.new s) }
-    // Memory may run out only after the first two lines, and after lines without a fault.
     ensures late { Late 2 result lines.old lines.new (script_at ring.now writers.old lines.old) }
 {
-    // A ring is valid, which the prover knows once a number of it is read.
+    // Proves the ring valid.
     let slots = ring.n();
     prove!(slots <= 7);
     read_parts(alloc, Speaker::Anyone, ring, writers, lines)
 }
 
-/// Reads a client's script, as `read_script_section` does. A line that does not begin with `put`, `get`, `down` or `up` is `BadLine`.
+/// Reads a client's script, as `read_script_section`. Lines begin with `put`, `get`, `down` or `up`; others are
+/// `BadLine`.
 pub fn read_client_section(
     alloc: Global,
     ring: &Ring,
@@ -129,13 +127,11 @@ pub fn read_client_section(
 ) -> Result<Script, Refusal>
     ensures read { Reads (map_ok (λ s. (s, writers.new)) result) lines.new (client_at ring.now writers.old lines.old) }
     ensures clients { IfOk result (λ s. list_all is_client_event s ≡ true) }
-    // Memory may run out only after the first two lines, and after lines without a fault.
     ensures late { Late 2 result lines.old lines.new (client_at ring.now writers.old lines.old) }
 {
     read_parts(alloc, Speaker::Client, ring, writers, lines)
 }
 
-// Reads a script from its whole text.
 fn read_whole(
     alloc: Global,
     ring: &Ring,
@@ -152,9 +148,10 @@ fn read_whole(
     Ok(script)
 }
 
-/// Reads a script from its whole text. Numbers new writers in order of first sight, some also if the text is refused.
+/// Reads a script from its whole text. Numbers new writers by first sight, perhaps also if it fails.
 ///
-/// The first line at fault decides, and in this line the least number: 1 `BadLine`, 2 `TooLarge`, 3 `UnknownNode`. `OutOfMemory` comes last.
+/// The first faulty line decides, and its least number: 1 `BadLine`, 2 `TooLarge`, 3 `UnknownNode`. `OutOfMemory` comes
+/// last, after two lines.
 pub fn read_script(
     alloc: Global,
     ring: &Ring,
@@ -163,17 +160,14 @@ pub fn read_script(
 ) -> Result<Script, Refusal>
     ensures found { IfOk result (λ s. AreWriters writers.old
         → IsScriptOf ring.now writers.old writers.new s × (text.now ≡ script_text ring.now writers.new s)) }
-    // What is spelled so is read, unless memory runs out.
     ensures only { (s : List Event) (names : List (List ℕ)) → IsScriptOf ring.now writers.old names s
         → text.now ≡ script_text ring.now names s
         → Gives {A = List Event × List (List ℕ)} (map_ok (λ s. (s, writers.new)) result) (Ok (s, names)) }
-    // Which fault it is.
     ensures exact { Gives (map_ok (λ s. (s, writers.new)) result) (script_reading ring.now writers.old text.now) }
-    // Memory may run out only if the first two lines have no fault.
     ensures late { IfErr result
         (λ e. e ≡ OutOfMemory → NoFaultBefore 3 (script_reading ring.now writers.old text.now)) }
 {
-    // A ring is valid, which the prover knows once a number of it is read.
+    // Proves the ring valid.
     let slots = ring.n();
     prove!(slots <= 7);
     read_whole(alloc, ring, writers, text)

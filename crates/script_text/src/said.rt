@@ -1,10 +1,10 @@
-//! What an event's line says, before anything is kept of it.
+//! What an event's line says, still text.
 
 use crate::words::{KeyWord, SeenRow, ValueWord, Word};
 use plan_runs::Event;
 use ring_names::WriterId;
 
-/// The writer of a put: one that was seen, or a new name.
+/// A put's writer: a seen number, or a new name.
 #[derive(Drop)]
 pub enum SaidWriter<'a> {
     Known(WriterId),
@@ -20,7 +20,7 @@ pub struct SaidPut<'a> {
     pub seen: SeenRow<'a>,
 }
 
-/// An event that takes no memory of its own.
+/// An event without memory of its own.
 #[derive(Drop)]
 pub enum SaidEvent<'a> {
     /// A put starts.

@@ -29,7 +29,7 @@ impl Model for Script {
 }
 
 impl Script {
-    /// Returns a script without events.
+    /// Starts empty.
     pub fn new(alloc: Global) -> Script
         ensures { result ≡ [] }
     {
@@ -38,7 +38,7 @@ impl Script {
         }
     }
 
-    /// Returns the number of events.
+    /// Counts the events.
     pub fn len(&self) -> usize
         ensures { result ≡ length self.now }
     {
@@ -53,7 +53,7 @@ impl Script {
         self.events.as_slice()
     }
 
-    /// Returns the events as a vector. Takes no memory.
+    /// Returns the events as a vector.
     pub fn into_vec(self) -> Vec<Event>
         ensures value { result.items ≡ self }
         ensures few { length self ≤ 1000000 }
@@ -62,7 +62,7 @@ impl Script {
         events
     }
 
-    /// Adds an event. Its only refusal is `OutOfMemory`, and then nothing changes.
+    /// Adds an event.
     pub fn push(&mut self, event: Event) -> Result<(), Refusal>
         requires { length self.old < 1000000 }
         ensures ok { OnOk result (self.new ≡ self.old ++ event ∷ []) }
@@ -74,7 +74,7 @@ impl Script {
         Ok(())
     }
 
-    /// Whether a client can bring each event about.
+    /// Whether a client can cause each event.
     pub fn is_client(&self) -> bool
         ensures { result ≡ list_all is_client_event self.now }
     {

@@ -1,16 +1,16 @@
-//! Speakers: who says the lines of a script.
+//! The speakers of a script's lines.
 
 ghost use Rattle.std.specs.Prelude.{◌≡◌};
 ghost use Rattle.script_text.specs.Reading.{may_say};
 
 use texts::Lines;
 
-/// Who says the lines of a script.
+/// The speaker of a script's lines.
 #[derive(Clone, Copy, Debug, PartialEq, Eq)]
 pub enum Speaker {
     /// Anyone: all events.
     Anyone,
-    /// A client: puts and gets that start, nodes that go down or up.
+    /// A client starts puts and gets, and takes nodes down or up.
     Client,
 }
 

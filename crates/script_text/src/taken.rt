@@ -1,4 +1,4 @@
-//! Keeping the event of a line that was read.
+//! Keeps the event of a read line.
 
 ghost use Rattle.std.specs.Prelude.{◌≡◌, ◌<◌, ◌+◌, ◌++◌, ◌∷◌, [], length, IfOk, IfErr, OnOk};
 ghost use Rattle.ring_names.specs.declared.refusal.Refusal.TheVariants.{OutOfMemory};
@@ -40,7 +40,7 @@ fn to_put(alloc: Global, names: &mut Names, put: SaidPut) -> Result<Event, Refus
     Ok(Event::StartPut(writer, key, value, seen))
 }
 
-/// Returns the event that a line says, and adds a new writer. Its only refusal is `OutOfMemory`, and the writer may be added all the same.
+/// Returns a line's event, and adds a new writer, perhaps also if it fails.
 #[inline(always)]
 pub fn keep_event(alloc: Global, names: &mut Names, said: SaidEvent) -> Result<Event, Refusal>
     requires { Fits names.old said }
@@ -58,7 +58,7 @@ pub fn keep_event(alloc: Global, names: &mut Names, said: SaidEvent) -> Result<E
     }
 }
 
-/// Adds the event of a line that was read.
+/// Adds a read line's event.
 pub fn add(
     alloc: Global,
     names: &mut Names,

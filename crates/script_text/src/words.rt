@@ -13,7 +13,7 @@ use std::alloc::Global;
 use std::marker::Model;
 use texts::{NumberRow, are_name_bytes};
 
-/// Bytes of a text.
+/// A text's bytes.
 #[derive(Drop)]
 pub struct Word<'a> {
     pub(crate) bytes: &'a [u8],
@@ -45,7 +45,7 @@ impl<'a> Model for KeyWord<'a> {
 }
 
 impl<'a> KeyWord<'a> {
-    /// Returns the key of these bytes, if they are one.
+    /// Returns the key with these bytes, if valid.
     pub fn of(bytes: &'a [u8]) -> Option<KeyWord<'a>>
         ensures some { is_some result ≡ is_key bytes.now }
         ensures same { IfSome result (λ key. key ≡ bytes.now) }
@@ -56,7 +56,7 @@ impl<'a> KeyWord<'a> {
         None
     }
 
-    /// Returns the key in memory of its own.
+    /// Returns the key in owned memory.
     pub fn to_key(&self, alloc: Global) -> Result<Key, Refusal>
         ensures ok { IfOk result (λ key. key ≡ self.now) }
         ensures memory { IfErr result (λ e. e ≡ OutOfMemory) }
@@ -87,7 +87,7 @@ fn digit_value(digit: u8) -> u8
     }
 }
 
-// Whether each byte is a digit. Looks at all, so that the processor may take many at a time.
+// Whether each byte is a digit. Looks at all: the processor may take many at a time.
 fn are_digits(bytes: &[u8]) -> bool
     ensures { result ≡ list_all is_digit bytes.now }
 {
@@ -119,7 +119,7 @@ fn bytes_of(alloc: Global, digits: &[u8]) -> Result<Vec<u8>, Refusal>
     Ok(out)
 }
 
-/// A value as text, still in the text.
+/// A value's spelling, still in the text.
 #[derive(Drop)]
 pub struct ValueWord<'a> {
     digits: &'a [u8],
@@ -137,7 +137,7 @@ impl<'a> Model for ValueWord<'a> {
 }
 
 impl<'a> ValueWord<'a> {
-    /// Returns the value that these bytes spell, if they spell one.
+    /// Returns the value that these bytes spell.
     pub fn of(bytes: &'a [u8]) -> Option<ValueWord<'a>>
         ensures some { is_some result ≡ is_value_text bytes.now }
         ensures same { IfSome result (λ value. value ≡ value_of bytes.now) }
@@ -151,7 +151,7 @@ impl<'a> ValueWord<'a> {
         None
     }
 
-    /// Returns the value in memory of its own.
+    /// Returns the value in owned memory.
     #[tactic(auto, using(crate::proofs::DigitLaws::few_bytes))]
     pub fn to_value(&self, alloc: Global) -> Result<Value, Refusal>
         ensures ok { IfOk result (λ value. value ≡ self.now) }
@@ -166,7 +166,7 @@ impl<'a> ValueWord<'a> {
     }
 }
 
-/// The gets that a put knows, still in the text.
+/// A put's gets, still in the text.
 #[derive(Drop)]
 pub struct SeenRow<'a> {
     row: NumberRow<'a>,
@@ -185,7 +185,7 @@ impl<'a> Model for SeenRow<'a> {
 }
 
 impl<'a> SeenRow<'a> {
-    /// Returns the gets of these numbers.
+    /// Returns the gets with these numbers.
     pub fn of(row: NumberRow<'a>) -> SeenRow<'a>
         requires small { are_small row ≡ true }
         requires seen { is_seen row ≡ true }
@@ -194,7 +194,7 @@ impl<'a> SeenRow<'a> {
         SeenRow { row }
     }
 
-    /// Returns the gets in memory of their own.
+    /// Returns the gets in owned memory.
     pub fn to_seen(&self, alloc: Global) -> Result<Seen, Refusal>
         ensures ok { IfOk result (λ seen. seen ≡ self.now) }
         ensures memory { IfErr result (λ e. e ≡ OutOfMemory) }

@@ -1,4 +1,4 @@
-//! Writing a script.
+//! Writes a script.
 
 ghost use Rattle.std.specs.Prelude.{◌≡◌, ◌<◌, ◌++◌, ◌∷◌, [], map, IfOk, IfErr, OnOk};
 ghost use Rattle.std.specs.Fmt.{decimal};
@@ -163,7 +163,7 @@ fn push_lines(
     Ok(())
 }
 
-/// Writes a script over the ring, with writers by number. Its only refusal is `OutOfMemory`.
+/// Writes a script over the ring, with writers by number.
 pub fn write_script(
     alloc: Global,
     ring: &Ring,
