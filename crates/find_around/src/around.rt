@@ -10,7 +10,6 @@ use crate::settling::settle;
 use crate::sources::CopyListing;
 use crate::told::Saying;
 use crate::writing::{Written, write};
-use helpers::{Labels, Words, is_set, put};
 use plan_cert::Cert;
 use plan_moves::Progress;
 use plan_runs::{Back, Entry};
@@ -20,6 +19,7 @@ use ring_table::Ring;
 use ringplan_job::{Extent, Shape};
 use std::alloc::Global;
 use std::collections::{BTreeMap, BTreeSet};
+use texts::{Labels, Words, is_set, put};
 
 /// A begun plan, and what changes.
 #[derive(Clone, Copy)]

@@ -2,12 +2,12 @@
 
 use crate::around::AroundTask;
 use crate::entries::BegunSteps;
-use helpers::{at, is_set, set};
 use plan_runs::Back;
 use plan_text::{Plan, Source, Step};
 use ring_names::{Refusal, Slot};
 use std::alloc::Global;
 use std::collections::{BTreeMap, BTreeSet};
+use texts::{at, is_set, set};
 
 /// The steps' numbers in both plans.
 #[derive(Drop)]

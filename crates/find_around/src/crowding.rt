@@ -3,10 +3,10 @@
 use crate::around::{AroundTask, Search};
 use crate::moving::{Moves, PlannedMove};
 use crate::told::SlotOutcome;
-use helpers::{at, place_of, set};
 use ring_names::{Refusal, Slot};
 use std::alloc::Global;
 use std::collections::BinaryHeap;
+use texts::{at, place_of, set};
 
 #[derive(Drop)]
 pub(crate) struct Crowd {

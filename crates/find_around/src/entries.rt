@@ -1,10 +1,10 @@
 //! Begun steps, and remaining hints.
 
 use crate::around::AroundTask;
-use helpers::put;
 use plan_runs::{Entry, Event, Reply};
 use ring_names::{Refusal, Slot};
 use std::collections::BTreeSet;
+use texts::put;
 
 #[derive(Drop)]
 pub(crate) struct BegunSteps {

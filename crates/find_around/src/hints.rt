@@ -1,10 +1,10 @@
 //! The stored hints, by partition.
 
-use helpers::{at, set, small};
 use ring_names::{Refusal, Slot};
 use ring_table::Ring;
 use std::alloc::Global;
 use std::collections::BTreeSet;
+use texts::{at, set, small};
 
 #[derive(Drop)]
 pub(crate) struct HintTable {

@@ -3,9 +3,9 @@
 use crate::around::{AroundTask, Search};
 use crate::moving::{Moves, PlannedMove};
 use crate::told::SlotOutcome;
-use helpers::put;
 use plan_moves::Progress;
 use ring_names::{Refusal, Slot};
+use texts::put;
 
 fn has_slot(task: &AroundTask, slot: Slot) -> bool {
     slot.partition < task.ring.q() && slot.index < task.ring.n()

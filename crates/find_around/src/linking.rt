@@ -5,11 +5,11 @@ use crate::moving::PlannedMove;
 use crate::needs::Needs;
 use crate::owners::Way;
 use crate::sources::CopyListing;
-use helpers::{at, is_set, raise, set, small};
 use plan_text::{Source, Step};
 use ring_names::{NodeId, Refusal, Slot};
 use ring_table::{Allowance, Side};
 use std::alloc::Global;
+use texts::{at, is_set, raise, set, small};
 
 // The most left-out steps to pass through.
 const LOOKS: u32 = 100_000_000;

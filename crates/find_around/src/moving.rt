@@ -1,11 +1,11 @@
 //! Moves by slot.
 
-use helpers::{at, place_of, set, small};
 use plan_text::{Plan, Step};
 use ring_names::{Refusal, Slot};
 use ring_table::Ring;
 use std::alloc::Global;
 use std::collections::BTreeMap;
+use texts::{at, place_of, set, small};
 
 #[derive(Clone, Copy, Debug)]
 pub(crate) struct PlannedMove {

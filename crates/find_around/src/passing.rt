@@ -3,8 +3,8 @@
 use crate::around::Search;
 use crate::moving::PlannedMove;
 use crate::owners::Way;
-use helpers::is_set;
 use ring_names::{Refusal, Slot};
+use texts::is_set;
 
 impl Search<'_> {
     /// Marks steps after a switch that the move's copy now precedes.

@@ -3,10 +3,10 @@
 use crate::around::{Reach, Search};
 use crate::moving::PlannedMove;
 use crate::told::SlotOutcome;
-use helpers::{is_set, put, small};
 use plan_runs::Back;
 use ring_names::{NodeId, Refusal, Slot};
 use ringplan_job::Extent;
+use texts::{is_set, put, small};
 
 impl Search<'_> {
     /// Lets no more moves begin in resting partitions.

@@ -2,8 +2,8 @@
 
 use crate::around::Search;
 use crate::moving::first_owner;
-use helpers::small;
 use ring_names::{NodeId, Refusal, Slot};
+use texts::small;
 
 impl Search<'_> {
     pub(crate) fn part_from_dead(&mut self) {

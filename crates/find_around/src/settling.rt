@@ -3,9 +3,9 @@
 use crate::around::{Reach, Search};
 use crate::moving::{PlannedMove, first_owner};
 use crate::told::SlotOutcome;
-use helpers::{is_set, put};
 use plan_runs::Back;
 use ring_names::{NodeId, Refusal, Slot};
+use texts::{is_set, put};
 
 #[derive(Clone, Copy, Debug)]
 enum Fate {

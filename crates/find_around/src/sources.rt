@@ -3,10 +3,10 @@
 use crate::around::Search;
 use crate::moving::PlannedMove;
 use crate::owners::Way;
-use helpers::{at, put, raise};
 use plan_text::{Source, Step};
 use ring_names::{Refusal, Slot};
 use ring_table::Allowance;
+use texts::{at, put, raise};
 
 /// The slots that a copy lists, by index.
 #[derive(Clone, Copy, Debug)]

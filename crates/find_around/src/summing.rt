@@ -2,8 +2,8 @@
 
 use crate::around::Search;
 use crate::told::SlotOutcome;
-use helpers::{at, raise, small};
 use ring_names::{Refusal, Slot};
+use texts::{at, raise, small};
 
 const MOST: usize = 16;
 

@@ -2,8 +2,8 @@
 
 use crate::around::Search;
 use crate::moving::{PlannedMove, first_owner};
-use helpers::{at, place_of, raise, set, small};
 use ring_names::{NodeId, Slot};
+use texts::{at, place_of, raise, set, small};
 
 impl Search<'_> {
     // Marks nodes that ever serve the partition. Looks at each move once.

@@ -4,11 +4,11 @@ use crate::around::Search;
 use crate::needs::Needs;
 use crate::sources::CopyListing;
 use find_rounds::add;
-use helpers::{at, lower, raise, set, small};
 use plan_text::{Indexes, Plan, Source, Step};
 use ring_names::{NodeId, Refusal, Slot};
 use std::alloc::Global;
 use std::collections::BinaryHeap;
+use texts::{at, lower, raise, set, small};
 
 #[derive(Drop)]
 pub(crate) struct Written {

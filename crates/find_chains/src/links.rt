@@ -1,8 +1,8 @@
 //! Chains of copies.
 
-use helpers::{at, set, small};
 use ring_names::{Refusal, Rows};
 use std::alloc::Global;
+use texts::{at, set, small};
 
 /// By copy, the earlier copy that it follows. At most one follows each.
 #[derive(Drop)]

@@ -1,9 +1,9 @@
 //! Links as many copies as possible.
 
 use crate::links::Links;
-use helpers::{at, set, set_word, small, word};
 use ring_names::Refusal;
 use std::alloc::Global;
+use texts::{at, set, set_word, small, word};
 
 /// Copies, each with a bit set of earlier ones.
 #[derive(Drop)]

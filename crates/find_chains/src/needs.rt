@@ -2,11 +2,11 @@
 
 use crate::paths::Paths;
 use crate::stays::{Stay, Stays};
-use helpers::{at, place_of, set};
 use plan_text::{Plan, Source, Step};
 use ring_names::{NodeId, Refusal, Slot};
 use ring_table::Ring;
 use std::alloc::Global;
+use texts::{at, place_of, set};
 
 /// Asks for the paths that the checker needs.
 #[derive(Drop)]

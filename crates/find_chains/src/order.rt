@@ -4,10 +4,10 @@ use crate::links::Links;
 use crate::looks::Looks;
 use crate::matching::{EarlierCopies, Matching};
 use crate::runs::runs_of;
-use helpers::{at, parts, set, set_word, small, word};
 use plan_text::Plan;
 use ring_names::{Refusal, Rows};
 use std::alloc::Global;
+use texts::{at, parts, set, set_word, small, word};
 
 // The most words of all bit sets, 200 MB. Accepted plans need no more if looks suffice.
 const MOST_WORDS: usize = 25_000_000;

@@ -1,12 +1,12 @@
 //! Paths of dependencies.
 
 use crate::looks::Looks;
-use helpers::{at, set};
 use plan_order::Ends;
 use plan_text::Plan;
 use ring_names::{Refusal, Rows};
 use std::alloc::Global;
 use std::collections::BTreeSet;
+use texts::{at, set};
 
 // The most facts of a certificate, and steps of a fact.
 const MOST_FACTS: usize = 262_144;

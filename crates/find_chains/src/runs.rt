@@ -2,10 +2,10 @@
 
 ghost use Rattle.std.specs.Prelude.{◌<◌, length};
 
-use helpers::{at, set};
 use plan_text::{Plan, Step};
 use ring_names::{Refusal, Slot};
 use std::alloc::Global;
+use texts::{at, set};
 
 /// By step, its run's first step. Costs two binary searches a step.
 ///

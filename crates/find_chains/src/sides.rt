@@ -1,11 +1,11 @@
 //! Sides of nodes.
 
 use crate::stays::Stays;
-use helpers::{at, set, small};
 use plan_text::{Plan, Source, Step};
 use ring_names::{NodeId, Refusal, Slot};
 use ring_table::{Allowance, NodeSide, Ring, Side};
 use std::alloc::Global;
+use texts::{at, set, small};
 
 /// The copies of each side, ascending.
 #[derive(Drop)]

@@ -1,11 +1,11 @@
 //! Which nodes serve slots.
 
-use helpers::{at, place_of, set, small};
 use plan_text::Step;
 use ring_names::{NodeId, Refusal, Slot};
 use ring_table::Ring;
 use std::alloc::Global;
 use std::collections::BTreeMap;
+use texts::{at, place_of, set, small};
 
 /// A node's stay at a slot, since the start or a mirror.
 #[derive(Clone, Copy, Debug)]

@@ -1,9 +1,9 @@
 //! Copies and allowances of nodes.
 
-use helpers::{at, lower, raise};
 use ring_names::Refusal;
 use ring_table::{Allowance, Ring};
 use std::alloc::Global;
+use texts::{at, lower, raise};
 
 /// Each node's copies from it and to it. If joint, the first count has both.
 #[derive(Drop)]

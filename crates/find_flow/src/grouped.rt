@@ -1,8 +1,8 @@
 //! Numbers in groups.
 
-use helpers::{at, raise, set, small, swap};
 use ring_names::Refusal;
 use std::alloc::Global;
+use texts::{at, raise, set, small, swap};
 
 /// Numbers in groups: count all, make room, then put each.
 #[derive(Drop)]

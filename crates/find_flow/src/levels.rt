@@ -4,9 +4,9 @@ use crate::meeting::SearchAim;
 use crate::members::Role;
 use crate::search::PathSearch;
 use crate::seats::Seats;
-use helpers::{NONE, at, set};
 use ring_names::Refusal;
 use std::alloc::Global;
+use texts::{NONE, at, set};
 
 fn mark_path(search: &PathSearch, levels: &mut [u32], from: u32, level: u32) {
     let mut node = from;

@@ -6,9 +6,9 @@
 
 use crate::members::Role;
 use crate::seats::Seats;
-use helpers::{NONE, at, set, small};
 use ring_names::Refusal;
 use std::alloc::Global;
+use texts::{NONE, at, set, small};
 
 // The looks of all searches at slots and partitions.
 const LOOKS: u32 = 80_000_000;

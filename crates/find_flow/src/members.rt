@@ -2,10 +2,10 @@
 
 use crate::racks::Racks;
 use crate::wish::WishedChange;
-use helpers::{at, quotient, small};
 use ring_names::{NodeId, Refusal};
 use ring_table::Ring;
 use std::alloc::Global;
+use texts::{at, quotient, small};
 
 /// A node's role in a change.
 #[derive(Clone, Copy, PartialEq, Eq)]

@@ -7,9 +7,9 @@ use crate::levels::find_levels;
 use crate::meeting::SearchAim;
 use crate::search::PathSearch;
 use crate::seats::Seats;
-use helpers::{set_word, word};
 use ring_names::Refusal;
 use std::alloc::Global;
+use texts::{set_word, word};
 
 // Gives the node missing slots while paths lead there.
 fn raise(

@@ -3,9 +3,9 @@
 use crate::grouped::Grouped;
 use crate::meeting::{Link, Meeting};
 use crate::seats::Seats;
-use helpers::{at, set, small, swap};
 use ring_names::Refusal;
 use std::alloc::Global;
+use texts::{at, set, small, swap};
 
 /// One level's slots, by rack and by partition. A search uses each once: later visits would meet no new member.
 #[derive(Drop)]

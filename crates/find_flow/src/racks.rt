@@ -3,9 +3,9 @@
 //! An even spread has the fewest pairs in one rack: `level` slots in each, or one for each member if these are fewer.
 //! Some racks have one slot more.
 
-use helpers::{at, raise, set, small};
 use ring_names::Refusal;
 use std::alloc::Global;
+use texts::{at, raise, set, small};
 
 /// All nodes' racks, numbered from 0.
 #[derive(Drop)]

@@ -4,10 +4,10 @@ use crate::copies::Copies;
 use crate::grouped::Grouped;
 use crate::members::{Members, Role};
 use crate::volumes::NodeVolumes;
-use helpers::{NONE, at, lower, raise, set, small, swap};
 use ring_names::Refusal;
 use ring_table::Ring;
 use std::alloc::Global;
+use texts::{NONE, at, lower, raise, set, small, swap};
 
 /// Each slot's owner. Places go by partition, then by index.
 #[derive(Drop)]

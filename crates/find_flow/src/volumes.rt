@@ -1,9 +1,9 @@
 //! Stored sizes.
 
 use crate::members::{Members, Role};
-use helpers::{at, set_word, word};
 use ring_names::Refusal;
 use std::alloc::Global;
+use texts::{at, set_word, word};
 
 // Loads and aims count 64ths of a unit, since shares are seldom whole. All sizes by a weight of 1,000 stay below 2^63
 // parts.

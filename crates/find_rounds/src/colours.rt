@@ -9,9 +9,9 @@ use crate::listed::fewest;
 use crate::moving::SlotMove;
 use crate::round_sets::RoundSets;
 use crate::rounds::counts;
-use helpers::{at, parts, set, small};
 use ring_names::Refusal;
 use std::alloc::Global;
+use texts::{at, parts, set, small};
 
 // A seat's missing copy.
 const NONE: u32 = 4_294_967_295;

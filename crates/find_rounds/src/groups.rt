@@ -1,9 +1,9 @@
 //! Groups of transfers.
 
-use helpers::{at, set};
 use ring_names::{NodeId, Refusal};
 use ring_table::{Allowance, NodeSide, Ring, Side};
 use std::alloc::Global;
+use texts::{at, set};
 
 /// Two groups for each node: copies from it and to it. If one number counts both, the first has all.
 #[derive(Drop)]

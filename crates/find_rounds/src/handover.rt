@@ -6,12 +6,12 @@ use crate::moving::SlotMove;
 use crate::rounds::Schedule;
 use crate::task::Task;
 use crate::writing::{Turnover, write};
-use helpers::small;
 use plan_cert::Cert;
 use plan_text::Plan;
 use ring_names::{Listed, NodeId, Refusal, Slot};
 use ring_table::Ring;
 use std::alloc::Global;
+use texts::small;
 
 /// A wanted change of owners.
 #[derive(Clone, Copy)]

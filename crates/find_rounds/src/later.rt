@@ -1,9 +1,9 @@
 //! Rounds in turn: a copy takes the first round, from its groups' last ones on, in which all are free.
 
 use crate::groups::Groups;
-use helpers::{at, raise, set};
 use ring_names::Refusal;
 use std::alloc::Global;
+use texts::{at, raise, set};
 
 /// Each group's last round, and its copies there.
 #[derive(Drop)]

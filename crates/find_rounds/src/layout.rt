@@ -1,9 +1,9 @@
 //! Owners and moves of slots.
 
-use helpers::{at, set};
 use ring_names::{Refusal, Slot};
 use ring_table::Ring;
 use std::alloc::Global;
+use texts::{at, set};
 
 /// Slots' owners, partition by partition, and which slots move.
 #[derive(Drop)]

@@ -7,8 +7,8 @@ use crate::groups::Groups;
 use crate::moving::SlotMove;
 use crate::rounds::counts;
 use crate::task::Task;
-use helpers::{at, lower, parts, raise, small};
 use ring_names::{Refusal, Rows};
+use texts::{at, lower, parts, raise, small};
 
 // The slots that each copy lists, by index. None for the owner.
 #[derive(Drop)]

@@ -3,9 +3,9 @@
 use crate::later::Later;
 use crate::task::Task;
 use crate::urgency::by_urgency;
-use helpers::{at, row, set, small};
 use ring_names::{Refusal, Rows};
 use std::alloc::Global;
+use texts::{at, row, set, small};
 
 // By slot, 1 plus its move's number, or 0.
 fn by_place(task: &Task) -> Result<Vec<u32>, Refusal> {

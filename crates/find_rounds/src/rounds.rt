@@ -8,9 +8,9 @@ use crate::moving::SlotMove;
 use crate::phases::{followers, in_phases};
 use crate::task::Task;
 use crate::urgency::by_urgency;
-use helpers::{raise, row, small};
 use ring_names::{Refusal, Rows};
 use std::alloc::Global;
+use texts::{raise, row, small};
 
 /// Counts the copies from owners, by group.
 pub fn counts(alloc: Global, groups: &Groups, moves: &[SlotMove]) -> Result<Vec<u32>, Refusal> {

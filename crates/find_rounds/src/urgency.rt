@@ -6,11 +6,11 @@
 //! Copies that others follow are queued first, and followers once these have rounds.
 
 use crate::groups::Groups;
-use helpers::{at, lower, raise, row, set, small};
 use ring_names::{Refusal, Rows};
 use std::alloc::Global;
 use std::cmp::Reverse;
 use std::collections::VecDeque;
+use texts::{at, lower, raise, row, set, small};
 
 // The most looks at groups and copies.
 const LOOKS: usize = 16_000_000;

@@ -4,11 +4,11 @@ use crate::moving::SlotMove;
 use crate::rounds::Schedule;
 use crate::steps::add;
 use crate::task::Task;
-use helpers::{at, row, small};
 use plan_cert::{Cert, Chains};
 use plan_text::{Indexes, Plan, Source, Step};
 use ring_names::{Lists, NodeId, Refusal, Rows, Slot};
 use std::alloc::Global;
+use texts::{at, row, small};
 
 /// Nodes that join, and that retire.
 #[derive(Clone, Copy)]

@@ -12,7 +12,6 @@ use crate::going::{Going, accepted, go_on};
 use change_text::Options;
 use find_around::{Around, AroundTask, Kept, Reach, find_around, find_kept, find_unmoved};
 use find_chains::certificate;
-use helpers::{Labels, Words};
 use history_text::ReplayBundle;
 use plan_bundles::{Racking, ask_layout, dead_by, is_same_ring, members_by, nodes_of, racks_of};
 use plan_cert::Cert;
@@ -23,6 +22,7 @@ use ring_core::{World, replay};
 use ring_names::{Names, NodeId, Refusal, Slot};
 use ringplan_job::Detour;
 use std::alloc::Global;
+use texts::{Labels, Words};
 
 #[derive(Clone, Copy)]
 struct Asked<'a> {

@@ -9,14 +9,13 @@ ghost use Rattle.plan_goal.specs.Proposals.{front_text};
 ghost use Rattle.plan_bundles.specs.Certs.{front_at, front_reading, parts, IsCertifiedBy, IsCertifiedText, IsClaimedText};
 
 use find_chains::{Excess, FoundCert, certificate, overload};
-use helpers::Words;
 use plan_check::{Turned, check};
 use plan_goal::write_front;
 use plan_text::{Plan, read_plan_section};
 use ring_names::{NodeId, Refusal};
 use ring_table::{Ring, Side, read_ring_section};
 use std::alloc::Global;
-use texts::Lines;
+use texts::{Lines, Words};
 
 #[derive(Drop)]
 pub(crate) struct Front {

@@ -3,11 +3,11 @@
 use crate::groups::Groups;
 use crate::pieces::{Pieces, Place, waits_in};
 use find_rounds::add;
-use helpers::{at, set, small};
 use plan_text::{Plan, Step};
 use ring_names::Refusal;
 use ring_table::Ring;
 use std::alloc::Global;
+use texts::{at, set, small};
 
 // The most passes until no group waits for a later window.
 const PASSES: u32 = 64;

@@ -11,13 +11,13 @@ use crate::sections::{Kind, kind_of};
 use crate::sized::{Measures, are_kept, has_sizes, sizes_of, weights_of};
 use crate::unread::wanted_by;
 use change_text::{Change, Options, Unreadable, Wanted, read_wanted};
-use helpers::Labels;
 use layout_text::{Fact, Layout};
 use plan_goal::{Aim, Goal, Proposed, is_among, reach, read_goal, unread_partitions};
 use plan_maker::{WishedChange, wished};
 use ring_names::{Listed, NodeId, Refusal};
 use ring_table::Ring;
 use std::alloc::Global;
+use texts::Labels;
 
 /// The named nodes. An undeclared name is `UnknownNode(0)`.
 pub fn nodes_of(alloc: Global, ring: &Ring, names: &[Vec<u8>]) -> Result<Vec<NodeId>, Refusal>

@@ -1,11 +1,11 @@
 //! Groups of steps: a slot's move with its drop.
 
 use find_chains::Stays;
-use helpers::at;
 use plan_text::{Plan, Step};
 use ring_names::Refusal;
 use ring_table::Ring;
 use std::alloc::Global;
+use texts::at;
 
 /// The steps' groups, and their number.
 #[derive(Drop)]

@@ -1,12 +1,12 @@
 //! Racks and aliases, from the layout or nodes' names.
 
 use change_text::{Options, RackRule};
-use helpers::{Labels, Words, at, is_set, put, raise, set, small, suffix};
 use layout_text::{Entry, Fact, Layout};
 use plan_text::Plan;
 use ring_names::{NodeId, Refusal};
 use ring_table::Ring;
 use std::alloc::Global;
+use texts::{Labels, Words, at, is_set, put, raise, set, small, suffix};
 
 /// How racks are known.
 #[derive(Clone, Copy, Debug, PartialEq, Eq)]

@@ -9,10 +9,10 @@ ghost use Rattle.plan_goal.specs.Unread.{is_unread, live};
 use crate::alike::{has_space, is_node};
 use crate::dead::Dead;
 use crate::sparing::is_among;
-use helpers::small;
 use ring_names::{NodeId, Refusal, Slot};
 use ring_table::{Node, Ring};
 use std::alloc::Global;
+use texts::small;
 
 /// A ring, the goal ring, and the dead nodes.
 #[derive(Clone, Copy)]

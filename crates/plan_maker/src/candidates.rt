@@ -1,9 +1,9 @@
 //! Slots to swap.
 
 use find_flow::{Grouped, Role, Seats};
-use helpers::{at, quotient, set, small, swap};
 use ring_names::Refusal;
 use std::alloc::Global;
+use texts::{at, quotient, set, small, swap};
 
 /// Each node's slots.
 #[derive(Drop)]

@@ -2,9 +2,9 @@
 
 use crate::pairs::{Half, PairCounts};
 use find_flow::{Role, Seats};
-use helpers::{at, lower, raise, set, small};
 use ring_names::Refusal;
 use std::alloc::Global;
+use texts::{at, lower, raise, set, small};
 
 /// A swap's cost, the most important first. Negative is a gain.
 #[derive(Clone, Copy, PartialEq, Eq, PartialOrd, Ord, Drop)]

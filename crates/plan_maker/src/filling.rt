@@ -3,9 +3,9 @@
 use crate::ranks::Who;
 use crate::takers::Takers;
 use find_flow::Seats;
-use helpers::NONE;
 use ring_names::Refusal;
 use std::alloc::Global;
+use texts::NONE;
 
 /// Gives the partition's free slots away, or fails with `NoPlan`.
 pub(crate) fn fill_partition(

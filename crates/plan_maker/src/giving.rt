@@ -3,11 +3,11 @@
 use crate::ranks::Who;
 use crate::takers::Takers;
 use find_flow::{Role, Seats};
-use helpers::{at, raise};
 use ring_names::Refusal;
 use std::alloc::Global;
 use std::cmp::Reverse;
 use std::collections::BinaryHeap;
+use texts::{at, raise};
 
 /// A giver's rank: greatest for most slots by weight, then most allowance left, then the smallest number.
 #[derive(Clone, Copy, PartialEq, Eq, PartialOrd, Ord, Drop)]

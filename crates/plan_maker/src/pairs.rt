@@ -1,9 +1,9 @@
 //! Partitions that two nodes share.
 
 use find_flow::Seats;
-use helpers::{at, lower, raise};
 use ring_names::Refusal;
 use std::alloc::Global;
+use texts::{at, lower, raise};
 
 /// Half a swap: a slot's old and new owner.
 #[derive(Clone, Copy)]

@@ -1,9 +1,9 @@
 //! The members' order.
 
 use find_flow::{Role, Seats};
-use helpers::{NONE, small};
 use ring_names::Refusal;
 use std::alloc::Global;
+use texts::{NONE, small};
 
 /// A member's rank, the least first.
 #[derive(Clone, Copy, PartialEq, Eq, PartialOrd, Ord, Drop)]

@@ -6,11 +6,11 @@ use crate::ranks::Who;
 use crate::swapping::swap_all;
 use crate::takers::Takers;
 use find_flow::{Grouped, Role, Seats};
-use helpers::{at, raise, small};
 use ring_names::Refusal;
 use std::alloc::Global;
 use std::cmp::Reverse;
 use std::collections::BinaryHeap;
+use texts::{at, raise, small};
 
 fn by_size(alloc: Global, seats: &Seats) -> Result<Vec<u32>, Refusal> {
     let mut keyed = Vec::new(alloc);

@@ -6,9 +6,9 @@
 use crate::candidates::Candidates;
 use crate::crowds::{ANY_GAIN, Cost, Crowds, FEWER_JOINERS};
 use find_flow::{Role, Seats};
-use helpers::{quotient, small};
 use ring_names::Refusal;
 use std::alloc::Global;
+use texts::{quotient, small};
 
 // The most looks for one swap.
 const LOOKS: u32 = 128;

@@ -2,9 +2,9 @@
 
 use crate::ranks::{NOBODY, Ranks, Who, sooner};
 use find_flow::Seats;
-use helpers::NONE;
 use ring_names::Refusal;
 use std::alloc::Global;
+use texts::NONE;
 
 /// Members by their rank as takers.
 #[derive(Drop)]

@@ -1,8 +1,8 @@
 //! Frees slots in crowded racks.
 
 use find_flow::Seats;
-use helpers::NONE;
 use std::cmp::Reverse;
+use texts::NONE;
 
 // The order of moving slots, the greatest first: racks above their most, then owners with many slots by weight.
 #[derive(Clone, Copy, PartialEq, Eq, PartialOrd, Ord, Drop)]

@@ -1,11 +1,11 @@
 //! How far a run has come.
 
 use crate::kept::Kept;
-use helpers::{at, is_set, put, raise};
 use plan_runs::{Entry, Event};
 use plan_text::Plan;
 use ring_names::Refusal;
 use std::alloc::Global;
+use texts::{at, is_set, put, raise};
 
 /// An open copy, and its copied chunks, of 16.
 #[derive(Clone, Copy, Debug)]

@@ -4,9 +4,9 @@ use crate::help::{ABOUT, STREAMS, VERSION};
 use crate::tree::command;
 use clap::Error;
 use clap::error::ErrorKind;
-use helpers::Words;
 use std::alloc::{AllocError, Global};
 use std::convert::AsStr;
+use texts::Words;
 
 const STATUSES: &str = "Exit status:\n";
 

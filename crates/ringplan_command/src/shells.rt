@@ -2,8 +2,8 @@
 
 use crate::tree::command;
 use clap::{Arg, Command};
-use helpers::Words;
 use std::alloc::{AllocError, Global};
+use texts::Words;
 
 #[derive(Clone, Copy)]
 pub(crate) enum Shell {

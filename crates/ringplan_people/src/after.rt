@@ -8,7 +8,6 @@ ghost use Rattle.ringplan_people.specs.Studies.{IsLeftAt, IsLeftBy, IsLeftNow, I
 use crate::study::{Study, accepted, studied, study_change, study_plan};
 use crate::why::push_words_of;
 use change_text::Options;
-use helpers::{Words, small};
 use history_text::read_replay;
 use plan_bundles::{Kind, kind_of, ring_after};
 use plan_check::Approved;
@@ -19,6 +18,7 @@ use ring_core::{World, replay};
 use ring_names::{NodeId, Refusal, Slot};
 use ring_table::{Ring, write_ring};
 use std::alloc::Global;
+use texts::{Words, small};
 
 // By slot, the open mirror's step.
 #[derive(Drop)]

@@ -5,10 +5,10 @@ ghost use Rattle.ringplan_people.specs.Made.{IsBundleOf, IsCertOf};
 
 use crate::why::push_words_of;
 use change_text::Options;
-use helpers::Words;
 use plan_bundles::{Kind, cert_bundle, found_bundle, kind_of, push_excess, wish_bundle};
 use ring_names::Refusal;
 use std::alloc::Global;
+use texts::Words;
 
 const GIVEN_UP: &[u8; 268] =
     b"refused: the search for fewer chains was given up after 100,000,000 looks\n  Some node has more chains than it may have transfers open. Fewer may be enough, so a certificate may exist.\n  Let copies of that node wait directly for earlier ones: then no search is needed.\n";

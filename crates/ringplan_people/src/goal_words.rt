@@ -3,13 +3,13 @@
 use crate::history_words::unless_memory;
 use crate::why::{push_few, push_too_few, push_words_of};
 use change_text::{Options, Unreadable, Wanted, read_wanted};
-use helpers::{Words, small};
 use plan_bundles::{Kind, dead_by, front, goal_of, kind_of, nodes_of};
 use plan_goal::{Aim, Goal, Unfit, is_among, why_unfit};
 use ring_names::{NodeId, Refusal};
 use ring_table::Ring;
 use show_why::{Page, Said, push_printed, tell_text};
 use std::alloc::Global;
+use texts::{Words, small};
 
 const NAMED: usize = 20;
 

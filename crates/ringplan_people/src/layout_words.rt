@@ -1,10 +1,10 @@
 //! Faulty layouts.
 
-use helpers::Words;
 use layout_text::read_layout;
 use ring_names::Refusal;
 use show_why::{Page, Said, tell_layout};
 use std::alloc::Global;
+use texts::Words;
 
 // Adds the mend and its result, unless the refusal stays.
 fn push_mend(

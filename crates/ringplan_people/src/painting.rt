@@ -1,10 +1,10 @@
 //! Colours, by the escape sequences of ECMA-48 (SGR).
 
-use helpers::Words;
 use ring_names::Refusal;
 use ringplan_job::Color;
 use show_why::cut_line;
 use std::alloc::Global;
+use texts::Words;
 
 #[derive(Clone, Copy)]
 enum Paint {

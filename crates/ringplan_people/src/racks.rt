@@ -1,7 +1,6 @@
 //! Known racks, and options that do not fit.
 
 use change_text::{Options, RackRule, read_wanted};
-use helpers::Words;
 use layout_text::{Entry, Fact};
 use plan_bundles::{
     Kind, Racking, front, kind_of, members_by, members_with, misfit, racks_of, unracked,
@@ -11,6 +10,7 @@ use ring_names::Refusal;
 use ring_table::{Ring, read_ring};
 use show_why::{Nearest, push_printed};
 use std::alloc::Global;
+use texts::Words;
 
 pub(crate) fn racking_of(
     alloc: Global,

@@ -15,7 +15,6 @@ use crate::steps::{moves_bundle, steps_bundle};
 use crate::why::{push_words_of, why_bundle};
 use crate::windows::{push_windows_words, windows_bundle};
 use change_text::Options;
-use helpers::Words;
 use plan_around::around_bundle;
 use plan_bundles::{Kind, front, kind_of, led_bundle};
 use ring_names::Refusal;
@@ -23,6 +22,7 @@ use ringplan_job::{Color, Exit, Making, Statement};
 use ringplan_jobs::{Answer, answer_of};
 use show_why::Page;
 use std::alloc::Global;
+use texts::Words;
 
 /// Standard output, standard error and the exit status.
 #[derive(Debug, Drop)]

@@ -7,7 +7,6 @@ use crate::painting::painted;
 use crate::racks::racking_of;
 use crate::study::{Study, studied};
 use change_text::Options;
-use helpers::{Labels, Words};
 use plan_bundles::{
     Kind, Racking, aliases_of, ask_layout, dead_by, front, has_sizes, kind_of, members_with,
     nodes_of, racks_of, sizes_of,
@@ -22,6 +21,7 @@ use show_plan::{
     short_labels, summary,
 };
 use std::alloc::Global;
+use texts::{Labels, Words};
 
 #[derive(Drop)]
 pub(crate) struct Shown {

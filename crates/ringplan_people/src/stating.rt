@@ -15,7 +15,6 @@ use crate::show::{Shown, facts_of, racks_at_rest, shown_by, volumes_of};
 use crate::study::{Study, studied};
 use crate::why::{MendOutcome, push_accepted, push_why};
 use change_text::Options;
-use helpers::{Labels, Words, at, small, word};
 use plan_bundles::{Racking, ask_layout, front, led_bundle};
 use plan_goal::Proposed;
 use ring_names::Refusal;
@@ -26,6 +25,7 @@ use serde_json::Value;
 use show_plan::{PresentRing, RingFacts, Scene, Volumes, stored_by};
 use show_why::Said;
 use std::alloc::Global;
+use texts::{Labels, Words, at, small, word};
 
 // `accepted`, `planned`, `replayed`, or the next refusal's line.
 fn outcome_value(alloc: Global, outcome: MendOutcome) -> Result<Value, Refusal> {

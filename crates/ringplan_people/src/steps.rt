@@ -11,11 +11,11 @@ ghost use Rattle.ringplan_people.specs.Studies.{IsStudyOf};
 use crate::racks::push_racks;
 use crate::study::studied;
 use change_text::Options;
-use helpers::Words;
 use plan_check::Approved;
 use plan_lines::{write_moves, write_steps};
 use ring_names::Refusal;
 use std::alloc::Global;
+use texts::Words;
 
 fn steps_of(alloc: Global, approved: &Approved) -> Result<Vec<u8>, Refusal>
     ensures text { IfOk result (λ v. v.items ≡ steps_text approved.now.ring approved.now.plan) }

@@ -17,7 +17,6 @@ use crate::keeping::{APART, FEW, MEMBERS, say_kept};
 use crate::painting::painted;
 use crate::study::{Study, studied, study_change};
 use change_text::{Options, Wanted, read_wanted};
-use helpers::{Words, small};
 use plan_bundles::{Kind, cert_bundle, front, kind_of};
 use plan_cert::Cert;
 use plan_check::{Turned, check};
@@ -29,6 +28,7 @@ use ringplan_jobs::{Answer, Kind as Sections, answer_of, check_bundle, read_bund
 use show_refusal::{Read, Remedy, tell_plan};
 use show_why::{Page, Said, tell_text};
 use std::alloc::Global;
+use texts::{Words, small};
 
 /// The checker's answer to a mended bundle.
 #[derive(Clone, Copy, PartialEq, Eq)]

@@ -12,11 +12,11 @@ use crate::reporting::GivenBundle;
 use crate::study::{Study, studied};
 use crate::why::push_words_of;
 use change_text::Options;
-use helpers::Words;
 use plan_bundles::cut_plan;
 use ring_names::Refusal;
 use ringplan_job::Cut;
 use std::alloc::Global;
+use texts::Words;
 
 const TOO_MANY: &[u8; 123] =
     b"refused: the windows have more than 67,108,864 bytes together, as each has the whole ring\n  Let a window have more rounds.\n";

@@ -2,8 +2,8 @@
 
 use crate::order::{KINDS, kind};
 use crate::sheet::Sheet;
-use helpers::{at, small};
 use ring_names::Refusal;
+use texts::{at, small};
 
 const NAMED: usize = 27;
 

@@ -5,8 +5,8 @@ use crate::sheet::Sheet;
 use crate::state::{BarState, state_of};
 use crate::style::{GIVE, TAKE};
 use crate::svg::{Area, Point, push_area, push_titled};
-use helpers::{Words, small};
 use show_plan::ShownMove;
+use texts::{Words, small};
 
 // For words on filled and bare bars.
 const LIGHT: &[u8] = b"b on";
@@ -115,7 +115,7 @@ pub fn push_bar(sheet: &Sheet, out: &mut Words, area: Area, shown: &ShownMove, t
     };
     if let BarState::Open(chunks) = state {
         let mut part = area;
-        part.width = helpers::parts_of(chunks, 16, area.width);
+        part.width = texts::parts_of(chunks, 16, area.width);
         push_area(out, part, fill, b" rx=\"3\" opacity=\"0.4\"");
     }
     let room = area.width.saturating_sub(RIM);

@@ -2,8 +2,8 @@
 
 use crate::columns::Columns;
 use crate::sheet::Sheet;
-use helpers::{at, raise};
 use ring_names::{NodeId, Refusal};
+use texts::{at, raise};
 
 const MOST: u32 = 128;
 

@@ -1,8 +1,8 @@
 //! A map's columns.
 
 use crate::sheet::Sheet;
-use helpers::{Labels, at, small};
 use ring_names::{NodeId, Refusal};
+use texts::{Labels, at, small};
 
 const MOST: usize = 60;
 

@@ -12,9 +12,9 @@ use crate::svg::{
     push_words,
 };
 use crate::widths::width;
-use helpers::{Words, at, parts_of, raise, small};
 use ring_names::Refusal;
 use show_plan::{ShownMove, push_many};
+use texts::{Words, at, parts_of, raise, small};
 
 const COLUMNS: u32 = 60;
 

@@ -2,7 +2,7 @@
 
 use crate::svg::{Point, push_begin, push_escaped, push_measure};
 use crate::widths::width;
-use helpers::Words;
+use texts::Words;
 
 // In pixels.
 const LEAST: u32 = 10;

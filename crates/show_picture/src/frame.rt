@@ -5,11 +5,11 @@ use crate::sheet::Sheet;
 use crate::style::DONE;
 use crate::svg::{Area, Caption, MARGIN, Point, WIDE, push_area, push_said, push_words};
 use crate::widths::width;
-use helpers::{Words, parts_of, small};
 use ring_names::Refusal;
 use show_plan::{
     fewest_moves, push_change, push_many, push_moves, push_names, push_quorum, push_short,
 };
+use texts::{Words, parts_of, small};
 
 const BAR: u32 = 210;
 

@@ -12,9 +12,9 @@ use crate::svg::{
     Area, MARGIN, Point, WIDE, push_area, push_picture, push_rule, push_said, push_words,
 };
 use crate::widths::width;
-use helpers::Words;
 use ring_names::Refusal;
 use show_plan::ShownMove;
+use texts::Words;
 
 // A lane's height, and a row's least.
 const LANE: u32 = 19;

@@ -1,9 +1,9 @@
 //! Lanes: one for each copy in a round.
 
 use crate::sheet::Sheet;
-use helpers::{at, raise};
 use ring_names::Refusal;
 use show_plan::ShownMove;
+use texts::{at, raise};
 
 /// Copies counted so far, by row and round.
 #[derive(Drop)]

@@ -7,9 +7,9 @@ use crate::frame::{caption_of, name_class, push_frame, push_key};
 use crate::sheet::Sheet;
 use crate::svg::{Area, MARGIN, Point, WIDE, push_area, push_picture, push_said};
 use crate::widths::width;
-use helpers::{Labels, Words, at, parts_of, small};
 use ring_names::Refusal;
 use show_plan::push_many;
+use texts::{Labels, Words, at, parts_of, small};
 
 // The place of rack names. Columns' names begin below.
 const HEAD: u32 = 98;

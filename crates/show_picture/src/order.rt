@@ -1,8 +1,8 @@
 //! The drawing order of nodes.
 
 use crate::sheet::Sheet;
-use helpers::small;
 use ring_names::Refusal;
+use texts::small;
 
 // By kind, then the busiest first.
 #[derive(Clone, Copy, PartialEq, Eq, PartialOrd, Ord)]

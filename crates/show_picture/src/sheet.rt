@@ -1,11 +1,11 @@
 //! A picture's input.
 
-use helpers::{Words, at, word};
 use plan_moves::Progress;
 use plan_text::Plan;
 use ring_table::Ring;
 use show_plan::{NodeNames, PresentRing, Scene, ShownMove, Volumes, push_short};
 use std::alloc::Global;
+use texts::{Words, at, word};
 
 /// An approved plan, and a run's progress, if any.
 #[derive(Clone, Copy)]

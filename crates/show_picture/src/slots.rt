@@ -4,7 +4,7 @@ use crate::fitting::{TextLook, push_fitting};
 use crate::sheet::Sheet;
 use crate::style::{INK, KEPT, TAKE};
 use crate::svg::{Area, Point, push_area};
-use helpers::{Words, at, parts_of};
+use texts::{Words, at, parts_of};
 
 // The longest bar.
 const BAR: u32 = 70;

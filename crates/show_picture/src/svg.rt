@@ -1,7 +1,7 @@
 //! Shapes as SVG. Coordinates are whole pixels, so equal pictures have equal bytes.
 
 use crate::style::{PAGE, STYLE};
-use helpers::Words;
+use texts::Words;
 
 /// Each picture's width, about that of a repository's page.
 pub const WIDE: u32 = 900;

@@ -4,8 +4,8 @@ use crate::names::{NodeNames, push_many, push_names};
 use crate::present::PresentRing;
 use crate::scene::Scene;
 use crate::writing::columns;
-use helpers::{Words, small};
 use ring_table::Ring;
+use texts::{Words, small};
 
 fn push_who(out: &mut Words, names: NodeNames, nodes: &[u32], one: &[u8], more: &[u8]) {
     let mut width = 0usize;

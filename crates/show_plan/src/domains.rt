@@ -1,7 +1,7 @@
 //! Slots and racks.
 
-use helpers::Labels;
 use ring_names::{Listed, NodeId};
+use texts::Labels;
 
 fn shares_rack(row: &[NodeId], racks: &Labels) -> bool {
     for first in 0..row.len() {

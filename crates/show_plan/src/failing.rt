@@ -1,10 +1,10 @@
 //! Further failures.
 
 use crate::present::PresentRing;
-use helpers::{at, raise, small};
 use ring_names::{Listed, NodeId, Refusal};
 use ring_table::Ring;
 use std::alloc::Global;
+use texts::{at, raise, small};
 
 fn count_up(row: &[NodeId], present: &PresentRing) -> u32 {
     let mut count = 0u32;

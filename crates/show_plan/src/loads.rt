@@ -2,13 +2,13 @@
 
 use crate::shown::AllShown;
 use find_chains::{Order, Sides, sides_of};
-use helpers::{Words, at, raise};
 use plan_cert::Cert;
 use plan_moves::owned;
 use plan_text::Plan;
 use ring_names::{Listed, NodeId, Refusal};
 use ring_table::{Allowance, Ring, Side};
 use std::alloc::Global;
+use texts::{Words, at, raise};
 
 /// Numbers by node.
 #[derive(Drop)]

@@ -1,10 +1,10 @@
 //! Names and counts.
 
-use helpers::{Labels, Words};
 use ring_names::Refusal;
 use ring_table::Ring;
 use std::alloc::Global;
 use std::str;
+use texts::{Labels, Words};
 
 // The most characters, and how many a longer name keeps at each end.
 const MOST: usize = 32;
@@ -40,7 +40,7 @@ impl<'a> NodeNames<'a> {
 /// Shortens labels to 32 characters, with `..` in the middle.
 pub fn short_labels(alloc: Global, labels: &Labels) -> Result<Labels, Refusal> {
     let mut short = Labels::new(alloc);
-    for node in 0..helpers::small(labels.numbers().len()) {
+    for node in 0..texts::small(labels.numbers().len()) {
         match str::from_utf8(labels.name(node)) {
             Ok(label) if !label.is_empty() => {
                 short.add(short_of(alloc, label)?.as_str().as_bytes())?;
@@ -79,7 +79,7 @@ pub fn push_names(out: &mut Words, names: NodeNames, nodes: &[u32], most: usize)
     } else {
         nodes.len()
     };
-    let others = helpers::small(nodes.len().saturating_sub(shown));
+    let others = texts::small(nodes.len().saturating_sub(shown));
     let mut place = 0usize;
     for node in nodes {
         if place >= shown {

@@ -13,12 +13,12 @@ use crate::span::SlotSpan;
 use crate::table::push_table;
 use crate::volumes::Volumes;
 use crate::writing::{end_line, push_long, push_tenths, push_time};
-use helpers::{Labels, Words, at, parts_of, small};
 use plan_moves::Progress;
 use plan_text::Plan;
 use ring_names::Refusal;
 use ring_table::Ring;
 use std::alloc::Global;
+use texts::{Labels, Words, at, parts_of, small};
 
 /// How much a summary shows.
 #[derive(Clone, Copy, Debug, PartialEq, Eq)]

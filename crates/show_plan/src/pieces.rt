@@ -1,7 +1,7 @@
 //! Words that flow into lines.
 
 use crate::writing::{WIDTH, columns, push_spaces};
-use helpers::Words;
+use texts::Words;
 
 /// A line that words fill. The rest goes to a new line.
 #[derive(Clone, Copy)]

@@ -2,13 +2,13 @@
 
 use crate::scene::Scene;
 use crate::shown::ShownMove;
-use helpers::{is_set, put};
 use plan_check::Approved;
 use plan_moves::{Progress, owned};
 use plan_text::{Plan, Step};
 use ring_names::{Listed, NodeId, Refusal};
 use ring_table::Ring;
 use std::alloc::Global;
+use texts::{is_set, put};
 
 /// The ring after a history, or before the first step.
 #[derive(Drop)]

@@ -11,10 +11,10 @@ use crate::writing::{
     columns, end_line, push_left, push_long_right, push_number_right, push_right, push_spaces,
     push_tenths, width_of,
 };
-use helpers::{Labels, Words, at, parts_of, small, word};
 use ring_names::{NodeId, Refusal};
 use ring_table::{Allowance, Node, Ring};
 use std::alloc::Global;
+use texts::{Labels, Words, at, parts_of, small, word};
 
 const INDENT: usize = 12;
 

@@ -5,9 +5,9 @@ use crate::overview::{Overview, Sized, SummaryShape};
 use crate::pieces::Flow;
 use crate::shown::ShownMove;
 use crate::writing::{push_long_right, push_number_right, push_right, push_spaces};
-use helpers::{Words, at, small};
 use ring_names::Refusal;
 use std::alloc::Global;
+use texts::{Words, at, small};
 
 // The most rounds of a short list, and how many a shortened list shows.
 const SHORT: u32 = 12;
@@ -178,7 +178,7 @@ fn push_round(view: &Overview, out: &mut Words, round: &[Placed], word: &mut Wor
         let place = (first.round as usize).saturating_sub(1);
         push_long_right(
             out,
-            helpers::word(volumes.rounds.as_slice(), place),
+            texts::word(volumes.rounds.as_slice(), place),
             size_column(view),
         );
     }

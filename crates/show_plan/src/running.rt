@@ -3,10 +3,10 @@
 use crate::names::push_many;
 use crate::overview::Overview;
 use crate::writing::{end_line, push_times};
-use helpers::Words;
 use plan_moves::Progress;
 use plan_text::Step;
 use ring_names::Slot;
+use texts::Words;
 
 const INDENT: usize = 12;
 

@@ -2,7 +2,6 @@
 
 use crate::loads::Loads;
 use crate::shown::{AllShown, ShownMove};
-use helpers::{at, place_of, raise};
 use plan_cert::Cert;
 use plan_check::Approved;
 use plan_moves::{last_owners, moves, rounds};
@@ -10,6 +9,7 @@ use plan_text::{Plan, Step};
 use ring_names::{Listed, NodeId, Refusal};
 use ring_table::Ring;
 use std::alloc::Global;
+use texts::{at, place_of, raise};
 
 /// An approved plan, with all that is shown.
 #[derive(Drop)]
@@ -56,7 +56,7 @@ impl Scene {
 
     /// The number of consecutive rounds.
     pub fn round_count(&self) -> u32 {
-        helpers::small(self.widths.len())
+        texts::small(self.widths.len())
     }
 
     /// The widest round's copies.
@@ -70,7 +70,7 @@ impl Scene {
 
     /// Counts the moves.
     pub fn move_count(&self) -> u32 {
-        helpers::small(self.shown.moves.len())
+        texts::small(self.shown.moves.len())
     }
 
     /// Whether the node is a final member.

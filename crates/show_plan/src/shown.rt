@@ -1,12 +1,12 @@
 //! Moves and their steps.
 
 use find_chains::Stays;
-use helpers::{at, row};
 use plan_moves::Move;
 use plan_text::{Plan, Source, Step};
 use ring_names::{Refusal, Rows, Slot};
 use ring_table::Ring;
 use std::alloc::Global;
+use texts::{at, row};
 
 /// A move with its steps.
 #[derive(Clone, Copy, Debug)]

@@ -4,10 +4,10 @@ use crate::failing::kept;
 use crate::names::{NodeNames, push_many, push_names};
 use crate::present::PresentRing;
 use crate::writing::columns;
-use helpers::{Words, small};
 use ring_names::Refusal;
 use ring_table::Ring;
 use std::alloc::Global;
+use texts::{Words, small};
 
 fn silent_by(alloc: Global, present: &PresentRing, is_dead: bool) -> Result<Vec<u32>, Refusal> {
     let mut nodes = Vec::new(alloc);

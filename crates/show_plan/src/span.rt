@@ -1,6 +1,6 @@
 //! Spans.
 
-use helpers::Words;
+use texts::Words;
 
 /// Nodes' fewest and most slots.
 #[derive(Clone, Copy)]

@@ -9,10 +9,10 @@ use crate::writing::{
     WIDTH, columns, push_left, push_long, push_long_right, push_number_left, push_number_right,
     push_right, push_spaces, push_times, push_trimmed, width_of,
 };
-use helpers::{Words, at, parts_of, small, word};
 use ring_names::Refusal;
 use ring_table::Node;
 use std::alloc::Global;
+use texts::{Words, at, parts_of, small, word};
 
 const SHORT: usize = 24;
 

@@ -3,12 +3,12 @@
 use crate::scene::Scene;
 use crate::shown::ShownMove;
 use crate::writing::width_of;
-use helpers::{set_word, word};
 use plan_check::Approved;
 use plan_moves::Progress;
 use plan_text::{Plan, Step};
 use ring_names::{Listed, NodeId, Refusal, Slot};
 use std::alloc::Global;
+use texts::{set_word, word};
 
 /// How much remains after a history.
 #[derive(Clone, Copy, Debug)]

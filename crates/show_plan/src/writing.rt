@@ -1,6 +1,6 @@
 //! Words in lines.
 
-use helpers::Words;
+use texts::Words;
 
 /// The widest line, in characters.
 pub const WIDTH: usize = 100;

@@ -2,7 +2,6 @@
 
 use crate::ends::FactEnds;
 use find_chains::slot_of;
-use helpers::small;
 use plan_cert::Cert;
 use plan_stage::{Stage, stage_at};
 use plan_text::{Plan, Step};
@@ -10,6 +9,7 @@ use ring_names::{Refusal, Slot};
 use ring_table::Ring;
 use show_why::{Page, Said, place_of, span_of};
 use std::alloc::Global;
+use texts::small;
 
 /// A bundle, as bytes and as read.
 #[derive(Clone, Copy)]

@@ -2,10 +2,10 @@
 
 use crate::case::Case;
 use crate::roles::{CopyRole, role_at, roles};
-use helpers::small;
 use ring_names::{NodeId, Refusal};
 use ring_table::{Allowance, NodeSide, Side};
 use show_why::{Said, field};
+use texts::small;
 
 // The first two adjacent steps without a known order, and their place.
 fn gap(case: Case, path: &[u32], is_fact: bool) -> Option<(usize, u32, u32)> {

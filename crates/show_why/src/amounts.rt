@@ -1,7 +1,7 @@
 //! Written numbers.
 
 use crate::said::count_digits;
-use helpers::Words;
+use texts::Words;
 
 /// How a number is written.
 #[derive(Clone, Copy, Debug, PartialEq, Eq)]

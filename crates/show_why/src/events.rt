@@ -37,7 +37,7 @@ pub fn tell_event(line: Line, said: &mut Said) -> bool {
     said.mend_with(
         b"without the first fields, # of them",
         &[],
-        &[helpers::small(place)],
+        &[texts::small(place)],
     );
     said.put(line.number);
     said.add_with(b"@\n", &[rest.get(1..).unwrap_or(b"".as_slice())], &[]);

@@ -293,7 +293,7 @@ fn owners_of_all(line: Line) -> Option<usize> {
 // For rows that all have another number of owners than the line `quorum`.
 fn tell_rows(line: Line, said: &mut Said, wanted: u32) -> bool {
     let count = match owners_of_all(line) {
-        Some(count) if 1 <= count && count <= 7 => helpers::small(count),
+        Some(count) if 1 <= count && count <= 7 => texts::small(count),
         _ => return false,
     };
     said.title_with(

@@ -1,7 +1,7 @@
 //! Writing habits, often of many lines.
 
 use crate::page::{Page, cut_line};
-use helpers::Words;
+use texts::Words;
 
 /// A refused habit.
 #[derive(Clone, Copy, Debug, PartialEq, Eq)]

@@ -10,11 +10,10 @@ use crate::lines::{tell_unfinished, tell_unknown};
 use crate::page::{Page, count_fields, field, number};
 use crate::said::Said;
 use crate::spacing::tell_blanks;
-use helpers::Words;
 use ring_names::Refusal;
 use std::alloc::Global;
 use std::str;
-use texts::are_name_bytes;
+use texts::{Words, are_name_bytes};
 
 const MOST: u64 = 281_474_976_710_655;
 
@@ -208,7 +207,7 @@ fn tell_name(line: Line, said: &mut Said, place: usize) -> bool {
         said.title_with(
             b"the name has # bytes, and may have 32",
             &[],
-            &[helpers::small(word.len())],
+            &[texts::small(word.len())],
         );
     } else {
         said.title(b"the name has a letter that names do not have");
@@ -226,7 +225,7 @@ fn tell_alias(line: Line, said: &mut Said, place: usize) -> bool {
         said.title_with(
             b"the alias has # bytes, and may have 255",
             &[],
-            &[helpers::small(word.len())],
+            &[texts::small(word.len())],
         );
         line.part(said, place, b"too long");
         return true;

@@ -185,7 +185,7 @@ fn tell_late_ring(line: Line, said: &mut Said) -> bool {
     let Some(place) = lines.position(|text| text.starts_with(b"ring ")) else {
         return false;
     };
-    let number = helpers::small(place).saturating_add(1);
+    let number = texts::small(place).saturating_add(1);
     said.title_with(
         b"the ring comes first, and begins in line #",
         &[],

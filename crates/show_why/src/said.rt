@@ -2,8 +2,8 @@
 
 use crate::habit::Habit;
 use crate::page::{Page, Place, cut_line};
-use helpers::Words;
 use std::alloc::{AllocError, Global};
+use texts::Words;
 
 #[derive(Clone, Copy)]
 struct LineMark {

@@ -24,3 +24,4 @@ pub mod Forms
 pub mod MoreForms
 pub mod Places
 pub mod Plains
+pub mod Growing

@@ -11,3 +11,4 @@ pub mod Late
 pub mod Frames
 pub mod Cuts
 pub mod Form
+pub mod Writing

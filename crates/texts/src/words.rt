@@ -3,7 +3,7 @@
 ghost use Rattle.std.specs.Prelude.{◌≡◌, ◌≢◌, ◌∷◌, [], Some, None, IfSome, length};
 ghost use Rattle.std.proofs.Math.ListN.{replicate};
 ghost use Rattle.std.specs.Fmt.{decimal};
-ghost use Rattle.helpers.specs.Writing.{GoesOn, Ends};
+ghost use Rattle.texts.specs.Writing.{GoesOn, Ends};
 
 use ring_names::{Refusal, push_decimal};
 use std::alloc::Global;
@@ -18,7 +18,7 @@ pub struct Words {
 
 impl Model for Words {
     ghost use Rattle.std.specs.Prelude.{ℕ, List, Option};
-    ghost use Rattle.helpers.specs.Writing.{written};
+    ghost use Rattle.texts.specs.Writing.{written};
 
     ghost Value = { Option (List ℕ) };
 

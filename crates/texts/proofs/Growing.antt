@@ -2,7 +2,7 @@
 use Rattle.std.proofs.Common.{◌≡◌, ◌∙◌, ℕ, List, [], ◌++◌, refl, sym, ap}
 use Rattle.std.specs.Prelude.{Option, Some, None}
 use Rattle.std.proofs.lemmas.List.{append-nil, append_assoc}
-use Rattle.helpers.specs.Writing.{GoesOn}
+use Rattle.texts.specs.Writing.{GoesOn}
 
 -- what nothing was added to has grown by nothing
 pub stays : (a : Option (List ℕ)) → GoesOn a a []

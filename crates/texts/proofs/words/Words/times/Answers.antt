@@ -1,8 +1,8 @@
 use Rattle.std.proofs.Common.{◌∷◌, [], sym}
 use Rattle.std.proofs.Math.ListN.{replicate}
 use Rattle.std.proofs.lemmas.List.{replicate-append-replicate}
-use Rattle.helpers.proofs.Growing.{one_more}
-use Rattle.helpers.proofs.words.Words.times.Goals as goal
+use Rattle.texts.proofs.Growing.{one_more}
+use Rattle.texts.proofs.words.Words.times.Goals as goal
 
 pub turns-preserved : goal.turns-preserved
 turns-preserved c = rw (sym (replicate-append-replicate c.turns.turn 1 c.args.byte))
