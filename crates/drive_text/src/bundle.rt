@@ -8,8 +8,7 @@ ghost use Rattle.texts.specs.Late.{Late, NoFaultBefore};
 ghost use Rattle.drive_text.specs.Drives.{drive_at, IsDrive};
 
 use crate::scripts::read_scripts;
-use bundle_text::{Front, read_front_section};
-use plan_cert::Cert;
+use plan_cert::{Cert, Front, read_front_section};
 use plan_text::Plan;
 use ring_names::{Listed, Names, Refusal};
 use ring_table::Ring;

@@ -7,9 +7,9 @@ use Rattle.texts.proofs.Cuts.{some_line}
 use Rattle.ring_table.specs.Spelling.{ring_lines, ring_text}
 use Rattle.plan_text.specs.Spelling.{plan_lines}
 use Rattle.plan_cert.specs.Spelling.{cert_lines}
-use Rattle.bundle_text.specs.declared.front.Front.{Front}
-use Rattle.bundle_text.specs.Front.{front_at}
-use Rattle.bundle_text.proofs.FrontLaws.{front_lines, front-part}
+use Rattle.plan_cert.specs.declared.front.Front.{Front}
+use Rattle.plan_cert.specs.Front.{front_at}
+use Rattle.plan_cert.proofs.FrontLaws.{front_lines, front-part}
 use Rattle.history_stream.specs.declared.front.FrontText.{FrontText}
 use Rattle.history_stream.specs.Front.{front_text, IsFront}
 use Rattle.history_stream.proofs.Splits.{split}

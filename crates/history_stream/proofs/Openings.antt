@@ -11,8 +11,8 @@ use Rattle.history_stream.specs.declared.opening.Opened.{Opened}
 use Rattle.history_stream.specs.declared.opening.Tried.{Tried}
 use Rattle.history_stream.specs.declared.opening.Tried.TheVariants.{Found, More}
 use Rattle.history_stream.specs.Input.{IsHead, max_input}
-use Rattle.bundle_text.specs.declared.front.Front.{Front}
-use Rattle.bundle_text.specs.Front.{front_at}
+use Rattle.plan_cert.specs.declared.front.Front.{Front}
+use Rattle.plan_cert.specs.Front.{front_at}
 use Rattle.history_stream.specs.Front.{IsFront}
 use Rattle.history_stream.specs.Cutting.{HasNone, IsNoFront, IsOpened, IsTried}
 

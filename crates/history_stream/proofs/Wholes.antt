@@ -26,8 +26,8 @@ use Rattle.history_stream.specs.declared.cutter.Cutter.{Cutter}
 use Rattle.history_stream.specs.declared.reader.Stage.TheVariants.{First}
 use Rattle.history_stream.specs.declared.cutting.Unended.{Unended}
 use Rattle.history_stream.specs.Input.{Tells, IsHead, max_input}
-use Rattle.bundle_text.specs.declared.front.Front.{Front}
-use Rattle.bundle_text.specs.Front.{front_at}
+use Rattle.plan_cert.specs.declared.front.Front.{Front}
+use Rattle.plan_cert.specs.Front.{front_at}
 use Rattle.history_stream.specs.Front.{front_text, IsFront}
 use Rattle.history_stream.specs.Reading.{Point, entries_behind, long_reading, read_from, resume_at, writers_behind}
 use Rattle.history_stream.specs.Place.{Finds, IsPlaceOf}

@@ -24,8 +24,8 @@ use Rattle.history_stream.specs.declared.cutting.Unended.{Unended}
 use Rattle.history_stream.specs.declared.opening.Opened.{Opened}
 use Rattle.history_stream.specs.declared.opening.Tried.{Tried}
 use Rattle.history_stream.specs.declared.opening.Tried.TheVariants.{Found, More}
-use Rattle.bundle_text.specs.declared.front.Front.{Front}
-use Rattle.bundle_text.specs.Front.{front_at}
+use Rattle.plan_cert.specs.declared.front.Front.{Front}
+use Rattle.plan_cert.specs.Front.{front_at}
 use Rattle.history_stream.specs.Front.{IsFront, front_text}
 use Rattle.history_stream.specs.Reading.{Point, entries_behind, long_reading, read_from, writers_behind}
 use Rattle.history_stream.specs.Place.{IsPlaceOf}

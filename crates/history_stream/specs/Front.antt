@@ -5,8 +5,8 @@ use Rattle.ring_table.specs.Spelling.{ring_text}
 use Rattle.ring_table.specs.Valid.{IsRing}
 use Rattle.plan_text.specs.Spelling.{plan_text}
 use Rattle.plan_cert.specs.Spelling.{cert_text}
-use Rattle.bundle_text.specs.declared.front.Front.{Front}
-use Rattle.bundle_text.specs.Front.{front_at}
+use Rattle.plan_cert.specs.declared.front.Front.{Front}
+use Rattle.plan_cert.specs.Front.{front_at}
 use Rattle.history_stream.specs.declared.front.FrontText.{FrontText}
 
 -- a ring's text, its plan's, and a certificate's

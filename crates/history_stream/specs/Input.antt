@@ -3,7 +3,7 @@ use Rattle.std.specs.Prelude.{◌≡◌, ◌⊎◌, ℕ, ◌≤◌, true, false,
 use Rattle.std.specs.Io.KnownBytes.{Consumes, IsAtEnd}
 use Rattle.ring_names.specs.declared.refusal.Refusal.{Refusal}
 use Rattle.ring_names.specs.declared.refusal.Refusal.TheVariants.{OutOfMemory, ReadFailed}
-pub use Rattle.bundle_text.specs.Input.{max_input, Tells}
+pub use Rattle.plan_cert.specs.Input.{max_input, Tells}
 use Rattle.history_stream.specs.declared.input.Head.{Head}
 
 -- memory or reading failed

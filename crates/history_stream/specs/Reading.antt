@@ -11,8 +11,8 @@ use Rattle.history_text.specs.Said.{SaidEntry, entry_of}
 use Rattle.history_text.specs.Reading.{said_at}
 use Rattle.history_stream.specs.declared.reader.Stage.{Stage}
 use Rattle.history_stream.specs.declared.reader.Stage.TheVariants.{First, Entries, Over}
-use Rattle.bundle_text.specs.declared.front.Front.{Front}
-use Rattle.bundle_text.specs.Front.{front_at}
+use Rattle.plan_cert.specs.declared.front.Front.{Front}
+use Rattle.plan_cert.specs.Front.{front_at}
 use Rattle.history_stream.specs.Front.{front_text}
 
 -- the writers known after what lines say

@@ -3,12 +3,11 @@
 ghost use Rattle.std.specs.Prelude.{◌≡◌, ◌≢◌, ℕ, List, IfOk, IfErr, Err};
 ghost use Rattle.ring_names.specs.declared.refusal.Refusal.TheVariants.{OutOfMemory};
 ghost use Rattle.texts.specs.Parts.{lines_of};
-ghost use Rattle.bundle_text.specs.declared.front.Front.{Front as Value};
-ghost use Rattle.bundle_text.specs.Front.{front_at};
+ghost use Rattle.plan_cert.specs.declared.front.Front.{Front as Value};
+ghost use Rattle.plan_cert.specs.Front.{front_at};
 ghost use Rattle.history_stream.specs.Front.{IsFront};
 
-use bundle_text::read_front_section;
-use plan_cert::write_cert;
+use plan_cert::{read_front_section, write_cert};
 use plan_text::write_plan;
 use ring_names::Refusal;
 use ring_table::{Ring, write_ring};

@@ -3,14 +3,14 @@
 ghost use Rattle.std.specs.Prelude.{◌≡◌, ◌≢◌, true, ℕ, List, IfOk, IfErr, Err};
 ghost use Rattle.ring_names.specs.declared.refusal.Refusal.TheVariants.{OutOfMemory, ReadFailed};
 ghost use Rattle.texts.specs.Parts.{lines_of};
-ghost use Rattle.bundle_text.specs.declared.front.Front.{Front};
-ghost use Rattle.bundle_text.specs.Front.{front_at};
+ghost use Rattle.plan_cert.specs.declared.front.Front.{Front};
+ghost use Rattle.plan_cert.specs.Front.{front_at};
 ghost use Rattle.history_stream.specs.Front.{IsFront};
 ghost use Rattle.history_stream.specs.Cutting.{HasNone, IsNoFront, IsOpened, IsTried};
 
 use crate::front::{FrontText, read_front};
 use crate::input::{Head, read_head};
-use bundle_text::MAX_INPUT;
+use plan_cert::MAX_INPUT;
 use ring_names::Refusal;
 use std::alloc::Global;
 use std::io::Read;

@@ -12,9 +12,9 @@ ghost use Rattle.texts.specs.Frames.{header_at};
 ghost use Rattle.history_stream.specs.declared.reader.Stage.TheVariants.{First, Entries, Over};
 ghost use Rattle.history_stream.specs.State.{is_start, Counted, Counts, IsFirst, IsHeld, IsRun, TakesEntry, RefusesEntry, Takes, TakesSome, Refuses, RefusesLine, line_and, lines_and};
 
-use bundle_text::MAX_INPUT;
 use history_text::{entry_line, keep_entry};
 use memchr::memchr;
+use plan_cert::MAX_INPUT;
 use plan_runs::{Entry, Event};
 use ring_names::{Names, Refusal};
 use ring_table::Ring;

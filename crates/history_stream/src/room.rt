@@ -7,8 +7,8 @@ ghost use Rattle.history_stream.specs.Input.{max_input};
 ghost use Rattle.history_stream.specs.Room.{Holds, most};
 
 use crate::input::MOST_ENTRIES;
-use bundle_text::MAX_INPUT;
 use history_text::push_entry;
+use plan_cert::MAX_INPUT;
 use plan_runs::Entry;
 use ring_names::Names;
 use ring_table::Ring;

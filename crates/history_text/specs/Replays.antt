@@ -7,8 +7,8 @@ use Rattle.plan_text.specs.declared.step.Planned.{Planned}
 use Rattle.plan_text.specs.Valid as plan
 use Rattle.plan_cert.specs.declared.cert.Cert.{Cert}
 use Rattle.plan_cert.specs.Valid as cert
-use Rattle.bundle_text.specs.declared.front.Front.{Front}
-use Rattle.bundle_text.specs.Front.{front_at}
+use Rattle.plan_cert.specs.declared.front.Front.{Front}
+use Rattle.plan_cert.specs.Front.{front_at}
 use Rattle.plan_runs.specs.declared.event.Entry.{Entry}
 use Rattle.history_text.specs.declared.bundle.ReplayBundle.{ReplayBundle}
 use Rattle.history_text.specs.Reading.{history_at}

@@ -8,8 +8,7 @@ ghost use Rattle.texts.specs.Late.{Late, NoFaultBefore};
 ghost use Rattle.history_text.specs.Replays.{parts_of, replay_at, IsReplay};
 
 use crate::reading::read_history_section;
-use bundle_text::{Front, read_front_section};
-use plan_cert::Cert;
+use plan_cert::{Cert, Front, read_front_section};
 use plan_runs::Entry;
 use plan_text::Plan;
 use ring_names::{Names, Refusal};

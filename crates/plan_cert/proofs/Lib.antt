@@ -5,3 +5,5 @@ pub mod CertForm
 pub mod CertLaws
 pub mod CertLates
 pub mod PlainLaws
+pub mod FrontRead
+pub mod FrontLaws

@@ -3,3 +3,5 @@ pub mod Valid
 pub mod Spelling
 pub mod Reading
 pub mod Said
+pub mod Input
+pub mod Front

@@ -5,8 +5,8 @@ use Rattle.texts.specs.Left.{Left, then_part, map_part}
 use Rattle.ring_table.specs.Value.{RingValue}
 use Rattle.plan_text.specs.Valid as plan
 use Rattle.plan_cert.specs.Valid as cert
-use Rattle.bundle_text.specs.declared.front.Front.{Front}
-use Rattle.bundle_text.specs.Front.{front_at}
+use Rattle.plan_cert.specs.declared.front.Front.{Front}
+use Rattle.plan_cert.specs.Front.{front_at}
 use Rattle.plan_runs.specs.declared.event.Event.{Event}
 use Rattle.script_text.specs.Reading.{script_at}
 use Rattle.ring_script.specs.declared.bundle.Bundle.{Bundle}

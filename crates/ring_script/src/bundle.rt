@@ -7,8 +7,7 @@ ghost use Rattle.texts.specs.Left.{Reads, whole_text};
 ghost use Rattle.texts.specs.Late.{Late, NoFaultBefore};
 ghost use Rattle.ring_script.specs.Bundles.{IsOfRing, bundle_at, events_of};
 
-use bundle_text::{Front, read_front_section};
-use plan_cert::Cert;
+use plan_cert::{Cert, Front, read_front_section};
 use plan_text::Plan;
 use ring_names::{Names, Refusal};
 use ring_table::Ring;

@@ -4,7 +4,7 @@ use Rattle.std.specs.Global.{Vec}
 use Rattle.std.specs.Io.KnownBytes.{Appends}
 use Rattle.ring_names.specs.declared.refusal.Refusal.{Refusal}
 use Rattle.ring_names.specs.declared.refusal.Refusal.TheVariants.{TooLarge, OutOfMemory, ReadFailed}
-pub use Rattle.bundle_text.specs.Input.{max_input, Tells}
+pub use Rattle.plan_cert.specs.Input.{max_input, Tells}
 
 -- what reading an input of bs gives: its bytes, or a refusal: too many bytes, or a failed read, or want of
 -- memory

@@ -3,7 +3,7 @@
 ghost use Rattle.std.specs.Prelude.{ℕ, List};
 ghost use Rattle.ringplan_jobs.specs.Io.{Reads, Tells};
 
-use bundle_text::MAX_INPUT;
+use plan_cert::MAX_INPUT;
 use ring_names::Refusal;
 use std::alloc::Global;
 use std::io::{ErrorKind, Read};

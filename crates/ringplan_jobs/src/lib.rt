@@ -13,9 +13,9 @@ pub use bundle::{
     answer_bytes, answer_check, check_bundle, check_bundle_by, make, migrate_bundle, plan_bundle,
     play_bundle,
 };
-pub use bundle_text::MAX_INPUT;
 pub use input::read_all;
 pub use output::write_all;
+pub use plan_cert::MAX_INPUT;
 pub use replaying::replay_bundle;
 pub use ring_script::{Kind, read_bundle};
 pub use ringplan_job::Job;

@@ -1,4 +1,4 @@
-use Rattle.bundle_text.specs.Front.{front_at}
+use Rattle.plan_cert.specs.Front.{front_at}
 use Rattle.texts.proofs.Parts.{late-first, late-second, bad-second, handed}
 use Rattle.drive_text.specs.Drives.{scripts_at, bundle_of, drive_at}
 use Rattle.drive_text.proofs.ScriptsRead.{scripts-on}

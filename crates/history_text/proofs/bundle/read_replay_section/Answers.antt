@@ -1,5 +1,5 @@
 use Rattle.std.proofs.Common.{[], arith}
-use Rattle.bundle_text.specs.Front.{front_at}
+use Rattle.plan_cert.specs.Front.{front_at}
 use Rattle.texts.proofs.Parts.{late-first, late-second, bad-second, good-second, handed-on, on-after}
 use Rattle.history_text.specs.Reading.{history_at}
 use Rattle.history_text.specs.Replays.{parts_of, replay_of, replay_at}

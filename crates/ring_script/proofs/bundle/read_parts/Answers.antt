@@ -1,5 +1,5 @@
 use Rattle.std.proofs.Common.{arith}
-use Rattle.bundle_text.specs.Front.{front_at}
+use Rattle.plan_cert.specs.Front.{front_at}
 use Rattle.texts.proofs.Parts.{late-first, late-second, bad-second, handed, on-after}
 use Rattle.ring_script.specs.Bundles.{events_of, bundle_of, bundle_at}
 use Rattle.ring_script.proofs.Bundled.{events-on}

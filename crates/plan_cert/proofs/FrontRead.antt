@@ -5,8 +5,8 @@ use Rattle.texts.proofs.Lates.{Advances, advances-then, advances-map, past}
 use Rattle.ring_table.specs.Value.{RingValue}
 use Rattle.plan_text.proofs.PlanLates.{plan-on}
 use Rattle.plan_cert.proofs.CertLates.{cert-on}
-use Rattle.bundle_text.specs.declared.front.Claims.{Claims}
-use Rattle.bundle_text.specs.Front.{claims_at}
+use Rattle.plan_cert.specs.declared.front.Claims.{Claims}
+use Rattle.plan_cert.specs.Front.{claims_at}
 
 pub claims-on : (ring : RingValue) → Advances (claims_at ring)
 unfolding claims_at

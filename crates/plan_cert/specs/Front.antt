@@ -10,8 +10,8 @@ use Rattle.plan_text.specs.Valid as plan
 use Rattle.plan_cert.specs.declared.cert.Cert.{Cert}
 use Rattle.plan_cert.specs.Reading.{cert_at}
 use Rattle.plan_cert.specs.Valid as cert
-use Rattle.bundle_text.specs.declared.front.Claims.{Claims}
-use Rattle.bundle_text.specs.declared.front.Front.{Front}
+use Rattle.plan_cert.specs.declared.front.Claims.{Claims}
+use Rattle.plan_cert.specs.declared.front.Front.{Front}
 
 -- a plan and a certificate as one
 abbrev pub claims_of : List Planned × Cert → Claims

@@ -3,9 +3,10 @@
 ghost use Rattle.std.specs.Prelude.{◌≡◌, ◌≤◌, IfOk, OnOk};
 ghost use Rattle.texts.specs.Left.{Reads, lines_on};
 ghost use Rattle.texts.specs.Late.{Late};
-ghost use Rattle.bundle_text.specs.Front.{claims_at, front_at, ClaimsSuit, FrontSuits};
+ghost use Rattle.plan_cert.specs.Front.{claims_at, front_at, ClaimsSuit, FrontSuits};
 
-use plan_cert::{Cert, read_cert_section};
+use crate::cert::Cert;
+use crate::reading::read_cert_section;
 use plan_text::{Plan, read_plan_section};
 use ring_names::Refusal;
 use ring_table::{Ring, read_ring_section};

@@ -15,9 +15,9 @@ use Rattle.plan_cert.specs.Reading.{cert_at}
 use Rattle.plan_cert.specs.Spelling.{cert_lines}
 use Rattle.plan_cert.proofs.CertForm.{cert_form}
 use Rattle.plan_cert.proofs.CertLaws.{cert-part}
-use Rattle.bundle_text.specs.declared.front.Claims.{Claims}
-use Rattle.bundle_text.specs.declared.front.Front.{Front}
-use Rattle.bundle_text.specs.Front.{claims_of, claims_at, front_of, front_at}
+use Rattle.plan_cert.specs.declared.front.Claims.{Claims}
+use Rattle.plan_cert.specs.declared.front.Front.{Front}
+use Rattle.plan_cert.specs.Front.{claims_of, claims_at, front_of, front_at}
 
 -- the lines of a plan and a certificate, and what the two forms allow
 abbrev claims_lines : RingValue → Claims → List (List (List ℕ))

@@ -2,9 +2,9 @@ use Rattle.plan_text.specs.Reading.{plan_at}
 use Rattle.plan_text.proofs.PlanLates.{past-plan}
 use Rattle.plan_cert.specs.Reading.{cert_at}
 use Rattle.plan_cert.proofs.CertLates.{cert-on}
-use Rattle.bundle_text.specs.Front.{claims_of, claims_at}
+use Rattle.plan_cert.specs.Front.{claims_of, claims_at}
 use Rattle.texts.proofs.Parts.{late-first, late-second, on-monotone}
-use Rattle.bundle_text.proofs.front.read_claims.Goals as goal
+use Rattle.plan_cert.proofs.front.read_claims.Goals as goal
 
 pub returns-in_err-plan-clause-late : goal.returns-in_err-plan-clause-late
 unfolding claims_at

@@ -1,2 +1,0 @@
-pub mod FrontRead
-pub mod FrontLaws
