@@ -4,3 +4,6 @@ pub mod Valid
 pub mod Spelling
 pub mod Reading
 pub mod Wanted
+pub mod Facts
+pub mod LayoutReading
+pub mod LayoutDraft

@@ -1,6 +1,6 @@
 //! Facts on nodes and partitions.
 
-use layout_text::Layout;
+use crate::layout::Layout;
 use ring_names::Slot;
 use std::alloc::Global;
 

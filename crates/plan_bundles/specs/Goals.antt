@@ -16,9 +16,9 @@ use Rattle.plan_goal.specs.Goals.{goal_at}
 use Rattle.plan_goal.specs.declared.proposed.Proposed.{Proposed}
 use Rattle.plan_goal.specs.Proposals.{front_text}
 use Rattle.plan_goal.specs.Reached.{IsReached}
-use Rattle.layout_text.specs.declared.layout.Entry.{Entry}
-use Rattle.layout_text.specs.declared.layout.Fact.{Fact}
-use Rattle.layout_text.specs.declared.layout.Fact.TheVariants.{Dead}
+use Rattle.change_text.specs.declared.layout.Entry.{Entry}
+use Rattle.change_text.specs.declared.layout.Fact.{Fact}
+use Rattle.change_text.specs.declared.layout.Fact.TheVariants.{Dead}
 use Rattle.change_text.specs.declared.options.Options.{Options}
 use Rattle.change_text.specs.declared.options.Unreadable.{Unreadable}
 use Rattle.change_text.specs.declared.options.Unreadable.TheVariants.{Refused, Left}

@@ -7,9 +7,9 @@ use Rattle.ring_table.specs.Value.{RingValue, is_member}
 use Rattle.plan_text.specs.Changes.{numbers}
 use Rattle.std.specs.List.{list_any}
 use Rattle.ring_names.specs.Names.{place}
-use Rattle.layout_text.specs.declared.layout.Entry.{Entry}
-use Rattle.layout_text.specs.declared.layout.Fact.{Fact}
-use Rattle.layout_text.specs.declared.layout.Fact.TheVariants.{Size, Weight}
+use Rattle.change_text.specs.declared.layout.Entry.{Entry}
+use Rattle.change_text.specs.declared.layout.Fact.{Fact}
+use Rattle.change_text.specs.declared.layout.Fact.TheVariants.{Size, Weight}
 use Rattle.plan_bundles.specs.Rings.{flags}
 
 -- the list with the size of a fact at the place of its partition

@@ -1,7 +1,6 @@
 //! Racks and aliases, from the layout or nodes' names.
 
-use change_text::{Options, RackRule};
-use layout_text::{Entry, Fact, Layout};
+use change_text::{Entry, Fact, Layout, Options, RackRule};
 use plan_text::Plan;
 use ring_names::{NodeId, Refusal};
 use ring_table::Ring;

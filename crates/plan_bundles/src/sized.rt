@@ -7,8 +7,7 @@ ghost use Rattle.ring_names.specs.Lists.{has};
 ghost use Rattle.ring_table.specs.Value.{names_of};
 ghost use Rattle.plan_text.specs.Changes.{numbers};
 
-use change_text::Change;
-use layout_text::{Entry, Fact, Layout};
+use change_text::{Change, Entry, Fact, Layout};
 use plan_goal::is_among;
 use ring_names::{Listed, NodeId, Refusal};
 use ring_table::Ring;

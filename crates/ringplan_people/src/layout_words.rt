@@ -1,6 +1,6 @@
 //! Faulty layouts.
 
-use layout_text::read_layout;
+use change_text::read_layout;
 use ring_names::Refusal;
 use show_why::{Page, Said, tell_layout};
 use std::alloc::Global;

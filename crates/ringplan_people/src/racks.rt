@@ -1,7 +1,6 @@
 //! Known racks, and options that do not fit.
 
-use change_text::{Options, RackRule, read_wanted};
-use layout_text::{Entry, Fact};
+use change_text::{Entry, Fact, Options, RackRule, read_wanted};
 use plan_bundles::{
     Kind, Racking, front, kind_of, members_by, members_with, misfit, racks_of, unracked,
 };

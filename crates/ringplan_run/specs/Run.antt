@@ -16,8 +16,8 @@ use Rattle.ringplan_command.specs.declared.parts.PartWish.{PartWish}
 use Rattle.ringplan_command.specs.declared.word.Guide.{Guide}
 use Rattle.ringplan_job.specs.declared.job.Job.{Job}
 use Rattle.ringplan_job.specs.declared.making.Making.{Making}
-use Rattle.layout_text.specs.declared.layout.Layout.{Layout}
-use Rattle.layout_text.specs.Reading.{layout_reading}
+use Rattle.change_text.specs.declared.layout.Layout.{Layout}
+use Rattle.change_text.specs.LayoutReading.{layout_reading}
 use Rattle.change_text.specs.declared.options.Options.{Options}
 use Rattle.ringplan_people.specs.Made.{IsReport}
 

@@ -5,8 +5,7 @@ ghost use Rattle.ringplan_run.specs.Run.{HasLayout, IsRead, unlaid};
 
 use crate::files::{Harmless, Limit, open, say};
 use crate::program::NO_MEMORY;
-use change_text::Options;
-use layout_text::{Layout, read_layout};
+use change_text::{Layout, Options, read_layout};
 use ring_names::Refusal;
 use ringplan_jobs::read_all;
 use ringplan_people::layout_fault;

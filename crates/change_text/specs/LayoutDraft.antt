@@ -1,7 +1,7 @@
 -- Facts that were read in part, and what they are about.
 use Rattle.std.specs.Prelude.{◌≡◌, ◌≤◌, length, map}
-use Rattle.layout_text.specs.Facts.{subject_of}
-use Rattle.layout_text.specs.declared.draft.Draft.TheInside.{Inside}
+use Rattle.change_text.specs.Facts.{subject_of}
+use Rattle.change_text.specs.declared.layout_draft.Draft.TheInside.{Inside}
 
 -- the subjects are those of the entries, which are not too many
 pub record HoldsEntries (a : Inside) : Type 0 where

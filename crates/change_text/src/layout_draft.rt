@@ -2,7 +2,7 @@
 
 ghost use Rattle.std.specs.Prelude.{◌≡◌, []};
 ghost use Rattle.texts.specs.Judging.{Gives, map_ok};
-ghost use Rattle.layout_text.specs.Reading.{with_fact};
+ghost use Rattle.change_text.specs.LayoutReading.{with_fact};
 
 use crate::fact::subject_of;
 use crate::layout::{Entry, Fact, Layout};
@@ -23,11 +23,11 @@ pub struct Draft {
 
 impl Model for Draft {
     ghost use Rattle.std.specs.Prelude.{List};
-    ghost use Rattle.layout_text.specs.declared.layout.Entry.{Entry};
+    ghost use Rattle.change_text.specs.declared.layout.Entry.{Entry};
 
     ghost Value = { List Entry };
 
-    ghost use Rattle.layout_text.specs.Draft.{HoldsEntries};
+    ghost use Rattle.change_text.specs.LayoutDraft.{HoldsEntries};
 
     ghost view = { λ a. a.entries.items };
 

@@ -2,9 +2,9 @@ use Rattle.std.proofs.Common.{◌≡◌, ℕ, false, List, [], ◌∷◌, codes,
 use Rattle.std.proofs.lemmas.Result.{err_from_is_err_and}
 use Rattle.ring_names.specs.declared.refusal.Refusal.{Refusal}
 use Rattle.texts.specs.Left.{Left, begins_with, first_line, next_number}
-use Rattle.layout_text.specs.declared.layout.Entry.{Entry}
-use Rattle.layout_text.specs.Reading.{with_line, entries_from}
-use Rattle.layout_text.proofs.reading.read_entries.Goals as goal
+use Rattle.change_text.specs.declared.layout.Entry.{Entry}
+use Rattle.change_text.specs.LayoutReading.{with_line, entries_from}
+use Rattle.change_text.proofs.layout_reading.read_entries.Goals as goal
 
 -- the fault of a line is that of the lines from it on
 line-fails : (seen : List Entry) (k : ℕ) (lines : List (List (List ℕ))) (x : List (List ℕ) × Left) (e : Refusal)

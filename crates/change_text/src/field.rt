@@ -6,7 +6,7 @@ ghost use Rattle.std.specs.List.{list_any};
 ghost use Rattle.std.specs.Str.{chars};
 ghost use Rattle.ring_names.specs.declared.refusal.Refusal.TheVariants.{OutOfMemory};
 ghost use Rattle.texts.specs.Judging.{Does, number_at};
-ghost use Rattle.layout_text.specs.Reading.{alias_at, is_alias as is_valid_alias, name_at, parts_at};
+ghost use Rattle.change_text.specs.LayoutReading.{alias_at, is_alias as is_valid_alias, name_at, parts_at};
 
 use crate::number::number_of;
 use ring_names::{Listed, Refusal};

@@ -1,7 +1,7 @@
 //! The subjects of facts.
 
 ghost use Rattle.std.specs.Prelude.{◌≡◌, ◌++◌, IfOk};
-ghost use Rattle.layout_text.specs.Facts.{subject_of};
+ghost use Rattle.change_text.specs.Facts.{subject_of};
 
 use crate::layout::Fact;
 use ring_names::push_decimal;

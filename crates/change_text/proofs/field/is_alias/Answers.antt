@@ -1,7 +1,7 @@
 use Rattle.std.proofs.Common.{◌≡◌, ℕ, Bool, true, false, List, refl, rules}
 use Rattle.std.specs.Str.{IsUtf8, is_utf8}
 use Rattle.std.proofs.lemmas.Str.{is_utf8-from_IsUtf8, IsUtf8-from_is_utf8}
-use Rattle.layout_text.proofs.field.is_alias.Goals as goal
+use Rattle.change_text.proofs.field.is_alias.Goals as goal
 
 not-utf8 : (bs : List ℕ) (is : Bool) → is_utf8 bs ≡ is → (IsUtf8 bs → ⊥) → is ≡ false
 not-utf8 bs true e none = absurd (none (IsUtf8-from_is_utf8 bs e))

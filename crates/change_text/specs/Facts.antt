@@ -1,8 +1,8 @@
 -- What facts are about.
 use Rattle.std.specs.Prelude.{ℕ, List, ◌++◌, codes}
 use Rattle.std.specs.Fmt.{decimal}
-use Rattle.layout_text.specs.declared.layout.Fact.{Fact}
-use Rattle.layout_text.specs.declared.layout.Fact.TheVariants.{Rack, Weight, Alias, Size, Dead}
+use Rattle.change_text.specs.declared.layout.Fact.{Fact}
+use Rattle.change_text.specs.declared.layout.Fact.TheVariants.{Rack, Weight, Alias, Size, Dead}
 
 -- the first two fields of a fact's line, which no other line of a layout has
 abbrev pub subject_of : Fact → List ℕ

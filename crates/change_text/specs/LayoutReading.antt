@@ -11,11 +11,11 @@ use Rattle.texts.specs.Number.{decimal_value}
 use Rattle.texts.specs.Judging.{Item, ◌⊗◌, field_at, number_at, end_at, limited, map_ok, whole, unless}
 use Rattle.texts.specs.Left.{Left, ◌>>=◌, begins_with, first_line, is_nil, next_number, one_line, then_part, map_part, whole_text}
 use Rattle.texts.specs.Frames.{header_at, end_line_at}
-use Rattle.layout_text.specs.declared.layout.Fact.{Fact}
-use Rattle.layout_text.specs.declared.layout.Fact.TheVariants.{Rack, Weight, Alias, Size, Dead}
-use Rattle.layout_text.specs.declared.layout.Entry.{Entry}
-use Rattle.layout_text.specs.declared.layout.Layout.{Layout}
-use Rattle.layout_text.specs.Facts.{subject_of}
+use Rattle.change_text.specs.declared.layout.Fact.{Fact}
+use Rattle.change_text.specs.declared.layout.Fact.TheVariants.{Rack, Weight, Alias, Size, Dead}
+use Rattle.change_text.specs.declared.layout.Entry.{Entry}
+use Rattle.change_text.specs.declared.layout.Layout.{Layout}
+use Rattle.change_text.specs.Facts.{subject_of}
 
 -- a name of a node or a rack
 abbrev pub name_at : ℕ → Item (List ℕ)

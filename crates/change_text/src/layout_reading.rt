@@ -3,11 +3,11 @@
 ghost use Rattle.std.specs.Prelude.{◌≡◌};
 ghost use Rattle.texts.specs.Left.{Reads};
 ghost use Rattle.texts.specs.Judging.{Gives, map_ok};
-ghost use Rattle.layout_text.specs.Reading.{entries_from, layout_at, layout_reading};
+ghost use Rattle.change_text.specs.LayoutReading.{entries_from, layout_at, layout_reading};
 
-use crate::draft::Draft;
 use crate::layout::Layout;
-use crate::lines::read_line;
+use crate::layout_draft::Draft;
+use crate::layout_lines::read_line;
 use ring_names::Refusal;
 use std::alloc::Global;
 use texts::{Lines, end, header};

@@ -2,11 +2,11 @@
 
 ghost use Rattle.std.specs.Prelude.{◌≡◌};
 ghost use Rattle.texts.specs.Judging.{Gives, map_ok};
-ghost use Rattle.layout_text.specs.Reading.{rack_at, weight_at, alias_line_at, size_at, dead_at, fact_at, with_line};
+ghost use Rattle.change_text.specs.LayoutReading.{rack_at, weight_at, alias_line_at, size_at, dead_at, fact_at, with_line};
 
-use crate::draft::Draft;
 use crate::field::{alias, name, parts, size};
 use crate::layout::Fact;
+use crate::layout_draft::Draft;
 use ring_names::Refusal;
 use std::alloc::Global;
 use texts::{Fields, both, finish};
