@@ -12,9 +12,9 @@ use Rattle.plan_runs.specs.Replies.{reply_text}
 use Rattle.script_text.specs.Valid.{IsKnown}
 use Rattle.script_text.proofs.SightLaws.{fields-more}
 use Rattle.history_text.specs.Spelling.{entry_line}
-use Rattle.history_parts.specs.Parts.{puts_after, gets_after, event_in, reply_in, is_kept, entry_in, all_puts, all_gets, part_of, or_none, is_marked}
-use Rattle.history_parts.specs.Cuts.{CutValue, after_event, entry_next}
-use Rattle.history_parts.proofs.Cutting.{gets_more, part_more, puts_more}
+use Rattle.history_laws.specs.Parts.{puts_after, gets_after, event_in, reply_in, is_kept, entry_in, all_puts, all_gets, part_of, or_none, is_marked}
+use Rattle.history_laws.specs.Cuts.{CutValue, after_event, entry_next}
+use Rattle.history_laws.proofs.Cutting.{gets_more, part_more, puts_more}
 use Rattle.history_stream.specs.declared.cutter.Kept.{Kept}
 use Rattle.history_stream.specs.declared.room.PartText.{PartText}
 use Rattle.history_stream.specs.Place.{Finds, FindsMore}

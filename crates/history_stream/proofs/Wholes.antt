@@ -13,10 +13,10 @@ use Rattle.plan_runs.specs.declared.event.Entry.{Entry}
 use Rattle.history_text.specs.Said.{SaidEntry}
 use Rattle.history_text.specs.Spelling.{entry_line}
 use Rattle.ring_names.specs.declared.choice.Choice.{Choice}
-use Rattle.history_parts.specs.Choices.{is_chosen}
-use Rattle.history_parts.specs.Cuts.{CutValue, first_cut}
-use Rattle.history_parts.specs.Parts.{is_marked, part_of}
-use Rattle.history_parts.proofs.Cutting.{part_same}
+use Rattle.history_laws.specs.Choices.{is_chosen}
+use Rattle.history_laws.specs.Cuts.{CutValue, first_cut}
+use Rattle.history_laws.specs.Parts.{is_marked, part_of}
+use Rattle.history_laws.proofs.Cutting.{part_same}
 use Rattle.history_stream.specs.declared.cutting.Part.{Part}
 use Rattle.history_stream.specs.declared.cutting.NoPart.{NoPart}
 use Rattle.history_stream.specs.declared.cutting.NoPart.TheVariants.{Refused, Large}

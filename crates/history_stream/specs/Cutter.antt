@@ -5,8 +5,8 @@ use Rattle.ring_table.specs.Value.{RingValue, names_of}
 use Rattle.plan_runs.specs.declared.event.Entry.{Entry}
 use Rattle.history_text.specs.Said.{SaidEntry}
 use Rattle.history_text.specs.Spelling.{entry_line}
-use Rattle.history_parts.specs.Cuts.{after_event, entry_next}
-use Rattle.history_parts.specs.Parts.{all_gets, all_puts, is_marked, or_none, part_of}
+use Rattle.history_laws.specs.Cuts.{after_event, entry_next}
+use Rattle.history_laws.specs.Parts.{all_gets, all_puts, is_marked, or_none, part_of}
 use Rattle.history_stream.specs.declared.cutter.Cutter.{Cutter}
 use Rattle.history_stream.specs.declared.cutter.Kept.{Kept}
 use Rattle.history_stream.specs.Reading.{IsReadTo, entries_behind}

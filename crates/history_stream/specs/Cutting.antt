@@ -10,8 +10,8 @@ use Rattle.plan_runs.specs.declared.event.Entry.{Entry}
 use Rattle.history_text.specs.Said.{SaidEntry}
 use Rattle.history_text.specs.Spelling.{entry_line, history_text}
 use Rattle.ring_names.specs.declared.choice.Choice.{Choice}
-use Rattle.history_parts.specs.Choices.{is_chosen}
-use Rattle.history_parts.specs.Parts.{part_of}
+use Rattle.history_laws.specs.Choices.{is_chosen}
+use Rattle.history_laws.specs.Parts.{part_of}
 use Rattle.history_stream.specs.declared.cutting.Part.{Part}
 use Rattle.history_stream.specs.declared.cutting.NoPart.{NoPart}
 use Rattle.history_stream.specs.declared.cutting.NoPart.TheVariants.{Refused, Large}

@@ -2,7 +2,7 @@
 use Rattle.std.specs.Prelude.{◌≡◌, ℕ, ◌+◌, ◌≤◌, Bool, cond, List, [], ◌∷◌, ◌++◌, length, Option, Some, None, min}
 use Rattle.ring_table.specs.Value.{RingValue}
 use Rattle.plan_runs.specs.declared.event.Entry.{Entry}
-use Rattle.history_parts.specs.Parts.{IsPlace, part_of}
+use Rattle.history_laws.specs.Parts.{IsPlace, part_of}
 use Rattle.history_stream.specs.declared.place.Place.{Place}
 use Rattle.history_stream.specs.Room.{most}
 

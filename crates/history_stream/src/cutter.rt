@@ -8,7 +8,7 @@ ghost use Rattle.history_stream.specs.Cutter.{CutsOne, CutsMany, CutsSome, HasRo
 use crate::place::Place;
 use crate::reader::Reader;
 use crate::room::PartText;
-use history_parts::Cut;
+use history_laws::Cut;
 use plan_runs::Entry;
 use ring_names::{Names, Refusal};
 use ring_table::Ring;

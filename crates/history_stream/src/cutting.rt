@@ -2,7 +2,7 @@
 
 ghost use Rattle.std.specs.Prelude.{◌≡◌, ◌++◌, ℕ, List, codes, IfOk};
 ghost use Rattle.ring_table.specs.Valid.{IsRing};
-ghost use Rattle.history_parts.specs.Choices.{IsChoice};
+ghost use Rattle.history_laws.specs.Choices.{IsChoice};
 ghost use Rattle.history_stream.specs.Input.{Tells};
 ghost use Rattle.history_stream.specs.Room.{Holds};
 ghost use Rattle.history_stream.specs.Cutter.{HasRoom};
@@ -16,7 +16,7 @@ use crate::opening::{Opened, open};
 use crate::place::Place;
 use crate::reader::Reader;
 use crate::room::PartText;
-use history_parts::{Cut, mark_chosen};
+use history_laws::{Cut, mark_chosen};
 use ring_names::{Choice, Refusal};
 use std::alloc::Global;
 use std::io::Read;

@@ -11,9 +11,9 @@ use Rattle.plan_runs.specs.Versions.{put_slot, is_held}
 use Rattle.plan_runs.specs.declared.event.Entry.{Entry}
 use Rattle.plan_runs.specs.declared.back.Back.{Back}
 use Rattle.plan_runs.specs.Runs.{IsRun}
-use Rattle.plan_past.specs.Past.{allows}
-use Rattle.plan_past.specs.Slots.{is_in}
-use Rattle.plan_past.specs.declared.slots.SlotSet.{SlotSet}
+use Rattle.history_laws.specs.Past.{allows}
+use Rattle.history_laws.specs.Slots.{is_in}
+use Rattle.history_laws.specs.declared.slots.SlotSet.{SlotSet}
 use Rattle.plan_bundles.specs.Sized.{is_flagged}
 use Rattle.ring_core.specs.Mirrors.{is_stored}
 use Rattle.ring_core.specs.World.{Meets, ring_of, plan_of}

@@ -22,7 +22,7 @@ use Rattle.ring_core.specs.declared.world.World.{World as Store}
 use Rattle.plan_around.specs.Alike.{LeadAlike}
 use Rattle.plan_runs.specs.declared.back.Back.{Back}
 use Rattle.plan_runs.specs.declared.back.Back.TheVariants.{Allowed}
-use Rattle.plan_past.specs.Past.{IsSamePast}
+use Rattle.history_laws.specs.Past.{IsSamePast}
 use Rattle.plan_bundles.specs.Goals.{AreNamed, dead_names}
 use Rattle.change_text.specs.declared.options.Options.{Options}
 use Rattle.ringplan_job.specs.declared.making.Detour.{Detour}

@@ -22,11 +22,11 @@ ghost use Rattle.plan_around.specs.Ending.{AreEnds, HintsIn, HoldsIn, MirrorsAt,
 use crate::marking::mark;
 use crate::over::{is_over, is_to_come};
 use crate::storing::is_node;
+use history_laws::is_slot;
 use plan_bundles::{is_flagged, row_at};
 use plan_cover::Present;
 use plan_goal::Dead;
 use plan_moves::present_after;
-use plan_past::is_slot;
 use plan_runs::Back;
 use plan_text::{Plan, Step};
 use ring_core::World;

@@ -3,7 +3,7 @@
 ghost use Rattle.std.specs.Prelude.{◌≡◌, true, IsTrue, IfOk, OnOk};
 ghost use Rattle.plan_around.specs.Alike.{may_return, AreNamed};
 
-use plan_past::SlotSet;
+use history_laws::SlotSet;
 use plan_runs::Back;
 use ring_names::{Refusal, Slot};
 use std::alloc::Global;

@@ -2,7 +2,7 @@
 use Rattle.std.specs.Prelude.{◌≡◌, ℕ, ◌<◌, ◌==◌, nat_le, true, List, [], Option, Some, None, filter, get_or, length, map, option_and_then, slice_get, unwrap_or}
 use Rattle.std.specs.List.{list_all}
 use Rattle.plan_text.specs.declared.step.Planned.{Planned}
-use Rattle.plan_past.specs.Past.{AreSame}
+use Rattle.history_laws.specs.Past.{AreSame}
 use Rattle.plan_bundles.specs.declared.pieces.Place.{Place}
 
 -- the plan of window k

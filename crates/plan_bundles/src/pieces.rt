@@ -4,7 +4,7 @@ ghost use Rattle.std.specs.Prelude.{◌≡◌, ◌<◌, ℕ, nat_le, true, IsTru
 ghost use Rattle.std.specs.List.{list_all};
 ghost use Rattle.plan_bundles.specs.Cuts.{IsCut, IsOfPlan, IsPlaced, number_by, place_of, plan_at, step_by, waits_in, waits_of, window_by};
 
-use plan_past::have_same;
+use history_laws::have_same;
 use plan_text::Plan;
 use ring_names::Refusal;
 use std::alloc::Global;

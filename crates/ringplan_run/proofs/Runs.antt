@@ -11,7 +11,7 @@ use Rattle.ringplan_job.specs.declared.job.Job.TheVariants.{Check}
 use Rattle.ringplan_jobs.specs.Answers.{output_of, refused_status, status_of}
 use Rattle.ring_names.specs.declared.choice.Choice.{Choice}
 use Rattle.ring_names.specs.declared.choice.Choice.TheVariants.{Range, Share}
-use Rattle.history_parts.specs.Choices.{IsChoice}
+use Rattle.history_laws.specs.Choices.{IsChoice}
 use Rattle.history_stream.specs.declared.cutting.Part.{Part}
 use Rattle.history_stream.specs.declared.cutting.NoPart.{NoPart}
 use Rattle.history_stream.specs.Cutting.{IsCut, refusal_of}

@@ -1,7 +1,7 @@
 //! Parts of histories.
 
 ghost use Rattle.std.specs.Prelude.{◌≡◌, ℕ, List};
-ghost use Rattle.history_parts.specs.Choices.{IsChoice};
+ghost use Rattle.history_laws.specs.Choices.{IsChoice};
 ghost use Rattle.ringplan_jobs.specs.Io.{Tells};
 ghost use Rattle.ringplan_run.specs.Part.{ShowsCut, ShowsPart};
 

@@ -1,7 +1,7 @@
 //! Histories cut into partitions: the parts are runs exactly if the whole is.
 
 use crate::answering::{STAND_IN, approved};
-use history_parts::part;
+use history_laws::part;
 use history_text::read_history;
 use plan_check::Approved;
 use plan_runs::Entry;

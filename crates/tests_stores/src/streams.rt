@@ -1,10 +1,10 @@
 //! Bundles cut to a part while they are read: reads do not change the part, and other inputs are refused.
 
 ghost use Rattle.std.specs.Prelude.{◌<◌, Some};
-ghost use Rattle.history_parts.specs.Choices.{IsChoice};
+ghost use Rattle.history_laws.specs.Choices.{IsChoice};
 
 use crate::answering::{CHAINS, MOVE_STEPS, RING};
-use history_parts::{mark_chosen, part};
+use history_laws::{mark_chosen, part};
 use history_stream::{NoPart, Part, cut_stream};
 use history_text::{push_entry, read_replay};
 use ring_names::{Choice, Refusal};

@@ -1,7 +1,7 @@
 use Rattle.std.proofs.Common.{◌≡◌, ℕ, ◌<◌, Bool, List, ◌++◌, refl, sym, ap, subst, ◌∙◌}
 use Rattle.std.specs.Prelude.{codes}
-use Rattle.history_parts.specs.Choices.{is_chosen}
-use Rattle.history_parts.specs.Parts.{is_marked}
+use Rattle.history_laws.specs.Choices.{is_chosen}
+use Rattle.history_laws.specs.Parts.{is_marked}
 use Rattle.history_stream.proofs.Wholes.{handed_rest, no_memory, rest_err, rest_ok, start_room, starts}
 use Rattle.history_stream.proofs.cutting.cut_history.Goals as goal
 

@@ -8,7 +8,7 @@ use Rattle.plan_cert.specs.Spelling.{cert_text}
 use Rattle.plan_runs.specs.declared.event.Entry.{Entry}
 use Rattle.plan_check.specs.Certified.{IsCertified}
 use Rattle.plan_check.specs.Headline.{KeepsPromises}
-use Rattle.plan_past.specs.Past.{IsSamePast}
+use Rattle.history_laws.specs.Past.{IsSamePast}
 use Rattle.history_text.specs.Spelling.{history_text}
 use Rattle.ring_core.specs.Replays.{Replays}
 use Rattle.plan_around.specs.Alike.{LeadAlike}

@@ -3,7 +3,7 @@ use Rattle.std.specs.Prelude.{MatchOption, is_some}
 use Rattle.ring_table.specs.Value.{names_of}
 use Rattle.plan_runs.specs.declared.event.Entry.{Entry}
 use Rattle.history_text.specs.Spelling.{entry_line}
-use Rattle.history_parts.specs.Cuts.{entry_next}
+use Rattle.history_laws.specs.Cuts.{entry_next}
 use Rattle.history_stream.specs.Place.{FindsMore}
 use Rattle.history_stream.specs.Room.{Holds}
 use Rattle.history_stream.proofs.cutter.Kept.keep.Goals as goal

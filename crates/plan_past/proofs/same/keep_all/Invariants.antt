@@ -1,6 +1,0 @@
-use Rattle.std.proofs.Common.{ℕ, ◌<◌}
-use Rattle.plan_past.specs.Past.{Keeps}
-use Rattle.plan_past.proofs.same.keep_all.Given as goal
-
-abbrev pub invariant-loop-step : goal.invariant-loop-step
-invariant-loop-step l = (k : ℕ) → k < l.step → Keeps l.old l.new l.numbers l.olds k
