@@ -4,3 +4,11 @@ pub mod Said
 pub mod Reading
 pub mod Valid
 pub mod Replays
+pub mod Input
+pub mod Front
+pub mod StreamReading
+pub mod Room
+pub mod Place
+pub mod State
+pub mod Cutter
+pub mod Cutting

@@ -10,12 +10,12 @@ use Rattle.ring_table.specs.Value.{RingValue}
 use Rattle.plan_text.specs.declared.step.Planned.{Planned}
 use Rattle.plan_runs.specs.World.{World as TheWorld}
 use Rattle.history_text.specs.Said.{SaidEntry}
-use Rattle.history_stream.specs.declared.reader.Stage.{Stage}
-use Rattle.history_stream.specs.declared.reader.Stage.TheVariants.{First, Entries, Over}
-use Rattle.history_stream.specs.Reading.{read_from, resume_at}
-use Rattle.history_stream.specs.State.{IsRun as HasNoEnd, point_of}
-use Rattle.history_stream.proofs.Pieces.{end_entries, end_first, end_over}
-use Rattle.history_stream.proofs.Resumes.{end_is, end_step}
+use Rattle.history_text.specs.declared.reader.Stage.{Stage}
+use Rattle.history_text.specs.declared.reader.Stage.TheVariants.{First, Entries, Over}
+use Rattle.history_text.specs.StreamReading.{read_from, resume_at}
+use Rattle.history_text.specs.State.{IsRun as HasNoEnd, point_of}
+use Rattle.history_text.proofs.Pieces.{end_entries, end_first, end_over}
+use Rattle.history_text.proofs.Resumes.{end_is, end_step}
 use Rattle.ring_core.specs.World.{ring_of, plan_of, Meets}
 use Rattle.ring_script.specs.Replay.{ending_text}
 use Rattle.history_watch.specs.declared.watch.Watch.{Watch}

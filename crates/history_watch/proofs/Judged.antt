@@ -7,9 +7,9 @@ use Rattle.ring_names.specs.declared.refusal.Refusal.TheVariants.{OutOfMemory}
 use Rattle.ring_table.specs.Value.{RingValue}
 use Rattle.plan_text.specs.declared.step.Planned.{Planned}
 use Rattle.plan_check.specs.Approval.{Approval}
-use Rattle.history_stream.specs.Reading.{read_from}
-use Rattle.history_stream.specs.State.{IsEmptied, IsRun as HasNoEnd}
-use Rattle.history_stream.proofs.Readings.{emptied_reading}
+use Rattle.history_text.specs.StreamReading.{read_from}
+use Rattle.history_text.specs.State.{IsEmptied, IsRun as HasNoEnd}
+use Rattle.history_text.proofs.Readings.{emptied_reading}
 use Rattle.ring_core.specs.World.{ring_of, plan_of}
 use Rattle.ring_core.proofs.RestSame.{same_store}
 use Rattle.ring_core.specs.declared.resting.Rest.{Rest}

@@ -10,11 +10,11 @@ use Rattle.ringplan_jobs.specs.Io.{AppendsPart}
 use Rattle.ring_table.specs.Value.{RingValue}
 use Rattle.plan_text.specs.declared.step.Planned.{Planned}
 use Rattle.plan_runs.specs.World.{opening_world}
-use Rattle.history_stream.specs.declared.reader.Stage.TheVariants.{Over}
-use Rattle.history_stream.specs.Input.{IsNext}
-use Rattle.history_stream.specs.Input as input
-use Rattle.history_stream.specs.State.{point_of}
-use Rattle.history_stream.proofs.Inputs.{same_end}
+use Rattle.history_text.specs.declared.reader.Stage.TheVariants.{Over}
+use Rattle.history_text.specs.Input.{IsNext}
+use Rattle.history_text.specs.Input as input
+use Rattle.history_text.specs.State.{point_of}
+use Rattle.history_text.proofs.Inputs.{same_end}
 use Rattle.history_watch.specs.declared.watch.Watch.{Watch}
 use Rattle.history_watch.specs.Watching.{IsAnswer, IsCutOff, IsJudged, IsRefused, IsWatching, history_at, start}
 use Rattle.history_watch.proofs.Watched.{going_judged, over_judged}

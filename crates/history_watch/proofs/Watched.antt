@@ -14,12 +14,12 @@ use Rattle.plan_runs.specs.World.{World as TheWorld, opening_world}
 use Rattle.plan_runs.proofs.Split.{joined}
 use Rattle.script_text.specs.Said.{names_after}
 use Rattle.history_text.specs.Said.{SaidEntry}
-use Rattle.history_stream.specs.declared.reader.Reader.{Reader}
-use Rattle.history_stream.specs.declared.reader.Stage.TheVariants.{First, Over}
-use Rattle.history_stream.specs.Reading.{Point, IsReadTo, entries_behind, read_from}
-use Rattle.history_stream.specs.State.{IsFirst, IsReading, IsRun as HasNoEnd, Refuses, Stops, TakesSome, point_of}
-use Rattle.history_stream.proofs.Pieces.{end_over, read_on}
-use Rattle.history_stream.proofs.Readings.{emptied_reading, first_reading}
+use Rattle.history_text.specs.declared.reader.Reader.{Reader}
+use Rattle.history_text.specs.declared.reader.Stage.TheVariants.{First, Over}
+use Rattle.history_text.specs.StreamReading.{Point, IsReadTo, entries_behind, read_from}
+use Rattle.history_text.specs.State.{IsFirst, IsReading, IsRun as HasNoEnd, Refuses, Stops, TakesSome, point_of}
+use Rattle.history_text.proofs.Pieces.{end_over, read_on}
+use Rattle.history_text.proofs.Readings.{emptied_reading, first_reading}
 use Rattle.ring_core.specs.declared.world.World.{World}
 use Rattle.ring_core.specs.World.{ring_of, plan_of, Meets}
 use Rattle.ring_core.specs.Faults.{IsFirstFault}

@@ -9,9 +9,9 @@ use Rattle.ringplan_jobs.specs.Io.{AppendsPart}
 use Rattle.ring_table.specs.Value.{RingValue}
 use Rattle.plan_text.specs.declared.step.Planned.{Planned}
 use Rattle.history_text.specs.Said.{SaidEntry}
-use Rattle.history_stream.specs.declared.reader.Stage.TheVariants.{Over}
-use Rattle.history_stream.specs.Reading.{Point}
-use Rattle.history_stream.specs.State.{IsRun as HasNoEnd}
+use Rattle.history_text.specs.declared.reader.Stage.TheVariants.{Over}
+use Rattle.history_text.specs.StreamReading.{Point}
+use Rattle.history_text.specs.State.{IsRun as HasNoEnd}
 use Rattle.ring_core.specs.Replays.{IsHistory}
 use Rattle.ring_script.specs.Replay.{IsReplayed}
 use Rattle.history_watch.specs.Watching.{Begins, HasEnded, IsCutOff, IsJudged, IsRefused, entries_of, history_at}

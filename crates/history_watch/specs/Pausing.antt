@@ -4,8 +4,8 @@ use Rattle.ring_names.specs.declared.refusal.Refusal.{Refusal}
 use Rattle.ring_table.specs.Value.{RingValue}
 use Rattle.plan_text.specs.declared.step.Planned.{Planned}
 use Rattle.plan_check.specs.Approval.{Approval}
-use Rattle.history_stream.specs.declared.reader.Stage.TheVariants.{Over}
-use Rattle.history_stream.specs.State.{IsRun as HasNoEnd}
+use Rattle.history_text.specs.declared.reader.Stage.TheVariants.{Over}
+use Rattle.history_text.specs.State.{IsRun as HasNoEnd}
 use Rattle.ring_core.specs.Resting.{IsReady as IsReadyRest, rest_of, puts_in, gets_in}
 use Rattle.history_watch.specs.declared.resting.Paused.{Paused}
 use Rattle.history_watch.specs.declared.resting.State.{State}

@@ -8,10 +8,10 @@ use Rattle.plan_runs.specs.declared.event.Entry.{Entry}
 use Rattle.plan_runs.specs.Runs.{IsRun}
 use Rattle.plan_runs.specs.World.{World as TheWorld, opening_world}
 use Rattle.history_text.specs.Said.{SaidEntry}
-use Rattle.history_stream.specs.declared.reader.Stage.{Stage}
-use Rattle.history_stream.specs.declared.reader.Stage.TheVariants.{First, Entries, Over}
-use Rattle.history_stream.specs.Reading.{Point, IsReadTo, entries_behind, read_from}
-use Rattle.history_stream.specs.State.{IsEmptied, IsReading, IsRun as HasNoEnd, Stops, point_of}
+use Rattle.history_text.specs.declared.reader.Stage.{Stage}
+use Rattle.history_text.specs.declared.reader.Stage.TheVariants.{First, Entries, Over}
+use Rattle.history_text.specs.StreamReading.{Point, IsReadTo, entries_behind, read_from}
+use Rattle.history_text.specs.State.{IsEmptied, IsReading, IsRun as HasNoEnd, Stops, point_of}
 use Rattle.ring_core.specs.Replays.{IsHistory}
 use Rattle.ring_core.specs.Faults.{IsFirstFault}
 use Rattle.ring_core.specs.World.{ring_of, plan_of, Meets, put_count, get_count}

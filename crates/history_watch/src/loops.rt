@@ -9,7 +9,7 @@ ghost use Rattle.history_watch.specs.Watching.{HasRoom, IsWatching, IsRefused, I
 ghost use Rattle.history_watch.specs.Loops.{is_shown, shown_at, so_far_line, IsOutside, Shows, ShowsPart, Watches};
 
 use crate::watch::Watch;
-use history_stream::{CHUNK, read_some};
+use history_text::{CHUNK, read_some};
 use plan_check::Approved;
 use ring_names::{Refusal, push_decimal};
 use ringplan_jobs::write_all;

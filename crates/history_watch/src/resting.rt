@@ -4,14 +4,14 @@ ghost use Rattle.std.specs.Prelude.{◌≡◌, ◌≢◌, ◌≤◌, ◌++◌, �
 ghost use Rattle.ring_names.specs.declared.refusal.Refusal.TheVariants.{OutOfMemory};
 ghost use Rattle.ring_table.specs.Value.{RingValue};
 ghost use Rattle.plan_text.specs.declared.step.Planned.{Planned};
-ghost use Rattle.history_stream.specs.declared.reader.Stage.TheVariants.{Over};
+ghost use Rattle.history_text.specs.declared.reader.Stage.TheVariants.{Over};
 ghost use Rattle.ring_core.specs.World.{ring_of, plan_of};
 ghost use Rattle.history_watch.specs.declared.resting.State.TheVariants.{Going};
 ghost use Rattle.history_watch.specs.Watching.{HasRoom, IsAnswer, IsCutOff, IsJudged, IsRefused, IsWatching};
 ghost use Rattle.history_watch.specs.Pausing.{IsReady, IsReadyState, IsAt, IsOverAt, answer_in, paused_of};
 
 use crate::watch::Watch;
-use history_stream::{Reader, Stage};
+use history_text::{Reader, Stage};
 use plan_check::Approved;
 use ring_core::{Rest, World};
 use ring_names::{Names, Refusal};

@@ -4,13 +4,13 @@ ghost use Rattle.std.specs.Prelude.{◌≡◌, ◌≢◌, ◌≤◌, ◌+◌, �
 ghost use Rattle.ring_names.specs.declared.refusal.Refusal.TheVariants.{OutOfMemory};
 ghost use Rattle.ring_table.specs.Value.{RingValue};
 ghost use Rattle.plan_text.specs.declared.step.Planned.{Planned};
-ghost use Rattle.history_stream.specs.declared.reader.Stage.TheVariants.{First, Over};
+ghost use Rattle.history_text.specs.declared.reader.Stage.TheVariants.{First, Over};
 ghost use Rattle.ring_core.specs.World.{ring_of, plan_of, put_count, get_count};
 ghost use Rattle.history_watch.specs.Watching.{HasRoom, IsWatching, IsRefused, IsJudged, IsAnswer, IsCutOff};
 ghost use Rattle.history_watch.specs.Following.{FollowsAll, FailsIn, Reaches};
 ghost use Rattle.history_watch.specs.Watching.{FollowsKept, KeepsPlan, is_whole};
 
-use history_stream::{Reader, Stage};
+use history_text::{Reader, Stage};
 use plan_check::Approved;
 use plan_runs::Entry;
 use ring_core::{World, follow};

@@ -12,9 +12,9 @@ use Rattle.ringplan_jobs.specs.Answers.{output_of, refused_status, status_of}
 use Rattle.ring_names.specs.declared.choice.Choice.{Choice}
 use Rattle.ring_names.specs.declared.choice.Choice.TheVariants.{Range, Share}
 use Rattle.history_laws.specs.Choices.{IsChoice}
-use Rattle.history_stream.specs.declared.cutting.Part.{Part}
-use Rattle.history_stream.specs.declared.cutting.NoPart.{NoPart}
-use Rattle.history_stream.specs.Cutting.{IsCut, refusal_of}
+use Rattle.history_text.specs.declared.cutting.Part.{Part}
+use Rattle.history_text.specs.declared.cutting.NoPart.{NoPart}
+use Rattle.history_text.specs.Cutting.{IsCut, refusal_of}
 use Rattle.ringplan_run.proofs.Deliveries.{prints_nothing}
 use Rattle.ringplan_command.specs.declared.parts.PartWish.{PartWish}
 use Rattle.ringplan_command.specs.Parts.{MeansChoice, PartTexts}

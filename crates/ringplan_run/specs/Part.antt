@@ -2,9 +2,9 @@
 use Rattle.std.specs.Prelude.{◌≡◌, ◌⊎◌, ℕ, List, [], ◌∷◌, ◌++◌, Option, Some, None, Result, Ok, Err}
 use Rattle.std.specs.Fmt.{decimal}
 use Rattle.ring_names.specs.Refusals.{number_of}
-use Rattle.history_stream.specs.declared.cutting.Part.{Part}
-use Rattle.history_stream.specs.declared.cutting.NoPart.{NoPart}
-use Rattle.history_stream.specs.Cutting.{IsCut, refusal_of}
+use Rattle.history_text.specs.declared.cutting.Part.{Part}
+use Rattle.history_text.specs.declared.cutting.NoPart.{NoPart}
+use Rattle.history_text.specs.Cutting.{IsCut, refusal_of}
 use Rattle.ringplan_command.specs.declared.parts.PartWish.{PartWish}
 use Rattle.ringplan_jobs.specs.Answers.{refused_status}
 use Rattle.ringplan_jobs.specs.Io.{Prints}

@@ -7,7 +7,7 @@ ghost use Rattle.ringplan_run.specs.Part.{ShowsCut, ShowsPart};
 
 use crate::files::say;
 use crate::program::{FAILED, NO_MEMORY, REFUSED, finish};
-use history_stream::{MOST_ENTRIES, NoPart, Part, cut_stream};
+use history_text::{MOST_ENTRIES, NoPart, Part, cut_stream};
 use ring_names::{Choice, Refusal};
 use ringplan_command::{MOST_PARTS, PartWish};
 use ringplan_jobs::{MAX_INPUT, status_of};

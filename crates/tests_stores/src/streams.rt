@@ -5,8 +5,7 @@ ghost use Rattle.history_laws.specs.Choices.{IsChoice};
 
 use crate::answering::{CHAINS, MOVE_STEPS, RING};
 use history_laws::{mark_chosen, part};
-use history_stream::{NoPart, Part, cut_stream};
-use history_text::{push_entry, read_replay};
+use history_text::{NoPart, Part, cut_stream, push_entry, read_replay};
 use ring_names::{Choice, Refusal};
 use std::alloc::Global;
 use std::io;

@@ -1,6 +1,6 @@
 use Rattle.std.proofs.Common.{◌≡◌, ◌∙◌, ℕ, List, [], ◌++◌, length, eqb-true, inl, inr, refl, true, false, sym, subst, arith}
 use Rattle.std.proofs.KnownBytes.{Consumes-nil, Consumes-trans}
-use Rattle.history_stream.specs.declared.reader.Stage.TheVariants.{First, Over}
+use Rattle.history_text.specs.declared.reader.Stage.TheVariants.{First, Over}
 use Rattle.history_watch.specs.Watching.{IsJudged, IsRefused, IsWatching}
 use Rattle.history_watch.proofs.Looped.{at_end, is_over, is_refused, nothing_part, outside, over_outside, shown_first, so_far_part, unread}
 use Rattle.history_watch.proofs.loops.watch_history.Goals as goal

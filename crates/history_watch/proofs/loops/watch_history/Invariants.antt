@@ -1,6 +1,6 @@
 use Rattle.std.proofs.Common.{ℕ, List, ◌≢◌}
 use Rattle.std.specs.Io.KnownBytes.{Appends, Consumes}
-use Rattle.history_stream.specs.declared.reader.Stage.TheVariants.{Over}
+use Rattle.history_text.specs.declared.reader.Stage.TheVariants.{Over}
 use Rattle.history_watch.specs.Watching.{HasRoom, IsWatching}
 use Rattle.history_watch.specs.Loops.{so_far}
 use Rattle.history_watch.proofs.loops.watch_history.Given as goal

@@ -1,6 +1,6 @@
 use Rattle.std.proofs.Common.{◌≡◌, subst, IfErr}
 use Rattle.ring_names.specs.declared.refusal.Refusal.TheVariants.{OutOfMemory}
-use Rattle.history_stream.specs.declared.reader.Stage.TheVariants.{Over}
+use Rattle.history_text.specs.declared.reader.Stage.TheVariants.{Over}
 use Rattle.history_watch.specs.declared.resting.Paused.{Paused}
 use Rattle.history_watch.proofs.Judged.{ends_cut, ends_well}
 use Rattle.history_watch.proofs.resting.finish.Goals as goal

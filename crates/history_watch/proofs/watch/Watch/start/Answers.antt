@@ -1,7 +1,7 @@
 use Rattle.std.proofs.Common.{refl, subst}
 use Rattle.ring_table.specs.Value.{RingValue}
 use Rattle.ring_table.specs.Valid.{IsRing}
-use Rattle.history_stream.specs.State.{IsFirst}
+use Rattle.history_text.specs.State.{IsFirst}
 use Rattle.history_watch.proofs.Watched.{at_start}
 use Rattle.history_watch.proofs.watch.Watch.start.Goals as goal
 
