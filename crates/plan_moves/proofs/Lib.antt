@@ -2,3 +2,8 @@
 pub mod Moving
 pub mod Owning
 pub mod Rising
+pub mod Ascending
+pub mod Goings
+pub mod Listing
+pub mod Moved
+pub mod PlainNames

@@ -2,3 +2,6 @@
 pub mod Moves
 pub mod Owners
 pub mod Rounds
+pub mod Lines
+pub mod MoveLines
+pub mod Tokens

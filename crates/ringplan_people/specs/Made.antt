@@ -7,8 +7,8 @@ use Rattle.plan_text.specs.declared.step.Planned.{Planned}
 use Rattle.plan_check.specs.Approval.{IsApproved}
 use Rattle.plan_goal.specs.declared.proposed.Proposed.{Proposed}
 use Rattle.plan_goal.specs.Proposals.{front_text}
-use Rattle.plan_lines.specs.Lines.{steps_text}
-use Rattle.plan_lines.specs.MoveLines.{moves_text}
+use Rattle.plan_moves.specs.Lines.{steps_text}
+use Rattle.plan_moves.specs.MoveLines.{moves_text}
 use Rattle.ringplan_jobs.specs.Answers.{refused_status}
 use Rattle.ringplan_job.specs.declared.making.Exit.TheVariants as exit
 use Rattle.ringplan_job.specs.declared.making.Making.{Making}

@@ -4,15 +4,15 @@ ghost use Rattle.std.specs.Prelude.{◌≡◌, List, IfOk};
 ghost use Rattle.ring_table.specs.Value.{RingValue};
 ghost use Rattle.plan_text.specs.declared.step.Planned.{Planned};
 ghost use Rattle.plan_check.specs.Approval.{IsApproved};
-ghost use Rattle.plan_lines.specs.Lines.{steps_text};
-ghost use Rattle.plan_lines.specs.MoveLines.{moves_text};
+ghost use Rattle.plan_moves.specs.Lines.{steps_text};
+ghost use Rattle.plan_moves.specs.MoveLines.{moves_text};
 ghost use Rattle.ringplan_people.specs.Studies.{IsStudyOf};
 
 use crate::racks::push_racks;
 use crate::study::studied;
 use change_text::Options;
 use plan_check::Approved;
-use plan_lines::{write_moves, write_steps};
+use plan_moves::{write_moves, write_steps};
 use ring_names::Refusal;
 use std::alloc::Global;
 use texts::Words;
