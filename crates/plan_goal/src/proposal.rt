@@ -10,7 +10,7 @@ use crate::judging::{Rejected, judge};
 use crate::proposed::Proposed;
 use crate::reaching::cause;
 use change_text::Change;
-use plan_maker::make;
+use find_plan::make;
 use ring_names::Refusal;
 use ring_table::Ring;
 use std::alloc::Global;

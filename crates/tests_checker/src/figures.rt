@@ -3,8 +3,8 @@
 ghost use Rattle.std.specs.Prelude.{◌<◌};
 ghost use Rattle.plan_text.specs.Valid.{Suits};
 
+use find_plan::make;
 use plan_cert::Cert;
-use plan_maker::make;
 use plan_stage::{parties, sources, stage_at};
 use plan_text::{Plan, Source, Step};
 use ring_names::{NodeId, Refusal, Slot};

@@ -3,7 +3,7 @@
 use crate::ring_texts::{push_nodes, push_numbered, push_owners};
 use crate::rings::ring_from;
 use crate::same::{holds, same};
-use plan_maker::{WishedChange, wished};
+use find_plan::{WishedChange, wished};
 use ring_names::{Listed, NodeId, Refusal};
 use ring_table::Ring;
 use std::alloc::{AllocError, Global};
