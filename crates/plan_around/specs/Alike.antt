@@ -14,7 +14,7 @@ use Rattle.plan_runs.specs.Runs.{IsRun}
 use Rattle.history_laws.specs.Past.{allows}
 use Rattle.history_laws.specs.Slots.{is_in}
 use Rattle.history_laws.specs.declared.slots.SlotSet.{SlotSet}
-use Rattle.plan_bundles.specs.Sized.{is_flagged}
+use Rattle.plan_goal.specs.Sized.{is_flagged}
 use Rattle.ring_core.specs.Mirrors.{is_stored}
 use Rattle.ring_core.specs.World.{Meets, ring_of, plan_of}
 use Rattle.ring_core.specs.declared.world.World.{World}

@@ -23,7 +23,7 @@ use Rattle.plan_around.specs.Alike.{LeadAlike}
 use Rattle.plan_runs.specs.declared.back.Back.{Back}
 use Rattle.plan_runs.specs.declared.back.Back.TheVariants.{Allowed}
 use Rattle.history_laws.specs.Past.{IsSamePast}
-use Rattle.plan_bundles.specs.Goals.{AreNamed, dead_names}
+use Rattle.plan_goal.specs.GoalsReached.{AreNamed, dead_names}
 use Rattle.change_text.specs.declared.options.Options.{Options}
 use Rattle.ringplan_job.specs.declared.making.Detour.{Detour}
 use Rattle.ringplan_job.specs.declared.making.Extent.{Extent}

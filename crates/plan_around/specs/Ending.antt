@@ -9,7 +9,7 @@ use Rattle.plan_text.specs.declared.step.Step.{Step}
 use Rattle.plan_text.specs.declared.step.Step.TheVariants.{Mirror}
 use Rattle.plan_runs.specs.World.{World as TheWorld, keeps, slot_at}
 use Rattle.plan_goal.specs.Reached.{member_after}
-use Rattle.plan_bundles.specs.Sized.{is_flagged}
+use Rattle.plan_goal.specs.Sized.{is_flagged}
 use Rattle.ring_core.specs.World.{Meets, ring_of, plan_of}
 use Rattle.ring_core.specs.declared.world.World.{World}
 use Rattle.plan_moves.specs.Owners.{IsPast}

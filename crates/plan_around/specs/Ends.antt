@@ -16,7 +16,7 @@ use Rattle.plan_runs.specs.declared.back.Back.{Back}
 use Rattle.plan_runs.specs.declared.back.Back.TheVariants.{Allowed}
 use Rattle.plan_moves.specs.Moves.{served_before}
 use Rattle.plan_goal.specs.Reached.{member_after}
-use Rattle.plan_bundles.specs.Sized.{row_at}
+use Rattle.plan_goal.specs.Sized.{row_at}
 use Rattle.ringplan_job.specs.declared.making.Extent.{Extent}
 use Rattle.ringplan_job.specs.declared.making.Extent.TheVariants.{Whole, Begun}
 use Rattle.plan_around.specs.Apart.{is_whole}

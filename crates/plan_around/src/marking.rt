@@ -1,9 +1,9 @@
 //! Marks by place.
 
 ghost use Rattle.std.specs.Prelude.{◌≡◌, ◌⊎◌, ℕ, ◌<◌, true, false, IfOk, IsTrue};
-ghost use Rattle.plan_bundles.specs.Sized.{is_flagged};
+ghost use Rattle.plan_goal.specs.Sized.{is_flagged};
 
-use plan_bundles::is_flagged;
+use plan_goal::is_flagged;
 use ring_names::Refusal;
 use std::alloc::Global;
 

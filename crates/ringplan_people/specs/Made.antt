@@ -17,9 +17,9 @@ use Rattle.ringplan_job.specs.declared.making.Making.TheVariants.{Why, Cert, Aft
 use Rattle.ringplan_job.specs.declared.making.Color.{Color}
 use Rattle.ringplan_job.specs.declared.making.Statement.{Statement}
 use Rattle.ringplan_job.specs.declared.making.Statement.TheVariants as statements
-use Rattle.plan_bundles.specs.Certs.{IsCertifiedText}
-use Rattle.plan_bundles.specs.Goals.{IsLed, IsLedText, IsWishReached}
-use Rattle.plan_bundles.specs.Windows.{AreAskedOf}
+use Rattle.plan_goal.specs.Certs.{IsCertifiedText}
+use Rattle.plan_goal.specs.GoalsReached.{IsLed, IsLedText, IsWishReached}
+use Rattle.plan_goal.specs.Windows.{AreAskedOf}
 use Rattle.plan_around.specs.Around.{IsAround}
 use Rattle.ringplan_people.specs.Studies.{IsStudyOf, HasApproved, IsShown, IsLeftBy, IsLeftNow}
 use Rattle.ringplan_people.specs.Why.{HasKept, IsWhy}

@@ -8,7 +8,7 @@ use Rattle.plan_text.specs.declared.step.Planned.{Planned}
 use Rattle.plan_runs.specs.declared.event.Entry.{Entry}
 use Rattle.change_text.specs.declared.options.Options.{Options}
 use Rattle.plan_goal.specs.declared.proposed.Proposed.{Proposed}
-use Rattle.plan_bundles.specs.Goals.{IsWishReached}
+use Rattle.plan_goal.specs.GoalsReached.{IsWishReached}
 use Rattle.history_text.specs.Replays.{Parts, replay_at}
 use Rattle.plan_check.specs.Approval.{IsApproved}
 use Rattle.ring_core.specs.Replays.{IsHistory}
@@ -18,7 +18,7 @@ use Rattle.ring_script.specs.declared.bundle.Kind.TheVariants as kind
 use Rattle.plan_runs.specs.Runs.{IsRun}
 use Rattle.plan_runs.specs.World.{World, is_member_now}
 use Rattle.ring_core.specs.Tables.{owners_now}
-use Rattle.plan_bundles.specs.Rings.{flags, ring_left}
+use Rattle.plan_goal.specs.Rings.{flags, ring_left}
 
 -- the ring and the plan of a bundle without a history. They are those of the texts. Or they are the ring and a
 -- plan that leads to the ring that the change wishes for, by some options

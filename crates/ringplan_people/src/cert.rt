@@ -5,7 +5,7 @@ ghost use Rattle.ringplan_people.specs.Made.{IsBundleOf, IsCertOf};
 
 use crate::why::push_words_of;
 use change_text::Options;
-use plan_bundles::{Kind, cert_bundle, found_bundle, kind_of, push_excess, wish_bundle};
+use plan_goal::{Kind, cert_bundle, found_bundle, kind_of, push_excess, wish_bundle};
 use ring_names::Refusal;
 use std::alloc::Global;
 use texts::Words;

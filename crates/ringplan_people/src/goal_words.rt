@@ -3,8 +3,9 @@
 use crate::history_words::unless_memory;
 use crate::why::{push_few, push_too_few, push_words_of};
 use change_text::{Options, Unreadable, Wanted, read_wanted};
-use plan_bundles::{Kind, dead_by, front, goal_of, kind_of, nodes_of};
-use plan_goal::{Aim, Goal, Unfit, is_among, why_unfit};
+use plan_goal::{
+    Aim, Goal, Kind, Unfit, dead_by, front, goal_of, is_among, kind_of, nodes_of, why_unfit,
+};
 use ring_names::{NodeId, Refusal};
 use ring_table::Ring;
 use show_why::{Page, Said, push_printed, tell_text};

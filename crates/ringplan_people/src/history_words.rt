@@ -5,8 +5,8 @@ ghost use Rattle.ring_names.specs.declared.refusal.Refusal.TheVariants.{OutOfMem
 
 use crate::trail::Trail;
 use history_text::read_replay;
-use plan_bundles::front;
 use plan_check::{Approved, check};
+use plan_goal::front;
 use plan_runs::{Entry, Event, Reply};
 use ring_core::{World, replay};
 use ring_names::Refusal;

@@ -1,10 +1,10 @@
 //! Known racks, and options that do not fit.
 
 use change_text::{Entry, Fact, Options, RackRule, read_wanted};
-use plan_bundles::{
+use plan_check::Approved;
+use plan_goal::{
     Kind, Racking, front, kind_of, members_by, members_with, misfit, racks_of, unracked,
 };
-use plan_check::Approved;
 use ring_names::Refusal;
 use ring_table::{Ring, read_ring};
 use show_why::{Nearest, push_printed};

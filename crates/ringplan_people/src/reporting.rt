@@ -1,7 +1,7 @@
 //! Results and refusals.
 
 ghost use Rattle.std.specs.Prelude.{◌≡◌, ◌≤◌, ◌⊎◌, IfOk};
-ghost use Rattle.plan_bundles.specs.Goals.{IsLedText};
+ghost use Rattle.plan_goal.specs.GoalsReached.{IsLedText};
 ghost use Rattle.ringplan_people.specs.Made.{IsMade, IsMadeWith, IsRefusal, IsReport, IsStated, IsTold};
 ghost use Rattle.ringplan_people.specs.Why.{IsWhy};
 
@@ -16,7 +16,7 @@ use crate::why::{push_words_of, why_bundle};
 use crate::windows::{push_windows_words, windows_bundle};
 use change_text::Options;
 use plan_around::around_bundle;
-use plan_bundles::{Kind, front, kind_of, led_bundle};
+use plan_goal::{Kind, front, kind_of, led_bundle};
 use ring_names::Refusal;
 use ringplan_job::{Color, Exit, Making, Statement};
 use ringplan_jobs::{Answer, answer_of};

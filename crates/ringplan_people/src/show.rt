@@ -7,7 +7,7 @@ use crate::painting::painted;
 use crate::racks::racking_of;
 use crate::study::{Study, studied};
 use change_text::Options;
-use plan_bundles::{
+use plan_goal::{
     Kind, Racking, aliases_of, ask_layout, dead_by, front, has_sizes, kind_of, members_with,
     nodes_of, racks_of, sizes_of,
 };

@@ -1,7 +1,7 @@
 //! Statements about a bundle, as JSON.
 
 ghost use Rattle.std.specs.Prelude.{◌≡◌, ◌≢◌, ◌≤◌, ◌⊎◌, IfOk};
-ghost use Rattle.plan_bundles.specs.Goals.{IsLed};
+ghost use Rattle.plan_goal.specs.GoalsReached.{IsLed};
 ghost use Rattle.ringplan_people.specs.Made.{IsStated};
 ghost use Rattle.ringplan_people.specs.Studies.{HasApproved, IsShown};
 
@@ -15,8 +15,7 @@ use crate::show::{Shown, facts_of, racks_at_rest, shown_by, volumes_of};
 use crate::study::{Study, studied};
 use crate::why::{MendOutcome, push_accepted, push_why};
 use change_text::Options;
-use plan_bundles::{Racking, ask_layout, front, led_bundle};
-use plan_goal::Proposed;
+use plan_goal::{Proposed, Racking, ask_layout, front, led_bundle};
 use ring_names::Refusal;
 use ring_table::{Allowance, Ring, read_ring};
 use ringplan_job::{Exit, Statement, Wish};

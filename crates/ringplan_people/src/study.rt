@@ -7,10 +7,9 @@ ghost use Rattle.ringplan_people.specs.Studies.{IsPlanOf, IsStudyOf, IsRecorded}
 use change_text::Options;
 use history_text::read_replay;
 use plan_around::follow;
-use plan_bundles::{Kind, kind_of, wish_bundle};
 use plan_cert::Cert;
 use plan_check::{Approved, check};
-use plan_goal::Proposed;
+use plan_goal::{Kind, Proposed, kind_of, wish_bundle};
 use plan_runs::Entry;
 use plan_text::Plan;
 use ring_names::Refusal;

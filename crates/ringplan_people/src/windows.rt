@@ -4,7 +4,7 @@ ghost use Rattle.std.specs.Prelude.{List, IfOk};
 ghost use Rattle.ring_table.specs.Value.{RingValue};
 ghost use Rattle.plan_text.specs.declared.step.Planned.{Planned};
 ghost use Rattle.plan_check.specs.Approval.{IsApproved};
-ghost use Rattle.plan_bundles.specs.Windows.{AreAskedOf};
+ghost use Rattle.plan_goal.specs.Windows.{AreAskedOf};
 ghost use Rattle.ringplan_people.specs.Studies.{IsStudyOf};
 
 use crate::racks::push_racks;
@@ -12,7 +12,7 @@ use crate::reporting::GivenBundle;
 use crate::study::{Study, studied};
 use crate::why::push_words_of;
 use change_text::Options;
-use plan_bundles::cut_plan;
+use plan_goal::cut_plan;
 use ring_names::Refusal;
 use ringplan_job::Cut;
 use std::alloc::Global;

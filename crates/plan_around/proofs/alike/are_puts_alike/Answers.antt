@@ -1,6 +1,6 @@
 use Rattle.std.proofs.Common.{◌≡◌, ◌∙◌, Bool, List, ap, sym, subst, true, arith}
 use Rattle.ring_table.specs.Value.{RingValue}
-use Rattle.plan_bundles.specs.Sized.{is_flagged}
+use Rattle.plan_goal.specs.Sized.{is_flagged}
 use Rattle.plan_around.proofs.Comparing.{not_both}
 use Rattle.plan_around.proofs.alike.are_puts_alike.Goals as goal
 

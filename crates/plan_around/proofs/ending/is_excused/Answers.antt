@@ -1,5 +1,5 @@
 use Rattle.std.proofs.Common.{◌≡◌, ◌∙◌, Bool, List, subst, sym, true}
-use Rattle.plan_bundles.specs.Sized.{is_flagged}
+use Rattle.plan_goal.specs.Sized.{is_flagged}
 use Rattle.plan_around.specs.Ends.{hinted, owned, stays, touched}
 use Rattle.plan_around.proofs.ending.is_excused.Goals as goal
 

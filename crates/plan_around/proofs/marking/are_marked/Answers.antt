@@ -1,5 +1,5 @@
 use Rattle.std.proofs.Common.{◌≡◌, ◌∙◌, ℕ, below_more, sym, true}
-use Rattle.plan_bundles.specs.Sized.{is_flagged}
+use Rattle.plan_goal.specs.Sized.{is_flagged}
 use Rattle.plan_around.proofs.marking.are_marked.Goals as goal
 
 pub loop-place-preserved : goal.loop-place-preserved

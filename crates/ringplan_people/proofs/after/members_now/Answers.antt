@@ -1,6 +1,6 @@
 use Rattle.std.proofs.Common.{◌∙◌, sym}
 use Rattle.plan_runs.specs.World.{is_member_now}
-use Rattle.plan_bundles.proofs.Members.{flags-none, flags-more}
+use Rattle.plan_goal.proofs.Members.{flags-none, flags-more}
 use Rattle.ring_core.specs.World.{plan_of, ring_of}
 use Rattle.ringplan_people.proofs.after.members_now.Goals as goal
 

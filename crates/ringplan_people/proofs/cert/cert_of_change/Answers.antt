@@ -1,6 +1,6 @@
 use Rattle.std.proofs.Common.{ℕ, List, inr, subst}
 use Rattle.std.proofs.lemmas.Result.{IfOk-weaker}
-use Rattle.plan_bundles.specs.Certs.{IsCertifiedText}
+use Rattle.plan_goal.specs.Certs.{IsCertifiedText}
 use Rattle.ringplan_people.proofs.cert.cert_of_change.Goals as goal
 
 pub returns : goal.returns

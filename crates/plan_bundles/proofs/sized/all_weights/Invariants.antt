@@ -1,6 +1,0 @@
-use Rattle.std.proofs.Common.{◌≡◌}
-use Rattle.plan_bundles.specs.Sized.{sum_below, weight_in}
-use Rattle.plan_bundles.proofs.sized.all_weights.Given as goal
-
-abbrev pub invariant-nodes : goal.invariant-nodes
-invariant-nodes l = l.sum ≡ sum_below (weight_in l.weights l.ring) l.node

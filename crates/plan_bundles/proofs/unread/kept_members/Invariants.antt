@@ -1,7 +1,0 @@
-use Rattle.std.proofs.Common.{◌≡◌}
-use Rattle.plan_bundles.specs.Rings.{flags}
-use Rattle.plan_bundles.specs.Unread.{is_kept_member}
-use Rattle.plan_bundles.proofs.unread.kept_members.Given as goal
-
-abbrev pub invariant-nodes : goal.invariant-nodes
-invariant-nodes l = l.members.items ≡ flags (is_kept_member l.ring l.wanted l.rows) l.node

@@ -1,4 +1,0 @@
--- What is proved of plans one after the other.
-pub mod Handing
-pub mod Turns
-pub mod Ending
