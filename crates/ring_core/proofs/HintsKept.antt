@@ -5,10 +5,10 @@ use Rattle.ring_names.specs.declared.ids.NodeId.{NodeId}
 use Rattle.ring_names.specs.declared.ids.Slot.{Slot}
 use Rattle.plan_runs.specs.World.{World, keeps}
 use Rattle.ring_hints.specs.Hints.{Keeps, hinted_at}
-use Rattle.store_tells.specs.declared.parts.Parts.{Parts}
-use Rattle.store_tells.proofs.Numbers.{none}
-use Rattle.store_tells.specs.Parts.{IsSized, ring_of, plan_of, kept_of, Meets}
-use Rattle.store_tells.proofs.WhoKeepsHints.{keeps_tells}
+use Rattle.store_parts.specs.declared.parts.Parts.{Parts}
+use Rattle.store_parts.proofs.Numbers.{none}
+use Rattle.store_parts.specs.Parts.{IsSized, ring_of, plan_of, kept_of, Meets}
+use Rattle.store_parts.proofs.WhoKeepsHints.{keeps_tells}
 
 -- a node that keeps some version keeps a hint
 pub hint_kept : (a : Parts) → IsSized a → (o : Option (NodeId × Slot)) → IfSome o (λ pair. Keeps a.hints pair.0.0 pair.1) → IfSome o (λ pair. (w : World) → Meets a w → keeps w pair.0.0 pair.1 ≡ true)

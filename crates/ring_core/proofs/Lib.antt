@@ -14,6 +14,6 @@ pub mod ReplyCopies
 pub mod FirstFault
 pub mod Followed
 pub mod RestSame
-pub use Rattle.store_tables.proofs.Counting
-pub use Rattle.store_tells.proofs.KeepersDeclared
-pub use Rattle.store_tells.proofs.StoreInWorld
+pub use Rattle.store_parts.proofs.Counting
+pub use Rattle.store_parts.proofs.KeepersDeclared
+pub use Rattle.store_parts.proofs.StoreInWorld

@@ -20,13 +20,13 @@ use Rattle.plan_runs.proofs.Passing.{some_found, some_is}
 use Rattle.plan_runs.proofs.Succeeding.{is_succeeds, same_or_put, succeeds_is}
 use Rattle.ring_space.specs.Place.{place_of}
 use Rattle.ring_space.specs.declared.found.Place.{Place}
-use Rattle.store_tables.specs.declared.puts.PutNow.{PutNow}
-use Rattle.store_tells.specs.Puts.{clock_in, clock_at}
-use Rattle.store_tells.specs.Shows.{Shows, value_of}
-use Rattle.store_tells.specs.Clocks.{AreClocksOf}
-use Rattle.store_tells.specs.Kept.{Kept, Tells}
-use Rattle.store_tells.proofs.ClocksOrder.{above, tells}
-use Rattle.store_tells.proofs.StoreInWorld.{reached_of}
+use Rattle.store_parts.specs.declared.puts.PutNow.{PutNow}
+use Rattle.store_parts.specs.PutsMeet.{clock_in, clock_at}
+use Rattle.store_parts.specs.Shows.{Shows, value_of}
+use Rattle.store_parts.specs.Clocks.{AreClocksOf}
+use Rattle.store_parts.specs.Kept.{Kept, Tells}
+use Rattle.store_parts.proofs.ClocksOrder.{above, tells}
+use Rattle.store_parts.proofs.StoreInWorld.{reached_of}
 use Rattle.ring_core.specs.Mirrors.{is_stored}
 use Rattle.ring_core.proofs.SlotHoldsPut.{place_is, put_told}
 

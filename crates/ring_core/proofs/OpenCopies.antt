@@ -19,11 +19,11 @@ use Rattle.plan_stage.specs.Each.{step_at}
 use Rattle.plan_stage.specs.Parties.{source_slots}
 use Rattle.plan_check.specs.Safe.{open_copies, is_open_copy, takes_part_now, gives_now}
 use Rattle.plan_runs.specs.World.{World, passing_below, stage_now, mirrors}
-use Rattle.store_tables.specs.declared.slots.SlotNow.{SlotNow}
-use Rattle.store_tells.proofs.PutsTests.{same_passing}
-use Rattle.store_tells.proofs.StageSuits.{step_suiting}
-use Rattle.store_tells.specs.Kept.{Kept, Tells}
-use Rattle.store_tells.proofs.StoreInWorld.{slot_there, suits_of}
+use Rattle.store_parts.specs.declared.slots.SlotNow.{SlotNow}
+use Rattle.store_parts.proofs.PutsTests.{same_passing}
+use Rattle.store_parts.proofs.StageSuits.{step_suiting}
+use Rattle.store_parts.specs.Kept.{Kept, Tells}
+use Rattle.store_parts.proofs.StoreInWorld.{slot_there, suits_of}
 use Rattle.ring_core.specs.Transfers.{owns_kept, mirrors_kept, part_kept, is_open_kept}
 use Rattle.plan_runs.proofs.Suited.{within}
 

@@ -12,9 +12,9 @@ use Rattle.plan_runs.specs.Answers.{reply_to}
 use Rattle.plan_runs.specs.World.{World}
 use Rattle.plan_runs.proofs.Answered.{answered}
 use Rattle.ring_core.specs.Numbers.{lists_puts}
-use Rattle.store_tells.specs.declared.parts.Parts.{Parts}
-use Rattle.store_tells.specs.Parts.{ring_of, plan_of, IsSound, Answers}
-use Rattle.store_tells.proofs.StoreInWorld.{holds}
+use Rattle.store_parts.specs.declared.parts.Parts.{Parts}
+use Rattle.store_parts.specs.Parts.{ring_of, plan_of, IsSound, Answers}
+use Rattle.store_parts.proofs.StoreInWorld.{holds}
 
 -- the event is answered by a list of puts
 abbrev pub is_asked : Event → Bool

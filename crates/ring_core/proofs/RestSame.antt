@@ -3,10 +3,10 @@ use Rattle.std.proofs.Common.{◌≡◌, ◌≤◌, List, length, sym, ap, subst
 use Rattle.ring_table.specs.Value.{RingValue}
 use Rattle.plan_text.specs.declared.step.Planned.{Planned}
 use Rattle.plan_runs.specs.World.{World as TheWorld}
-use Rattle.store_tells.specs.Kept.{Tells}
-use Rattle.store_tells.specs.declared.parts.Parts.{Parts}
-use Rattle.store_tells.specs.Parts as parts
-use Rattle.store_tells.specs.Parts.{IsSound}
+use Rattle.store_parts.specs.Kept.{Tells}
+use Rattle.store_parts.specs.declared.parts.Parts.{Parts}
+use Rattle.store_parts.specs.Parts as parts
+use Rattle.store_parts.specs.Parts.{IsSound}
 use Rattle.ring_core.specs.declared.resting.Rest.{Rest}
 use Rattle.ring_core.specs.declared.world.World.{World}
 use Rattle.ring_core.specs.World.{ring_of, plan_of, Meets}

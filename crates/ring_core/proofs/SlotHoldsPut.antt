@@ -13,19 +13,19 @@ use Rattle.plan_text.specs.declared.step.Planned.{Planned}
 use Rattle.plan_text.specs.Valid.{is_ring_slot}
 use Rattle.plan_runs.specs.World.{PutRecord, World, slot_at, stage_now, key_of_put, is_of_key}
 use Rattle.plan_runs.specs.Versions.{put_slot, is_held}
-use Rattle.store_tells.specs.Shows.{Shows, value_of}
-use Rattle.store_tells.proofs.SlotHolds.{held}
-use Rattle.store_tables.specs.KeyTable.{KeyTable}
-use Rattle.store_tables.specs.declared.puts.PutNow.{PutNow}
+use Rattle.store_parts.specs.Shows.{Shows, value_of}
+use Rattle.store_parts.proofs.SlotHolds.{held}
+use Rattle.store_parts.specs.KeyTable.{KeyTable}
+use Rattle.store_parts.specs.declared.puts.PutNow.{PutNow}
 use Rattle.ring_space.specs.Place.{place_of}
 use Rattle.ring_space.specs.declared.found.Place.{Place}
-use Rattle.store_tells.specs.Puts.{PutMeets, clock_in, clock_at}
-use Rattle.store_tells.proofs.PutsTests.{both_puts}
-use Rattle.store_tells.specs.Kept.{Kept, Tells}
-use Rattle.store_tells.proofs.StoreInWorld.{reached_of}
+use Rattle.store_parts.specs.PutsMeet.{PutMeets, clock_in, clock_at}
+use Rattle.store_parts.proofs.PutsTests.{both_puts}
+use Rattle.store_parts.specs.Kept.{Kept, Tells}
+use Rattle.store_parts.proofs.StoreInWorld.{reached_of}
 use Rattle.ring_core.specs.Tables.{owner_kept}
 use Rattle.ring_core.proofs.SlotOwners.{in_ring, owner_told}
-use Rattle.store_tells.proofs.KeepersDeclared.{keeper_within}
+use Rattle.store_parts.proofs.KeepersDeclared.{keeper_within}
 
 -- the place of a key, by its number
 pub place_is : (q : ℕ) (keys : List (List ℕ)) (n : ℕ) (key : List ℕ) (place : Place) → option_map (place_of q) (slice_get keys n) ≡ Some place → slice_get keys n ≡ Some key → place ≡ place_of q key

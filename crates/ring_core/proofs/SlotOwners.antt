@@ -12,9 +12,9 @@ use Rattle.plan_text.specs.Valid.{is_ring_slot}
 use Rattle.plan_stage.specs.Stage.{stage}
 use Rattle.plan_stage.proofs.Places.{placed}
 use Rattle.plan_runs.specs.World.{World, count, stage_now, slot_at}
-use Rattle.store_tables.specs.declared.slots.SlotNow.{SlotNow}
-use Rattle.store_tells.specs.Kept.{Kept, Tells}
-use Rattle.store_tells.proofs.StoreInWorld.{slot_there}
+use Rattle.store_parts.specs.declared.slots.SlotNow.{SlotNow}
+use Rattle.store_parts.specs.Kept.{Kept, Tells}
+use Rattle.store_parts.proofs.StoreInWorld.{slot_there}
 use Rattle.ring_core.specs.Tables.{values_below, table_of, owner_kept, owners_now, owners_last, AllDone}
 
 -- values that are the same at each number below n

@@ -11,9 +11,9 @@ use Rattle.plan_runs.specs.World.{World}
 use Rattle.plan_runs.proofs.Answered.{answered}
 use Rattle.plan_runs.proofs.Frames.{puts_many, gets_many}
 use Rattle.plan_runs.specs.Leaves.{starts_put, starts_get}
-use Rattle.store_tells.specs.declared.parts.Parts.{Parts}
-use Rattle.store_tells.specs.Parts.{ring_of, plan_of, IsSound, Answers, Stays, Follows}
-use Rattle.store_tells.proofs.StoreInWorld.{holds}
+use Rattle.store_parts.specs.declared.parts.Parts.{Parts}
+use Rattle.store_parts.specs.Parts.{ring_of, plan_of, IsSound, Answers, Stays, Follows}
+use Rattle.store_parts.proofs.StoreInWorld.{holds}
 use Rattle.ring_core.specs.Numbers.{HasNumber}
 
 -- it is sound still

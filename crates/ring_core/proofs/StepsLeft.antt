@@ -3,9 +3,9 @@ use Rattle.std.proofs.Common.{◌≡◌, ◌∙◌, ℕ, zero, suc, ◌+◌, Boo
 use Rattle.std.proofs.lemmas.List.Recursion.{is_count_by}
 use Rattle.plan_text.specs.declared.step.Planned.{Planned}
 use Rattle.plan_runs.specs.World.{World, passing_from, passing_below}
-use Rattle.store_tables.specs.declared.steps.StepNow.{StepNow}
-use Rattle.store_tables.specs.Steps.{steps_left, is_done_at}
-use Rattle.store_tells.specs.Steps.{StepsMeet}
+use Rattle.store_parts.specs.declared.steps.StepNow.{StepNow}
+use Rattle.store_parts.specs.Steps.{steps_left, is_done_at}
+use Rattle.store_parts.specs.StepsMeet.{StepsMeet}
 use Rattle.ring_core.specs.Tables.{left_of}
 
 -- how many of these are not done

@@ -6,8 +6,8 @@ use Rattle.ring_table.specs.declared.allowance.Side.{Side}
 use Rattle.ring_table.specs.Value.{allowance_of}
 use Rattle.plan_check.specs.Safe.{open_copies, takes_part_now}
 use Rattle.plan_runs.specs.World.{World as TheWorld, passing_below}
-use Rattle.store_tells.specs.Parts.{kept_of}
-use Rattle.store_tells.proofs.StoreInWorld.{holds}
+use Rattle.store_parts.specs.Parts.{kept_of}
+use Rattle.store_parts.proofs.StoreInWorld.{holds}
 use Rattle.ring_core.specs.declared.world.World.{World}
 use Rattle.ring_core.specs.Transfers.{is_open_kept}
 use Rattle.ring_core.specs.World.{ring_of, plan_of, Meets}

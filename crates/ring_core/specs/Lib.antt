@@ -7,4 +7,4 @@ pub mod Promises
 pub mod Faults
 pub mod Replays
 pub mod Resting
-pub use Rattle.store_tells.specs.Parts
+pub use Rattle.store_parts.specs.Parts

@@ -4,7 +4,7 @@ use Rattle.plan_runs.specs.declared.event.Event.{Event}
 use Rattle.plan_runs.specs.declared.event.Event.TheVariants.{ChunkCopy, StartPut, Write, Hint, StartGet, Read, EndGet, Handoff}
 use Rattle.plan_runs.specs.declared.event.Reply.{Reply}
 use Rattle.plan_runs.specs.declared.event.Reply.TheVariants.{Found, Answer}
-use Rattle.store_tells.specs.declared.parts.Parts.{Parts}
+use Rattle.store_parts.specs.declared.parts.Parts.{Parts}
 
 -- a put or get that starts has a number below 4,294,967,295
 abbrev pub HasNumber : Parts → Event → Type 0

@@ -5,11 +5,11 @@ use Rattle.plan_text.specs.declared.step.Planned.{Planned}
 use Rattle.plan_runs.specs.World.{World as TheWorld}
 use Rattle.ring_store.specs.Stores.{held_at}
 use Rattle.ring_hints.specs.Hints.{hinted_at}
-use Rattle.store_tables.specs.Lasts.{last_of}
-use Rattle.store_tells.specs.Kept.{Kept, Tells}
-use Rattle.store_tells.specs.Numbers.{by_keys}
-use Rattle.store_tells.specs.Parts.{AreSized}
-use Rattle.store_tells.specs.declared.parts.Parts.{Parts}
+use Rattle.store_parts.specs.Lasts.{last_of}
+use Rattle.store_parts.specs.Kept.{Kept, Tells}
+use Rattle.store_parts.specs.Numbers.{by_keys}
+use Rattle.store_parts.specs.Parts.{AreSized}
+use Rattle.store_parts.specs.declared.parts.Parts.{Parts}
 use Rattle.ring_core.specs.declared.resting.Rest.{Rest}
 use Rattle.ring_core.specs.declared.world.World.{World}
 use Rattle.ring_core.specs.World.{ring_of, plan_of, put_count, get_count, Meets}

@@ -6,11 +6,11 @@ use Rattle.ring_table.specs.Value.{RingValue}
 use Rattle.plan_text.specs.declared.step.Planned.{Planned}
 use Rattle.plan_text.specs.Steps.{steps_of}
 use Rattle.plan_stage.specs.Stage.{stage}
-use Rattle.store_tables.specs.declared.steps.StepNow.{StepNow}
-use Rattle.store_tables.specs.Slots.{slot_now}
-use Rattle.store_tables.specs.Steps.{is_done_at, is_open_at}
-use Rattle.store_tells.specs.GuardsKept.{is_ready_kept}
-use Rattle.store_tells.specs.Kept.{Kept}
+use Rattle.store_parts.specs.declared.steps.StepNow.{StepNow}
+use Rattle.store_parts.specs.Slots.{slot_now}
+use Rattle.store_parts.specs.Steps.{is_done_at, is_open_at}
+use Rattle.store_parts.specs.GuardsKept.{is_ready_kept}
+use Rattle.store_parts.specs.Kept.{Kept}
 use Rattle.plan_runs.specs.Guards.{is_ready}
 use Rattle.plan_runs.specs.World.{World, passing_below, stage_now, slot_at}
 

@@ -8,10 +8,10 @@ use Rattle.plan_text.specs.declared.step.Source.{Source}
 use Rattle.plan_text.specs.declared.step.Planned.{Planned}
 use Rattle.plan_stage.specs.Parties.{source_slots}
 use Rattle.plan_runs.specs.World.{copy_at}
-use Rattle.store_tables.specs.declared.slots.SlotNow.{SlotNow}
-use Rattle.store_tables.specs.declared.steps.StepNow.{StepNow}
-use Rattle.store_tables.specs.Slots.{slot_now}
-use Rattle.store_tables.specs.Steps.{is_open_at}
+use Rattle.store_parts.specs.declared.slots.SlotNow.{SlotNow}
+use Rattle.store_parts.specs.declared.steps.StepNow.{StepNow}
+use Rattle.store_parts.specs.Slots.{slot_now}
+use Rattle.store_parts.specs.Steps.{is_open_at}
 
 -- the node owns the slot
 abbrev pub owns_kept : List (List SlotNow) → ℕ → Slot → Bool

@@ -9,8 +9,8 @@ use Rattle.plan_runs.specs.Answers.{answer}
 use Rattle.plan_runs.specs.World.{World as TheWorld}
 use Rattle.ring_clock.specs.declared.entry.Entry.{Entry}
 use Rattle.ring_core.specs.declared.world.World.{World}
-use Rattle.store_tells.specs.Puts.{clock_at}
-use Rattle.store_tells.specs.Parts as parts
+use Rattle.store_parts.specs.PutsMeet.{clock_at}
+use Rattle.store_parts.specs.Parts as parts
 use Rattle.ring_core.specs.Numbers as numbers
 
 -- the ring and the plan that the store follows

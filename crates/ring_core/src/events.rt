@@ -2,7 +2,7 @@
 
 ghost use Rattle.std.specs.Prelude.{◌≡◌, false, IfOk, IfErr, OnErr};
 ghost use Rattle.ring_names.specs.declared.refusal.Refusal.TheVariants.{OutOfMemory};
-ghost use Rattle.store_tells.specs.Parts.{IsSound, Tests, Passes, Answers, Stays, Follows};
+ghost use Rattle.store_parts.specs.Parts.{IsSound, Tests, Passes, Answers, Stays, Follows};
 ghost use Rattle.ring_core.specs.Numbers.{HasNumber, may_need_memory, lists_puts};
 
 use plan_runs::{Event, Reply};
@@ -16,7 +16,7 @@ use store_events::{
     do_step, down, down_refusal, handoff, handoff_refusal, hint, hint_refusal, lose, lose_refusal,
     open_copy, open_refusal, up, up_refusal, write, write_refusal,
 };
-use store_tells::Parts;
+use store_parts::Parts;
 
 /// Returns the event's refusal now.
 #[inline(always)]

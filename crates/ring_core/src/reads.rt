@@ -16,7 +16,7 @@ impl<'a> World<'a> {
     ghost use Rattle.plan_runs.specs.Versions.{put_slot, is_held};
     ghost use Rattle.plan_runs.specs.World.{World as TheWorld, is_acked, is_member_now, key_of_put, stage_now, keeps, slot_at};
     ghost use Rattle.ring_hints.specs.Hints.{hinted_at, kept_count, kept_pairs};
-    ghost use Rattle.store_tells.specs.Parts.{kept_of};
+    ghost use Rattle.store_parts.specs.Parts.{kept_of};
     ghost use Rattle.ring_versions.specs.Versions.{Covers};
     ghost use Rattle.ring_store.specs.Stores.{held_at};
     ghost use Rattle.ring_core.specs.Tables.{values_below, owner_kept, owners_now, owners_last, AllDone, left_of};

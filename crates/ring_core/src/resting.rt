@@ -4,8 +4,7 @@ use plan_check::Approved;
 use ring_hints::Hints;
 use ring_store::Stores;
 use std::alloc::Global;
-use store_tables::{Gets, Keys, Lasts, Nodes, Puts, Slots, Steps};
-use store_tells::Parts;
+use store_parts::{Gets, Keys, Lasts, Nodes, Parts, Puts, Slots, Steps};
 
 /// A store at rest. It borrows nothing, and `World::resume` makes a store of it.
 pub struct Rest {

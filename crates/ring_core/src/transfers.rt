@@ -84,7 +84,7 @@ impl<'a> World<'a> {
         }
     }
 
-    #[tactic(auto, using(store_tables::proofs::Counting::count_next, store_tables::proofs::Counting::count_most))]
+    #[tactic(auto, using(store_parts::proofs::Counting::count_next, store_parts::proofs::Counting::count_most))]
     fn transfers(&self, node: NodeId, side: Side) -> u32
         ensures { result ≡ length (passing_below (length (plan_of self.now))
             (is_open_kept (plan_of self.now) self.now.parts.steps self.now.parts.slots node.0 side)) }

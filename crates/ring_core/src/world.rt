@@ -1,7 +1,7 @@
 //! A running store.
 
 ghost use Rattle.std.specs.Prelude.{◌≤◌, length};
-ghost use Rattle.store_tells.specs.Parts.{IsSound};
+ghost use Rattle.store_parts.specs.Parts.{IsSound};
 
 use crate::events::{happen, happen_with_copy, refusal};
 use crate::resting::Rest;
@@ -9,7 +9,7 @@ use plan_check::Approved;
 use plan_runs::{Event, Reply};
 use ring_names::Refusal;
 use std::alloc::Global;
-use store_tells::Parts;
+use store_parts::Parts;
 
 /// A store of all nodes of a ring in one process, which follows an approved plan.
 pub struct World<'a> {

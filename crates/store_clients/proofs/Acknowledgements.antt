@@ -21,19 +21,19 @@ use Rattle.plan_runs.specs.Effects.{changed, effect}
 use Rattle.plan_runs.specs.Answers.{answer}
 use Rattle.plan_runs.proofs.Answered.{allowed}
 use Rattle.plan_runs.proofs.Changed.{part_changed}
-use Rattle.store_tells.specs.Stored.{ShowAll}
-use Rattle.store_tables.specs.declared.puts.PutNow.{PutNow}
-use Rattle.store_tables.specs.declared.slots.SlotNow.{SlotNow}
-use Rattle.store_tables.specs.Puts.{ticket_at}
-use Rattle.store_tells.specs.Gets.{GetsMeet}
-use Rattle.store_tells.specs.Puts.{clock_in, clock_at, PutMeets}
-use Rattle.store_tells.specs.PutsTests.{is_acked_at, is_current_at, current_count}
-use Rattle.store_tells.proofs.GetsFrames.{gets_stay}
-use Rattle.store_tells.proofs.GetsGuards.{ack_tested}
-use Rattle.store_tells.proofs.PutsChanges.{puts_acked}
-use Rattle.store_tells.proofs.PutsTests.{both_puts, same_passing}
-use Rattle.store_tells.specs.Kept.{Kept, Tells}
-use Rattle.store_tells.proofs.StoreInWorld.{reached_of, slot_there}
+use Rattle.store_parts.specs.Stored.{ShowAll}
+use Rattle.store_parts.specs.declared.puts.PutNow.{PutNow}
+use Rattle.store_parts.specs.declared.slots.SlotNow.{SlotNow}
+use Rattle.store_parts.specs.Puts.{ticket_at}
+use Rattle.store_parts.specs.GetsMeet.{GetsMeet}
+use Rattle.store_parts.specs.PutsMeet.{clock_in, clock_at, PutMeets}
+use Rattle.store_parts.specs.PutsTests.{is_acked_at, is_current_at, current_count}
+use Rattle.store_parts.proofs.GetsFrames.{gets_stay}
+use Rattle.store_parts.proofs.GetsGuards.{ack_tested}
+use Rattle.store_parts.proofs.PutsChanges.{puts_acked}
+use Rattle.store_parts.proofs.PutsTests.{both_puts, same_passing}
+use Rattle.store_parts.specs.Kept.{Kept, Tells}
+use Rattle.store_parts.proofs.StoreInWorld.{reached_of, slot_there}
 use Rattle.store_clients.specs.Acks.{generation_in, is_current_in}
 use Rattle.store_clients.proofs.TellsOnClients.{stored_on, hinted_on, tells_next}
 use Rattle.store_clients.proofs.NumberTests.{is_less, none_there}

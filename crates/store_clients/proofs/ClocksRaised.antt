@@ -9,7 +9,7 @@ use Rattle.ring_clock.specs.Clock.{counter, IsAtMost}
 use Rattle.ring_clock.proofs.Causing.{has_first, has_later}
 use Rattle.ring_versions.specs.declared.version.Version.{Version}
 use Rattle.ring_versions.specs.Versions.{IsIn}
-use Rattle.store_tells.specs.Found.{IsJoinOfFound}
+use Rattle.store_parts.specs.Found.{IsJoinOfFound}
 use Rattle.ring_versions.specs.Raised.{RaisesTo, IsClockIn}
 use Rattle.store_clients.specs.Clocks.{IsFoundClock}
 

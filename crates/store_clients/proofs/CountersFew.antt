@@ -15,15 +15,15 @@ use Rattle.plan_runs.specs.World.{World, key_of_put, writer_of, seen_of}
 use Rattle.plan_runs.specs.Succession.{is_direct, some_replied}
 use Rattle.plan_runs.specs.Effects.{has_found}
 use Rattle.plan_runs.proofs.Passing.{some_found}
-use Rattle.store_tells.specs.Clocks.{AreClocksOf}
-use Rattle.store_tells.specs.Found.{IsJoinOfFound}
-use Rattle.store_tables.specs.declared.gets.GetNow.{GetNow}
-use Rattle.store_tables.specs.declared.puts.PutNow.{PutNow}
-use Rattle.store_tells.specs.Gets.{found_at}
-use Rattle.store_tells.specs.Puts.{clock_in, clock_at}
-use Rattle.store_tells.proofs.GetsChanges.{kept_get}
-use Rattle.store_tells.specs.Kept.{Kept, Tells}
-use Rattle.store_tells.proofs.StoreInWorld.{reached_of}
+use Rattle.store_parts.specs.Clocks.{AreClocksOf}
+use Rattle.store_parts.specs.Found.{IsJoinOfFound}
+use Rattle.store_parts.specs.declared.gets.GetNow.{GetNow}
+use Rattle.store_parts.specs.declared.puts.PutNow.{PutNow}
+use Rattle.store_parts.specs.GetsMeet.{found_at}
+use Rattle.store_parts.specs.PutsMeet.{clock_in, clock_at}
+use Rattle.store_parts.proofs.GetsChanges.{kept_get}
+use Rattle.store_parts.specs.Kept.{Kept, Tells}
+use Rattle.store_parts.proofs.StoreInWorld.{reached_of}
 
 -- a direct predecessor comes before
 direct_before : (w : World) (u v : ℕ) → is_direct w u v ≡ true → v < u

@@ -8,7 +8,7 @@ use Rattle.ring_versions.specs.declared.version.Version.{Version}
 use Rattle.plan_stage.specs.Clauses.{first_failing}
 use Rattle.plan_runs.specs.Guards.{nodes_up}
 use Rattle.store_clients.specs.Keepers.{IsFirstDown}
-use Rattle.store_tells.proofs.LeastDown.{keepers_refused}
+use Rattle.store_parts.proofs.LeastDown.{keepers_refused}
 
 -- the first node that is down and has versions is the first of those that pass, where these have versions
 pub first_down_is : (up test : ℕ → Bool) (held : ℕ → List Version) (n : ℕ) (o : Option Refusal) → ((x : ℕ) → (test x ≡ false) ↔ (held x ≡ []))

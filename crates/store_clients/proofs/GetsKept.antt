@@ -11,12 +11,12 @@ use Rattle.plan_runs.specs.declared.event.Reply.TheVariants as reply
 use Rattle.plan_runs.specs.World.{World}
 use Rattle.plan_runs.specs.Effects.{changed}
 use Rattle.plan_runs.specs.Answers.{answer}
-use Rattle.store_tables.specs.declared.gets.GetNow.{GetNow}
-use Rattle.store_tables.specs.Marks.{with_mark}
-use Rattle.store_tells.specs.declared.parts.Parts.{Parts}
-use Rattle.store_tells.specs.Kept.{Tells}
-use Rattle.store_tells.specs.Parts.{ring_of, plan_of, kept_of, Meets, IsSound, Passes}
-use Rattle.store_tells.proofs.StoreInWorld.{holds}
+use Rattle.store_parts.specs.declared.gets.GetNow.{GetNow}
+use Rattle.store_parts.specs.Marks.{with_mark}
+use Rattle.store_parts.specs.declared.parts.Parts.{Parts}
+use Rattle.store_parts.specs.Kept.{Tells}
+use Rattle.store_parts.specs.Parts.{ring_of, plan_of, kept_of, Meets, IsSound, Passes}
+use Rattle.store_parts.proofs.StoreInWorld.{holds}
 use Rattle.store_clients.specs.Looks.{FindsAt}
 use Rattle.store_clients.proofs.GetsStartEnd.{ends_there, ended_on}
 use Rattle.store_clients.proofs.SlotHasOfKey.{reads_there}

@@ -15,14 +15,14 @@ use Rattle.plan_runs.specs.Effects.{changed, effect}
 use Rattle.plan_runs.specs.Answers.{answer, reply_to}
 use Rattle.plan_runs.proofs.Answered.{allowed}
 use Rattle.plan_runs.proofs.Passed.{all_met}
-use Rattle.store_tables.specs.declared.gets.GetNow.{GetNow}
-use Rattle.store_tables.specs.Gets.{is_read}
-use Rattle.store_tells.specs.Puts.{clock_at}
-use Rattle.store_tells.proofs.GetsChanges.{gets_started, gets_answered, gets_ended}
-use Rattle.store_tells.proofs.GetsGuards.{end_get_tested}
-use Rattle.store_tells.proofs.PutsFrames.{puts_stay}
-use Rattle.store_tells.specs.Kept.{Kept, Tells}
-use Rattle.store_tells.proofs.StoreInWorld.{reached_of}
+use Rattle.store_parts.specs.declared.gets.GetNow.{GetNow}
+use Rattle.store_parts.specs.Gets.{is_read}
+use Rattle.store_parts.specs.PutsMeet.{clock_at}
+use Rattle.store_parts.proofs.GetsChanges.{gets_started, gets_answered, gets_ended}
+use Rattle.store_parts.proofs.GetsGuards.{end_get_tested}
+use Rattle.store_parts.proofs.PutsFrames.{puts_stay}
+use Rattle.store_parts.specs.Kept.{Kept, Tells}
+use Rattle.store_parts.proofs.StoreInWorld.{reached_of}
 use Rattle.store_clients.specs.Gets.{end_guards_kept}
 use Rattle.store_clients.proofs.TellsOnClients.{stored_on, hinted_on, tells_next}
 

@@ -15,15 +15,15 @@ use Rattle.ring_store.specs.declared.stores.Stores.{Stores}
 use Rattle.ring_hints.specs.Hints.{hinted_at}
 use Rattle.ring_hints.specs.declared.hints.Hints.{Hints}
 use Rattle.store_maps.specs.declared.key_id.KeyId.{KeyId}
-use Rattle.store_tables.specs.KeyTable.{KeyTable}
-use Rattle.store_tells.specs.declared.parts.Parts.{Parts}
-use Rattle.store_tells.specs.Kept.{Kept, Tells}
-use Rattle.store_tells.specs.Numbers.{by_keys, ArePlaced}
-use Rattle.store_tells.specs.Parts.{Meets, IsSized, IsSound, ring_of, plan_of, kept_of}
-use Rattle.store_tells.specs.Puts.{AreNumbered}
-use Rattle.store_tells.proofs.Numbers.{held_still, placed_still}
-use Rattle.store_tells.proofs.PutsKeys.{numbered_named}
-use Rattle.store_tells.proofs.TellsStill.{key_named}
+use Rattle.store_parts.specs.KeyTable.{KeyTable}
+use Rattle.store_parts.specs.declared.parts.Parts.{Parts}
+use Rattle.store_parts.specs.Kept.{Kept, Tells}
+use Rattle.store_parts.specs.Numbers.{by_keys, ArePlaced}
+use Rattle.store_parts.specs.Parts.{Meets, IsSized, IsSound, ring_of, plan_of, kept_of}
+use Rattle.store_parts.specs.PutsMeet.{AreNumbered}
+use Rattle.store_parts.proofs.Numbers.{held_still, placed_still}
+use Rattle.store_parts.proofs.PutsKeys.{numbered_named}
+use Rattle.store_parts.proofs.TellsStill.{key_named}
 
 -- a key that was numbered lies in the space
 pub lies_in : (old new : KeyTable) (key : List ℕ) (n : ℕ) (at : Place) → new ≡ record old { keys = with_name old.keys key } → place new.keys key ≡ Some n

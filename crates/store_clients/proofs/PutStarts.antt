@@ -19,15 +19,15 @@ use Rattle.plan_runs.specs.Guards.{guards, has_ended}
 use Rattle.plan_runs.specs.Effects.{effect}
 use Rattle.plan_runs.specs.Answers.{answer, reply_to}
 use Rattle.plan_runs.proofs.Answered.{allowed}
-use Rattle.store_tells.specs.Clocks.{IsInputOf}
+use Rattle.store_parts.specs.Clocks.{IsInputOf}
 use Rattle.ring_clock.specs.Built.{IsNext}
-use Rattle.store_tables.specs.declared.puts.PutNow.{PutNow}
-use Rattle.store_tells.specs.Puts.{clock_at}
-use Rattle.store_tells.proofs.GetsGuards.{start_put_tested}
-use Rattle.store_tells.proofs.GetsTests.{none_of_key}
-use Rattle.store_tells.proofs.PutsStarts.{inputs_join, none_behind_set, puts_started, put_numbered, gets_with_put, stored_with_put}
-use Rattle.store_tells.specs.Kept.{Kept, Tells}
-use Rattle.store_tells.proofs.StoreInWorld.{reached_of}
+use Rattle.store_parts.specs.declared.puts.PutNow.{PutNow}
+use Rattle.store_parts.specs.PutsMeet.{clock_at}
+use Rattle.store_parts.proofs.GetsGuards.{start_put_tested}
+use Rattle.store_parts.proofs.GetsTests.{none_of_key}
+use Rattle.store_parts.proofs.PutsStarts.{inputs_join, none_behind_set, puts_started, put_numbered, gets_with_put, stored_with_put}
+use Rattle.store_parts.specs.Kept.{Kept, Tells}
+use Rattle.store_parts.proofs.StoreInWorld.{reached_of}
 use Rattle.store_clients.specs.Puts.{IsNewPut, seen_guards_kept}
 use Rattle.store_clients.proofs.TellsOnClients.{stored_too, hinted_too, tells_next}
 

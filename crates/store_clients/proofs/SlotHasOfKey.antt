@@ -20,25 +20,25 @@ use Rattle.plan_runs.specs.Versions.{get_slot, some_hinted, slot_has}
 use Rattle.plan_runs.specs.Guards.{guards}
 use Rattle.plan_runs.proofs.Passed.{all_met}
 use Rattle.plan_runs.proofs.Passing.{some_found, some_is}
-use Rattle.store_tells.specs.Shows.{Shows, value_of}
-use Rattle.store_tells.specs.GetsFind.{can_find}
-use Rattle.store_tells.proofs.ShownSets.{with_none}
+use Rattle.store_parts.specs.Shows.{Shows, value_of}
+use Rattle.store_parts.specs.GetsFind.{can_find}
+use Rattle.store_parts.proofs.ShownSets.{with_none}
 use Rattle.store_maps.specs.Ids.{id}
 use Rattle.store_maps.specs.declared.key_id.KeyId.{KeyId}
-use Rattle.store_tables.specs.KeyTable.{KeyTable, chunk_of}
-use Rattle.store_tells.specs.Numbers.{by_bytes, by_keys}
-use Rattle.store_tells.specs.Puts.{AreNumbered}
-use Rattle.store_tells.proofs.Numbers.{held_named, others_named}
-use Rattle.store_tables.specs.declared.gets.GetNow.{GetNow}
-use Rattle.store_tables.specs.declared.slots.SlotNow.{SlotNow}
-use Rattle.store_tables.specs.Slots.{slot_now}
-use Rattle.store_tells.specs.Puts.{clock_at}
-use Rattle.store_tells.proofs.GetsChanges.{kept_get}
-use Rattle.store_tells.specs.Kept.{Kept, Tells}
-use Rattle.store_tells.proofs.StoreInWorld.{slot_there}
+use Rattle.store_parts.specs.KeyTable.{KeyTable, chunk_of}
+use Rattle.store_parts.specs.Numbers.{by_bytes, by_keys}
+use Rattle.store_parts.specs.PutsMeet.{AreNumbered}
+use Rattle.store_parts.proofs.Numbers.{held_named, others_named}
+use Rattle.store_parts.specs.declared.gets.GetNow.{GetNow}
+use Rattle.store_parts.specs.declared.slots.SlotNow.{SlotNow}
+use Rattle.store_parts.specs.Slots.{slot_now}
+use Rattle.store_parts.specs.PutsMeet.{clock_at}
+use Rattle.store_parts.proofs.GetsChanges.{kept_get}
+use Rattle.store_parts.specs.Kept.{Kept, Tells}
+use Rattle.store_parts.proofs.StoreInWorld.{slot_there}
 use Rattle.store_clients.specs.Keepers.{MergesOthers}
 use Rattle.store_clients.specs.Looks.{owned_at}
-use Rattle.store_tells.proofs.KeepersDeclared.{keeper_within}
+use Rattle.store_parts.proofs.KeepersDeclared.{keeper_within}
 use Rattle.store_clients.proofs.NumberTests.{is_less}
 
 module _ (ring : RingValue) (plan : List Planned) (k : Kept) (w : World) (m : Tells ring plan k w) where

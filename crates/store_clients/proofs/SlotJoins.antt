@@ -12,13 +12,13 @@ use Rattle.ring_versions.specs.declared.version.Version.{Version}
 use Rattle.ring_versions.specs.Versions.{IsIn, Covers, IsApart, IsMerge}
 use Rattle.plan_text.specs.declared.step.Planned.{Planned}
 use Rattle.plan_runs.specs.World.{World, key_of_put, writer_of, is_of_key}
-use Rattle.store_tables.specs.declared.slots.SlotNow.{SlotNow}
-use Rattle.store_tables.specs.Slots.{slot_now}
-use Rattle.store_tells.specs.Kept.{Kept, Tells}
-use Rattle.store_tells.specs.Puts.{clock_at}
-use Rattle.store_tells.specs.Shows.{Shows, ArePutsOf, value_of}
-use Rattle.store_tells.proofs.ClocksOrder.{facts, own_tells}
-use Rattle.store_tells.proofs.StoreInWorld.{reached_of}
+use Rattle.store_parts.specs.declared.slots.SlotNow.{SlotNow}
+use Rattle.store_parts.specs.Slots.{slot_now}
+use Rattle.store_parts.specs.Kept.{Kept, Tells}
+use Rattle.store_parts.specs.PutsMeet.{clock_at}
+use Rattle.store_parts.specs.Shows.{Shows, ArePutsOf, value_of}
+use Rattle.store_parts.proofs.ClocksOrder.{facts, own_tells}
+use Rattle.store_parts.proofs.StoreInWorld.{reached_of}
 use Rattle.store_clients.specs.Keepers.{IsAmong, JoinsTell, JoinIsAtMost}
 use Rattle.store_clients.specs.Looks.{owned_at}
 

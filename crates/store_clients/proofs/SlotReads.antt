@@ -24,26 +24,26 @@ use Rattle.plan_runs.specs.Effects.{changed, effect}
 use Rattle.plan_runs.specs.Answers.{answer, reply_to}
 use Rattle.plan_runs.proofs.Answered.{allowed}
 use Rattle.plan_runs.proofs.Passing.{some_found}
-use Rattle.store_tells.specs.Shows.{value_of}
-use Rattle.store_tells.proofs.GetsFound.{read_reply}
-use Rattle.store_tables.specs.declared.gets.GetNow.{GetNow}
-use Rattle.store_tables.specs.declared.slots.SlotNow.{SlotNow}
-use Rattle.store_tables.specs.Gets.{is_read, is_read_at}
-use Rattle.store_tables.specs.Marks.{with_mark}
-use Rattle.store_tables.specs.Nodes.{is_up_at}
-use Rattle.store_tables.specs.Slots.{slot_now}
-use Rattle.store_tells.specs.GetsTests.{has_get, has_ended_at}
-use Rattle.store_tells.specs.Puts.{clock_at}
-use Rattle.store_tells.proofs.GetsChanges.{gets_read}
-use Rattle.store_tells.proofs.GetsGuards.{read_tested}
-use Rattle.store_tells.proofs.PutsFrames.{puts_stay}
-use Rattle.store_tells.specs.Kept.{Kept, Tells}
-use Rattle.store_tells.proofs.WhoKeepsHints.{keeps_key}
-use Rattle.store_tells.proofs.StoreInWorld.{reached_of, slot_there}
+use Rattle.store_parts.specs.Shows.{value_of}
+use Rattle.store_parts.proofs.GetsFound.{read_reply}
+use Rattle.store_parts.specs.declared.gets.GetNow.{GetNow}
+use Rattle.store_parts.specs.declared.slots.SlotNow.{SlotNow}
+use Rattle.store_parts.specs.Gets.{is_read, is_read_at}
+use Rattle.store_parts.specs.Marks.{with_mark}
+use Rattle.store_parts.specs.Nodes.{is_up_at}
+use Rattle.store_parts.specs.Slots.{slot_now}
+use Rattle.store_parts.specs.GetsTests.{has_get, has_ended_at}
+use Rattle.store_parts.specs.PutsMeet.{clock_at}
+use Rattle.store_parts.proofs.GetsChanges.{gets_read}
+use Rattle.store_parts.proofs.GetsGuards.{read_tested}
+use Rattle.store_parts.proofs.PutsFrames.{puts_stay}
+use Rattle.store_parts.specs.Kept.{Kept, Tells}
+use Rattle.store_parts.proofs.WhoKeepsHints.{keeps_key}
+use Rattle.store_parts.proofs.StoreInWorld.{reached_of, slot_there}
 use Rattle.store_clients.specs.Keepers.{IsFirstDown}
 use Rattle.store_clients.specs.Looks.{FindsAt}
 use Rattle.store_clients.specs.Reads.{StopsRead}
-use Rattle.store_tells.proofs.KeepersDeclared.{keeper_within}
+use Rattle.store_parts.proofs.KeepersDeclared.{keeper_within}
 use Rattle.store_clients.proofs.FirstDown.{first_down_is}
 use Rattle.store_clients.proofs.TellsOnClients.{stored_on, hinted_on, tells_next}
 use Rattle.store_clients.proofs.SlotHasOfKey.{get_key_is}

@@ -13,27 +13,27 @@ use Rattle.plan_runs.specs.Answers.{answer}
 use Rattle.plan_runs.specs.Reached.{Reached}
 use Rattle.plan_runs.proofs.Answered.{answered}
 use Rattle.ring_clock.specs.declared.entry.Entry.{Entry}
-use Rattle.store_tells.specs.Stored.{ShowAll}
-use Rattle.store_tells.proofs.StoredLasts.{all_stay}
-use Rattle.store_tables.specs.declared.gets.GetNow.{GetNow}
-use Rattle.store_tables.specs.declared.puts.PutNow.{PutNow}
-use Rattle.store_tells.specs.Gets.{GetsMeet}
-use Rattle.store_tells.specs.NodesTold.{NodesTell, leaves_nodes}
-use Rattle.store_tells.specs.Puts.{PutsMeet, clock_at, AreNumbered, NoneBehind}
-use Rattle.store_tells.specs.Slots.{SlotsMeet}
-use Rattle.store_tells.specs.SlotsLost.{LossesFit}
-use Rattle.store_tells.specs.SlotsStepped.{leaves_slots}
-use Rattle.store_tells.specs.Steps.{StepsMeet}
+use Rattle.store_parts.specs.Stored.{ShowAll}
+use Rattle.store_parts.proofs.StoredLasts.{all_stay}
+use Rattle.store_parts.specs.declared.gets.GetNow.{GetNow}
+use Rattle.store_parts.specs.declared.puts.PutNow.{PutNow}
+use Rattle.store_parts.specs.GetsMeet.{GetsMeet}
+use Rattle.store_parts.specs.NodesTold.{NodesTell, leaves_nodes}
+use Rattle.store_parts.specs.PutsMeet.{PutsMeet, clock_at, AreNumbered, NoneBehind}
+use Rattle.store_parts.specs.SlotsMeet.{SlotsMeet}
+use Rattle.store_parts.specs.SlotsLost.{LossesFit}
+use Rattle.store_parts.specs.SlotsStepped.{leaves_slots}
+use Rattle.store_parts.specs.StepsMeet.{StepsMeet}
 use Rattle.plan_runs.specs.Leaves.{leaves_steps}
-use Rattle.store_tells.proofs.GetsTests.{reads_stay}
-use Rattle.store_tells.proofs.NodesNow.{nodes_stay}
-use Rattle.store_tells.proofs.SlotsFit.{losses_stay}
-use Rattle.store_tells.proofs.SlotsNow.{slots_stay}
-use Rattle.store_tells.proofs.StepsNow.{steps_stay}
-use Rattle.store_tells.specs.HintsFit.{KeysFit}
-use Rattle.store_tells.specs.Kept.{Kept, Tells}
-use Rattle.store_tells.proofs.HintsFit.{hints_stay}
-use Rattle.store_tells.proofs.StoreInWorld.{reached_of, run_on}
+use Rattle.store_parts.proofs.GetsTests.{reads_stay}
+use Rattle.store_parts.proofs.NodesNow.{nodes_stay}
+use Rattle.store_parts.proofs.SlotsFit.{losses_stay}
+use Rattle.store_parts.proofs.SlotsNow.{slots_stay}
+use Rattle.store_parts.proofs.StepsNow.{steps_stay}
+use Rattle.store_parts.specs.HintsFit.{KeysFit}
+use Rattle.store_parts.specs.Kept.{Kept, Tells}
+use Rattle.store_parts.proofs.HintsFit.{hints_stay}
+use Rattle.store_parts.proofs.StoreInWorld.{reached_of, run_on}
 
 -- whether the event is one of a client that writes no version
 abbrev pub is_of_client : Event → Bool

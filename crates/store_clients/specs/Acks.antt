@@ -2,10 +2,10 @@
 use Rattle.std.specs.Prelude.{ℕ, Bool, false, ◌==◌, List, Some, None}
 use Rattle.ring_names.specs.declared.ids.Slot.{Slot}
 use Rattle.plan_runs.specs.World.{slot_at}
-use Rattle.store_tables.specs.declared.puts.PutNow.{PutNow}
-use Rattle.store_tables.specs.declared.slots.SlotNow.{SlotNow}
-use Rattle.store_tables.specs.Puts.{ticket_at}
-use Rattle.store_tables.specs.Slots.{slot_now}
+use Rattle.store_parts.specs.declared.puts.PutNow.{PutNow}
+use Rattle.store_parts.specs.declared.slots.SlotNow.{SlotNow}
+use Rattle.store_parts.specs.Puts.{ticket_at}
+use Rattle.store_parts.specs.Slots.{slot_now}
 
 -- the generation of the slot, 0 where the ring does not have it
 abbrev pub generation_in : List (List SlotNow) → Slot → ℕ

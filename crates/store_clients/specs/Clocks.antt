@@ -5,7 +5,7 @@ use Rattle.ring_clock.specs.declared.entry.Entry.{Entry}
 use Rattle.ring_clock.specs.Built.{Bumps}
 use Rattle.ring_versions.specs.declared.version.Version.{Version}
 use Rattle.ring_versions.specs.Versions.{IsIn}
-use Rattle.store_tells.specs.Found.{IsJoinOfFound}
+use Rattle.store_parts.specs.Found.{IsJoinOfFound}
 
 -- it is the clock of a version that one of these gets found
 abbrev pub IsFoundClock : (ℕ → List Version) → List ℕ → List Entry → Type 0

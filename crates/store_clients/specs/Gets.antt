@@ -2,8 +2,8 @@
 use Rattle.std.specs.Prelude.{ℕ, not, nat_lt, nat_le, List, [], ◌∷◌, length}
 use Rattle.ring_names.specs.declared.refusal.Refusal.TheVariants.{UnknownNumber, AlreadyDone, TooFewSlots}
 use Rattle.plan_stage.specs.Clauses.{Guard}
-use Rattle.store_tables.specs.declared.gets.GetNow.{GetNow}
-use Rattle.store_tells.specs.GetsTests.{has_ended_at, read_count}
+use Rattle.store_parts.specs.declared.gets.GetNow.{GetNow}
+use Rattle.store_parts.specs.GetsTests.{has_ended_at, read_count}
 
 -- the get has not ended and has read so many slots
 abbrev pub end_guards_kept : List GetNow → ℕ → ℕ → List Guard

@@ -7,13 +7,13 @@ use Rattle.ring_versions.specs.Versions.{IsMerge}
 use Rattle.ring_versions.specs.Puts.{ArePuts}
 use Rattle.plan_text.specs.declared.step.Planned.{Planned}
 use Rattle.plan_runs.specs.World.{World}
-use Rattle.store_tells.specs.Shows.{Shows, value_of}
-use Rattle.store_tells.specs.GetsFind.{can_find}
-use Rattle.store_tables.specs.declared.gets.GetNow.{GetNow}
-use Rattle.store_tables.specs.declared.slots.SlotNow.{SlotNow}
-use Rattle.store_tables.specs.Slots.{slot_now}
-use Rattle.store_tells.specs.Puts.{clock_at}
-use Rattle.store_tells.specs.Kept.{Kept}
+use Rattle.store_parts.specs.Shows.{Shows, value_of}
+use Rattle.store_parts.specs.GetsFind.{can_find}
+use Rattle.store_parts.specs.declared.gets.GetNow.{GetNow}
+use Rattle.store_parts.specs.declared.slots.SlotNow.{SlotNow}
+use Rattle.store_parts.specs.Slots.{slot_now}
+use Rattle.store_parts.specs.PutsMeet.{clock_at}
+use Rattle.store_parts.specs.Kept.{Kept}
 
 -- what the owner of the slot stores of the key, nothing where the ring does not have the slot
 abbrev pub owned_at : {K : Type 0} → List (List SlotNow) → (ℕ → Slot → K → List Version) → Slot → K → List Version

@@ -4,12 +4,12 @@ use Rattle.std.specs.List.{list_all}
 use Rattle.ring_names.specs.declared.refusal.Refusal.TheVariants.{UnknownNumber, NotReady}
 use Rattle.ring_clock.specs.declared.entry.Entry.{Entry}
 use Rattle.plan_stage.specs.Clauses.{Guard}
-use Rattle.store_tables.specs.declared.gets.GetNow.{GetNow}
-use Rattle.store_tables.specs.declared.puts.PutNow.{PutNow}
-use Rattle.store_tables.specs.Puts.{ticket_at}
-use Rattle.store_tells.specs.Puts.{clock_at}
-use Rattle.store_tells.specs.Gets.{found_at}
-use Rattle.store_tells.specs.GetsTests.{is_of_number, has_ended_at}
+use Rattle.store_parts.specs.declared.gets.GetNow.{GetNow}
+use Rattle.store_parts.specs.declared.puts.PutNow.{PutNow}
+use Rattle.store_parts.specs.Puts.{ticket_at}
+use Rattle.store_parts.specs.PutsMeet.{clock_at}
+use Rattle.store_parts.specs.GetsMeet.{found_at}
+use Rattle.store_parts.specs.GetsTests.{is_of_number, has_ended_at}
 use Rattle.store_clients.specs.Clocks.{IsNextOfFound}
 
 -- the gets that are named are of the key of that number, and have ended

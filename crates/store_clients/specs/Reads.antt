@@ -4,8 +4,8 @@ use Rattle.ring_names.specs.declared.ids.Slot.{Slot}
 use Rattle.ring_names.specs.declared.refusal.Refusal.{Refusal}
 use Rattle.ring_names.specs.declared.refusal.Refusal.TheVariants.{NodeDown}
 use Rattle.ring_versions.specs.declared.version.Version.{Version}
-use Rattle.store_tables.specs.declared.slots.SlotNow.{SlotNow}
-use Rattle.store_tables.specs.Slots.{slot_now}
+use Rattle.store_parts.specs.declared.slots.SlotNow.{SlotNow}
+use Rattle.store_parts.specs.Slots.{slot_now}
 use Rattle.store_clients.specs.Keepers.{IsFirstDown}
 
 -- the refusal is that of the slot's owner, if the owner is down. Otherwise it is that of the first node that is

@@ -5,14 +5,13 @@ ghost use Rattle.ring_names.specs.declared.refusal.Refusal.TheVariants.{AlreadyD
 ghost use Rattle.plan_stage.specs.Clauses.{first_failing};
 ghost use Rattle.plan_runs.specs.declared.event.Event.TheVariants.{Ack};
 ghost use Rattle.plan_runs.specs.World.{passing_below};
-ghost use Rattle.store_tables.specs.Puts.{ticket_at};
-ghost use Rattle.store_tells.specs.Parts.{IsSound, Follows, Tests, Passes, Answers};
+ghost use Rattle.store_parts.specs.Puts.{ticket_at};
+ghost use Rattle.store_parts.specs.Parts.{IsSound, Follows, Tests, Passes, Answers};
 ghost use Rattle.store_clients.specs.Acks.{generation_in, is_current_in};
 
 use plan_runs::Reply;
 use ring_names::{Refusal, Slot};
-use store_tables::{PutNow, Slots};
-use store_tells::Parts;
+use store_parts::{Parts, PutNow, Slots};
 
 fn ticket(put: &PutNow, index: u32) -> Option<u32>
     ensures { result ≡ ticket_at put.now index }
@@ -41,7 +40,7 @@ fn is_current(slots: &Slots, put: &PutNow, partition: u32, index: u32) -> bool
     }
 }
 
-#[tactic(auto, using(store_tables::proofs::Counting::count_next, store_tables::proofs::Counting::count_most))]
+#[tactic(auto, using(store_parts::proofs::Counting::count_next, store_parts::proofs::Counting::count_most))]
 fn current_tickets(slots: &Slots, put: &PutNow, partition: u32, n: u32) -> u32
     ensures { result ≡ length (passing_below n (is_current_in slots.now put.now partition)) }
 {

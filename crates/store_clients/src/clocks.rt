@@ -4,16 +4,16 @@ ghost use Rattle.std.specs.Prelude.{◌≡◌, ◌<◌, ℕ, List, max, IfOk, If
 ghost use Rattle.ring_names.specs.declared.refusal.Refusal.TheVariants.{OutOfMemory};
 ghost use Rattle.ring_clock.specs.declared.entry.Entry.{Entry as TheEntry};
 ghost use Rattle.ring_clock.specs.Clock.{counter};
-ghost use Rattle.store_tells.specs.Found.{IsJoinOfFound};
-ghost use Rattle.store_tells.specs.Puts.{clock_at};
-ghost use Rattle.store_tells.specs.Gets.{found_at};
+ghost use Rattle.store_parts.specs.Found.{IsJoinOfFound};
+ghost use Rattle.store_parts.specs.PutsMeet.{clock_at};
+ghost use Rattle.store_parts.specs.GetsMeet.{found_at};
 ghost use Rattle.ring_versions.specs.Raised.{RaisesTo, IsClockIn};
 ghost use Rattle.store_clients.specs.Clocks.{IsFoundClock, IsNextOfFound};
 
 use ring_clock::Clock;
 use ring_names::{Refusal, WriterId};
 use std::alloc::Global;
-use store_tables::{Gets, Puts};
+use store_parts::{Gets, Puts};
 
 fn raise_to_get(clock: &mut Clock, gets: &Gets, get: u32) -> Result<(), Refusal>
     ensures ok { OnOk result (RaisesTo clock.old (IsClockIn (found_at gets.now get)) clock.new) }

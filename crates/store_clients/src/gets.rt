@@ -4,15 +4,14 @@ ghost use Rattle.std.specs.Prelude.{◌≡◌, ◌<◌, length, IfOk, IfErr, OnE
 ghost use Rattle.ring_names.specs.declared.refusal.Refusal.TheVariants.{OutOfMemory};
 ghost use Rattle.plan_stage.specs.Clauses.{first_failing};
 ghost use Rattle.plan_runs.specs.declared.event.Event.TheVariants.{StartGet, EndGet};
-ghost use Rattle.store_tells.specs.Parts.{IsSound, Follows, Tests, Passes, Answers, Stays};
+ghost use Rattle.store_parts.specs.Parts.{IsSound, Follows, Tests, Passes, Answers, Stays};
 ghost use Rattle.store_clients.specs.Gets.{end_guards_kept};
 
 use crate::keys::number_of;
 use plan_runs::{Key, Reply};
 use ring_names::{Listed, Refusal};
 use ring_versions::Found;
-use store_tables::{GetNow, Gets, Marks};
-use store_tells::Parts;
+use store_parts::{GetNow, Gets, Marks, Parts};
 
 /// Starts a get of the key.
 pub fn start_get(parts: &mut Parts, key: &Key) -> Result<Reply, Refusal>

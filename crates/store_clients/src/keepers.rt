@@ -5,7 +5,7 @@ ghost use Rattle.ring_names.specs.declared.refusal.Refusal.TheVariants.{OutOfMem
 ghost use Rattle.ring_versions.specs.Versions.{IsApart};
 ghost use Rattle.ring_hints.specs.Hints.{hinted_at};
 ghost use Rattle.ring_hints.specs.Views.{in_keepers};
-ghost use Rattle.store_tables.specs.Nodes.{is_up_at};
+ghost use Rattle.store_parts.specs.Nodes.{is_up_at};
 ghost use Rattle.store_clients.specs.Keepers.{IsFirstDown, JoinIsAtMost, JoinsTell, MergesOthers};
 
 use ring_hints::{Hints, KeptFor};
@@ -13,7 +13,7 @@ use ring_names::{NodeId, Refusal};
 use ring_store::SlotKey;
 use ring_versions::Versions;
 use std::collections::BTreeSet;
-use store_tables::Nodes;
+use store_parts::Nodes;
 
 fn first_down(
     nodes: &Nodes,

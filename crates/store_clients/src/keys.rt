@@ -6,7 +6,7 @@ ghost use Rattle.ring_names.specs.declared.refusal.Refusal.TheVariants.{OutOfMem
 ghost use Rattle.ring_space.specs.Place.{place_of};
 
 use ring_names::Refusal;
-use store_tables::Keys;
+use store_parts::Keys;
 
 /// Returns the key's number, old or new.
 pub fn number_of(keys: &mut Keys, key: &[u8]) -> Result<usize, Refusal>

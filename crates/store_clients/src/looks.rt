@@ -7,7 +7,7 @@ ghost use Rattle.ring_store.specs.Stores.{held_at};
 ghost use Rattle.ring_hints.specs.Hints.{hinted_at};
 ghost use Rattle.plan_runs.specs.World.{World};
 ghost use Rattle.plan_runs.specs.declared.event.Event.TheVariants.{Read};
-ghost use Rattle.store_tells.specs.Parts.{IsSound, Meets, Passes, kept_of, plan_of, ring_of};
+ghost use Rattle.store_parts.specs.Parts.{IsSound, Meets, Passes, kept_of, plan_of, ring_of};
 ghost use Rattle.store_clients.specs.Keepers.{JoinsTell, MergesOthers};
 ghost use Rattle.store_clients.specs.Looks.{FindsAt, owned_at};
 
@@ -15,7 +15,7 @@ use crate::keepers::merge_hints;
 use ring_names::{Listed, Refusal, Slot};
 use ring_store::SlotKey;
 use ring_versions::{Found, Versions};
-use store_tells::Parts;
+use store_parts::Parts;
 
 fn owner_versions(parts: &Parts, at: &SlotKey) -> Result<Versions, Refusal>
     ensures ok { IfOk result (IsMerge [] (owned_at parts.now.slots (held_at parts.now.stores) at.now.slot at.now.key)) }

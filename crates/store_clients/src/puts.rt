@@ -8,12 +8,12 @@ ghost use Rattle.ring_clock.specs.declared.entry.Entry.{Entry as TheEntry};
 ghost use Rattle.ring_clock.specs.Clock.{counter};
 ghost use Rattle.plan_stage.specs.Clauses.{first_failing};
 ghost use Rattle.plan_runs.specs.declared.event.Event.TheVariants.{StartPut};
-ghost use Rattle.store_tables.specs.Lasts.{last_of};
-ghost use Rattle.store_tells.specs.Found.{IsJoinOfFound};
-ghost use Rattle.store_tells.specs.Puts.{clock_at};
-ghost use Rattle.store_tells.specs.Gets.{found_at};
-ghost use Rattle.store_tells.specs.GetsTests.{is_of_number, has_ended_at};
-ghost use Rattle.store_tells.specs.Parts.{IsSound, Follows, Tests, Answers, Passes, Stays};
+ghost use Rattle.store_parts.specs.Lasts.{last_of};
+ghost use Rattle.store_parts.specs.Found.{IsJoinOfFound};
+ghost use Rattle.store_parts.specs.PutsMeet.{clock_at};
+ghost use Rattle.store_parts.specs.GetsMeet.{found_at};
+ghost use Rattle.store_parts.specs.GetsTests.{is_of_number, has_ended_at};
+ghost use Rattle.store_parts.specs.Parts.{IsSound, Follows, Tests, Answers, Passes, Stays};
 ghost use Rattle.store_clients.specs.Puts.{IsNewPut, seen_guards_kept};
 
 use crate::clocks::{Knowing, next_clock};
@@ -21,8 +21,7 @@ use crate::keys::number_of;
 use plan_runs::{Key, Reply, Seen};
 use ring_names::{Refusal, Value, WriterId};
 use ring_versions::{Version, Versions};
-use store_tables::{Gets, Lasts, PutNow, Puts};
-use store_tells::Parts;
+use store_parts::{Gets, Lasts, Parts, PutNow, Puts};
 
 fn is_of_key(gets: &Gets, key: usize, get: u32) -> bool
     ensures { result ≡ is_of_number gets.now key get }

@@ -4,8 +4,8 @@ ghost use Rattle.std.specs.Prelude.{◌≡◌, IfOk, IfErr, OnErr};
 ghost use Rattle.ring_names.specs.declared.refusal.Refusal.TheVariants.{OutOfMemory};
 ghost use Rattle.ring_hints.specs.Hints.{hinted_at};
 ghost use Rattle.plan_runs.specs.declared.event.Event.TheVariants.{Read};
-ghost use Rattle.store_tables.specs.Nodes.{is_up_at};
-ghost use Rattle.store_tells.specs.Parts.{IsSound, Follows, Tests, Passes, Answers, Stays};
+ghost use Rattle.store_parts.specs.Nodes.{is_up_at};
+ghost use Rattle.store_parts.specs.Parts.{IsSound, Follows, Tests, Passes, Answers, Stays};
 ghost use Rattle.store_clients.specs.Reads.{StopsRead};
 
 use crate::keepers::keeper_refusal;
@@ -13,7 +13,7 @@ use crate::looks::look;
 use plan_runs::Reply;
 use ring_names::{Listed, Refusal, Slot};
 use ring_store::SlotKey;
-use store_tells::Parts;
+use store_parts::Parts;
 
 // The refusal if the owner or a keeper of the key is down.
 fn down_refusal(parts: &Parts, at: &SlotKey) -> Option<Refusal>

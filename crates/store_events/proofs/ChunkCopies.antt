@@ -11,7 +11,7 @@ use Rattle.ring_space.specs.Place.{place_of}
 use Rattle.ring_table.specs.Value.{RingValue}
 use Rattle.ring_clock.specs.declared.entry.Entry.{Entry}
 use Rattle.ring_versions.specs.declared.version.Version.{Version}
-use Rattle.store_tables.specs.KeyTable.{chunk_of}
+use Rattle.store_parts.specs.KeyTable.{chunk_of}
 use Rattle.ring_names.proofs.Logic.{bool_same}
 use Rattle.ring_store.specs.Nodes.{at_node}
 use Rattle.ring_store.specs.Slots.{at_slot}
@@ -35,24 +35,24 @@ use Rattle.plan_runs.specs.Versions.{is_in_chunk, slot_has, some_hinted}
 use Rattle.plan_runs.proofs.Answered.{allowed}
 use Rattle.plan_runs.proofs.Passed.{all_met}
 use Rattle.plan_runs.proofs.Passing.{some_found}
-use Rattle.store_tables.specs.declared.slots.SlotNow.{SlotNow}
-use Rattle.store_tables.specs.declared.steps.StepNow.{StepNow}
-use Rattle.store_tables.specs.Marks.{with_mark}
-use Rattle.store_tables.specs.Slots.{slot_now}
-use Rattle.store_tables.specs.Steps.{is_marked_at}
-use Rattle.store_tells.specs.Shows.{Shows, value_of}
-use Rattle.store_tells.specs.Stored.{ShowAll, MergeAll, at_mirror, copied}
-use Rattle.store_tells.proofs.StoredGrows.{copied_more}
-use Rattle.store_tells.proofs.ShownSets.{none, other_test, with_none}
-use Rattle.store_tells.specs.Puts.{clock_at}
-use Rattle.store_tells.proofs.PutsFrames.{puts_stay}
-use Rattle.store_tells.proofs.SlotsFit.{kept_is}
-use Rattle.store_tells.proofs.StageSuits.{step_suiting}
-use Rattle.store_tells.proofs.StepsNow.{steps_mark}
-use Rattle.store_tells.specs.Kept.{Kept, Tells}
-use Rattle.store_tells.specs.Parts.{ring_of, plan_of, kept_of, IsSound, Passes}
-use Rattle.store_tells.specs.declared.parts.Parts.{Parts}
-use Rattle.store_tells.proofs.StoreInWorld.{holds, reached_of, suits_of}
+use Rattle.store_parts.specs.declared.slots.SlotNow.{SlotNow}
+use Rattle.store_parts.specs.declared.steps.StepNow.{StepNow}
+use Rattle.store_parts.specs.Marks.{with_mark}
+use Rattle.store_parts.specs.Slots.{slot_now}
+use Rattle.store_parts.specs.Steps.{is_marked_at}
+use Rattle.store_parts.specs.Shows.{Shows, value_of}
+use Rattle.store_parts.specs.Stored.{ShowAll, MergeAll, at_mirror, copied}
+use Rattle.store_parts.proofs.StoredGrows.{copied_more}
+use Rattle.store_parts.proofs.ShownSets.{none, other_test, with_none}
+use Rattle.store_parts.specs.PutsMeet.{clock_at}
+use Rattle.store_parts.proofs.PutsFrames.{puts_stay}
+use Rattle.store_parts.proofs.SlotsFit.{kept_is}
+use Rattle.store_parts.proofs.StageSuits.{step_suiting}
+use Rattle.store_parts.proofs.StepsNow.{steps_mark}
+use Rattle.store_parts.specs.Kept.{Kept, Tells}
+use Rattle.store_parts.specs.Parts.{ring_of, plan_of, kept_of, IsSound, Passes}
+use Rattle.store_parts.specs.declared.parts.Parts.{Parts}
+use Rattle.store_parts.proofs.StoreInWorld.{holds, reached_of, suits_of}
 use Rattle.store_events.specs.Parties.{mirror_kept}
 use Rattle.store_events.specs.Sources.{ShowsChunk, are_kept, is_kept, reads_kept}
 use Rattle.store_events.proofs.TellsOnVersions.{comes, lasts, goes_on}

@@ -10,12 +10,12 @@ use Rattle.ring_names.proofs.Logic.{or_false, bool_same}
 use Rattle.ring_clock.specs.declared.entry.Entry.{Entry}
 use Rattle.ring_table.specs.Value.{RingValue}
 use Rattle.ring_versions.specs.declared.version.Version.{Version}
-use Rattle.store_tables.specs.KeyTable.{chunk_of}
+use Rattle.store_parts.specs.KeyTable.{chunk_of}
 use Rattle.store_maps.specs.Ids.{id, of_chunk}
 use Rattle.store_maps.specs.Merges.{MergesAll}
 use Rattle.store_maps.specs.declared.key_id.KeyId.{KeyId}
-use Rattle.store_tells.specs.Numbers.{ArePlaced, by_bytes, in_part}
-use Rattle.store_tells.proofs.Numbers.{nothing_at, nothing_of_chunk, part_at, part_merged, placed_more, placed_part}
+use Rattle.store_parts.specs.Numbers.{ArePlaced, by_bytes, in_part}
+use Rattle.store_parts.proofs.Numbers.{nothing_at, nothing_of_chunk, part_at, part_merged, placed_more, placed_part}
 use Rattle.ring_hints.specs.Views.{in_keepers}
 use Rattle.ring_hints.proofs.KeeperSets.{equal}
 use Rattle.store_maps.proofs.HoldersChanged.{node_tie}
@@ -25,18 +25,18 @@ use Rattle.plan_runs.specs.Effects.{source_has}
 use Rattle.plan_runs.specs.Versions.{some_hinted, slot_has}
 use Rattle.plan_runs.specs.World.{World, is_of_key, stage_now, key_of_put, slot_at}
 use Rattle.plan_runs.proofs.Passing.{some_found, some_is}
-use Rattle.store_tables.specs.declared.slots.SlotNow.{SlotNow}
-use Rattle.store_tables.specs.Slots.{slot_now}
-use Rattle.store_tells.specs.Shows.{Shows, value_of}
-use Rattle.store_tells.proofs.ShownSets.{merge, none, with_none, other_test}
-use Rattle.store_tells.specs.Puts.{clock_at}
-use Rattle.store_tells.proofs.SlotsFit.{kept_is}
-use Rattle.store_tells.specs.Kept.{Kept, Tells}
-use Rattle.store_tells.specs.Parts.{IsSized, ring_of, plan_of, Meets}
-use Rattle.store_tells.specs.declared.parts.Parts.{Parts}
-use Rattle.store_tells.proofs.KeepersDeclared.{keeper_within}
-use Rattle.store_tells.proofs.GetsChanges.{some_none}
-use Rattle.store_tells.proofs.WhoKeepsHints.{shown}
+use Rattle.store_parts.specs.declared.slots.SlotNow.{SlotNow}
+use Rattle.store_parts.specs.Slots.{slot_now}
+use Rattle.store_parts.specs.Shows.{Shows, value_of}
+use Rattle.store_parts.proofs.ShownSets.{merge, none, with_none, other_test}
+use Rattle.store_parts.specs.PutsMeet.{clock_at}
+use Rattle.store_parts.proofs.SlotsFit.{kept_is}
+use Rattle.store_parts.specs.Kept.{Kept, Tells}
+use Rattle.store_parts.specs.Parts.{IsSized, ring_of, plan_of, Meets}
+use Rattle.store_parts.specs.declared.parts.Parts.{Parts}
+use Rattle.store_parts.proofs.KeepersDeclared.{keeper_within}
+use Rattle.store_parts.proofs.GetsChanges.{some_none}
+use Rattle.store_parts.proofs.WhoKeepsHints.{shown}
 use Rattle.store_events.specs.Sources.{ShowsChunk, Gathers, Takes, are_kept, is_kept}
 
 -- ---- versions of a chunk's keys that show puts

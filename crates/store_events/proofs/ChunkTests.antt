@@ -19,16 +19,16 @@ use Rattle.plan_runs.specs.Reached.{Ready}
 use Rattle.plan_runs.specs.Versions.{is_in_chunk}
 use Rattle.plan_runs.specs.World.{World, some_below, slot_at}
 use Rattle.plan_runs.proofs.Passing.{some_found}
-use Rattle.store_tables.specs.Nodes.{is_up_at}
-use Rattle.store_tables.specs.Steps.{is_open_at, is_marked_at}
-use Rattle.store_tells.proofs.NodesNow.{nodes_meet}
-use Rattle.store_tells.specs.Parts.{ring_of, plan_of, kept_of, Meets, Tests}
-use Rattle.store_tells.specs.declared.parts.Parts.{Parts}
-use Rattle.store_tells.proofs.KeepersDeclared.{keeper_within}
-use Rattle.store_tells.proofs.StoreInWorld.{reached_of}
-use Rattle.store_tells.specs.LeastDown.{IsLeastDown}
+use Rattle.store_parts.specs.Nodes.{is_up_at}
+use Rattle.store_parts.specs.Steps.{is_open_at, is_marked_at}
+use Rattle.store_parts.proofs.NodesNow.{nodes_meet}
+use Rattle.store_parts.specs.Parts.{ring_of, plan_of, kept_of, Meets, Tests}
+use Rattle.store_parts.specs.declared.parts.Parts.{Parts}
+use Rattle.store_parts.proofs.KeepersDeclared.{keeper_within}
+use Rattle.store_parts.proofs.StoreInWorld.{reached_of}
+use Rattle.store_parts.specs.LeastDown.{IsLeastDown}
 use Rattle.store_events.proofs.ChunkCopies.{some_slot}
-use Rattle.store_tells.proofs.LeastDown.{keepers_refused}
+use Rattle.store_parts.proofs.LeastDown.{keepers_refused}
 
 -- ---- guards one after the other
 

@@ -9,12 +9,12 @@ use Rattle.plan_runs.specs.declared.event.Reply.TheVariants.{Plain}
 use Rattle.plan_runs.specs.World.{World}
 use Rattle.plan_runs.specs.Guards.{guards}
 use Rattle.plan_runs.specs.Effects.{changed, effect}
-use Rattle.store_tables.specs.declared.steps.StepNow.{StepNow}
-use Rattle.store_tells.proofs.NodesNow.{nodes_stay}
-use Rattle.store_tells.proofs.StepsNow.{steps_open, steps_close, steps_abort}
-use Rattle.store_tells.proofs.SlotsNow.{slots_stay}
-use Rattle.store_tells.specs.Kept.{Kept, Tells}
-use Rattle.store_tells.proofs.StoreInWorld.{reached_of}
+use Rattle.store_parts.specs.declared.steps.StepNow.{StepNow}
+use Rattle.store_parts.proofs.NodesNow.{nodes_stay}
+use Rattle.store_parts.proofs.StepsNow.{steps_open, steps_close, steps_abort}
+use Rattle.store_parts.proofs.SlotsNow.{slots_stay}
+use Rattle.store_parts.specs.Kept.{Kept, Tells}
+use Rattle.store_parts.proofs.StoreInWorld.{reached_of}
 use Rattle.store_events.proofs.TellsOnSteps.{LeadsOn, leads_on, stored_on, hinted_on}
 
 module _ (ring : RingValue) (plan : List Planned) (k : Kept) (w : World) (n : ℕ) (m : Tells ring plan k w) (steps : List StepNow) where

@@ -15,19 +15,19 @@ use Rattle.plan_runs.specs.declared.event.Event.TheVariants.{Do, OpenCopy, Close
 use Rattle.plan_runs.specs.World.{World, passing_below, keeps_other, keeps_any}
 use Rattle.plan_runs.specs.Guards.{has_copy, has_other, is_ready, parties_up, step_guards, guards}
 use Rattle.ring_hints.specs.Hints.{hinted_at}
-use Rattle.store_tables.specs.Nodes.{is_up_at}
-use Rattle.store_tables.specs.declared.steps.StepNow.{StepNow}
-use Rattle.store_tables.specs.Steps.{is_done_at, is_open_at, is_marked_at}
-use Rattle.store_tables.proofs.Counting.{count_most}
-use Rattle.store_tells.specs.GuardsKept.{down_guards_kept, up_guards_kept, lose_guards_kept, close_copy_guards_kept, abort_copy_guards_kept, is_ready_kept}
-use Rattle.store_tells.proofs.NodesNow.{nodes_meet}
-use Rattle.store_tells.proofs.StageGuards.{down_kept, up_kept, lose_kept, close_kept, abort_kept, ready_kept}
-use Rattle.store_tells.specs.declared.parts.Parts.{Parts}
+use Rattle.store_parts.specs.Nodes.{is_up_at}
+use Rattle.store_parts.specs.declared.steps.StepNow.{StepNow}
+use Rattle.store_parts.specs.Steps.{is_done_at, is_open_at, is_marked_at}
+use Rattle.store_parts.proofs.Counting.{count_most}
+use Rattle.store_parts.specs.GuardsKept.{down_guards_kept, up_guards_kept, lose_guards_kept, close_copy_guards_kept, abort_copy_guards_kept, is_ready_kept}
+use Rattle.store_parts.proofs.NodesNow.{nodes_meet}
+use Rattle.store_parts.proofs.StageGuards.{down_kept, up_kept, lose_kept, close_kept, abort_kept, ready_kept}
+use Rattle.store_parts.specs.declared.parts.Parts.{Parts}
 use Rattle.store_maps.specs.declared.key_id.KeyId.{KeyId}
-use Rattle.store_tells.specs.Numbers.{by_bytes}
-use Rattle.store_tells.proofs.Numbers.{none}
-use Rattle.store_tells.specs.Parts.{Meets, IsSized, Tests, ring_of, plan_of, kept_of}
-use Rattle.store_tells.proofs.WhoKeepsHints.{both_tell, other_tells, any_tells}
+use Rattle.store_parts.specs.Numbers.{by_bytes}
+use Rattle.store_parts.proofs.Numbers.{none}
+use Rattle.store_parts.specs.Parts.{Meets, IsSized, Tests, ring_of, plan_of, kept_of}
+use Rattle.store_parts.proofs.WhoKeepsHints.{both_tell, other_tells, any_tells}
 
 -- ---- nodes
 

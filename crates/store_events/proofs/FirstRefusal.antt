@@ -13,11 +13,11 @@ use Rattle.plan_runs.specs.declared.event.Event.TheVariants.{Hint, Handoff}
 use Rattle.plan_runs.specs.World.{World, keeps, keeps_other}
 use Rattle.plan_runs.specs.Guards.{guards, put_exists, serves_in}
 use Rattle.plan_runs.specs.Versions.{put_slot}
-use Rattle.store_tables.specs.Nodes.{is_up_at, is_member_at}
-use Rattle.store_tells.specs.GuardsKept.{serves_in_kept, served_up_kept}
-use Rattle.store_tells.proofs.NodesNow.{nodes_meet}
-use Rattle.store_tells.proofs.SlotsGuards.{serves_kept, hint_kept, handoff_kept}
-use Rattle.store_tells.specs.Kept.{Kept, Tells}
+use Rattle.store_parts.specs.Nodes.{is_up_at, is_member_at}
+use Rattle.store_parts.specs.GuardsKept.{serves_in_kept, served_up_kept}
+use Rattle.store_parts.proofs.NodesNow.{nodes_meet}
+use Rattle.store_parts.proofs.SlotsGuards.{serves_kept, hint_kept, handoff_kept}
+use Rattle.store_parts.specs.Kept.{Kept, Tells}
 
 -- a test that fails is the first that does, where it comes first
 pub fails : (b : Bool) (e : Refusal) (gs : List Guard) → b ≡ false → Some e ≡ first_failing ((b, e) ∷ gs)

@@ -7,14 +7,14 @@ use Rattle.ring_names.proofs.Logic.{bool_same}
 use Rattle.ring_versions.specs.declared.version.Version.{Version}
 use Rattle.plan_text.specs.Steps.{is_slot}
 use Rattle.plan_stage.proofs.Truth.{slot-is, slot-same}
-use Rattle.store_tables.specs.declared.slots.SlotNow.{SlotNow}
-use Rattle.store_tables.specs.Slots.{slot_now, ChangesSlot}
-use Rattle.store_tells.specs.GuardsKept.{is_served_kept}
+use Rattle.store_parts.specs.declared.slots.SlotNow.{SlotNow}
+use Rattle.store_parts.specs.Slots.{slot_now, ChangesSlot}
+use Rattle.store_parts.specs.GuardsKept.{is_served_kept}
 use Rattle.store_maps.specs.declared.key_id.KeyId.{KeyId}
-use Rattle.store_tables.specs.KeyTable.{KeyTable}
-use Rattle.store_tells.specs.Numbers.{by_keys, ArePlaced}
-use Rattle.store_tells.specs.Puts.{AreNumbered}
-use Rattle.store_tells.proofs.Numbers.{none}
+use Rattle.store_parts.specs.KeyTable.{KeyTable}
+use Rattle.store_parts.specs.Numbers.{by_keys, ArePlaced}
+use Rattle.store_parts.specs.PutsMeet.{AreNumbered}
+use Rattle.store_parts.proofs.Numbers.{none}
 use Rattle.store_events.specs.Groups.{raised, RaisesGroup, RaisesGroups}
 
 -- what it says of a slot, over what holds of the slot before and after

@@ -23,20 +23,20 @@ use Rattle.plan_runs.specs.Answers.{answer, reply_to}
 use Rattle.plan_runs.specs.Reached.{Reached}
 use Rattle.plan_runs.proofs.Answered.{allowed}
 use Rattle.plan_runs.proofs.Passed.{all_met}
-use Rattle.store_tables.specs.declared.slots.SlotNow.{SlotNow}
-use Rattle.store_tables.specs.Slots.{slot_now}
-use Rattle.store_tells.specs.Shows.{Shows, value_of}
-use Rattle.store_tells.specs.Stored.{MergeAll, at_mirror}
-use Rattle.store_tells.specs.Stored as stored
-use Rattle.store_tells.proofs.StoredGrows.{served_more}
-use Rattle.store_tells.specs.Puts.{clock_at}
-use Rattle.store_tells.specs.Slots.{IsNow}
-use Rattle.store_tells.proofs.PutsFrames.{puts_stay}
-use Rattle.store_tells.proofs.SlotsFit.{kept_is}
-use Rattle.store_tells.proofs.StepsNow.{steps_stay}
-use Rattle.store_tells.specs.Kept.{Kept, Tells}
-use Rattle.store_tells.proofs.WhoKeepsHints.{keeps_tells}
-use Rattle.store_tells.proofs.StoreInWorld.{reached_of}
+use Rattle.store_parts.specs.declared.slots.SlotNow.{SlotNow}
+use Rattle.store_parts.specs.Slots.{slot_now}
+use Rattle.store_parts.specs.Shows.{Shows, value_of}
+use Rattle.store_parts.specs.Stored.{MergeAll, at_mirror}
+use Rattle.store_parts.specs.Stored as stored
+use Rattle.store_parts.proofs.StoredGrows.{served_more}
+use Rattle.store_parts.specs.PutsMeet.{clock_at}
+use Rattle.store_parts.specs.SlotsMeet.{IsNow}
+use Rattle.store_parts.proofs.PutsFrames.{puts_stay}
+use Rattle.store_parts.proofs.SlotsFit.{kept_is}
+use Rattle.store_parts.proofs.StepsNow.{steps_stay}
+use Rattle.store_parts.specs.Kept.{Kept, Tells}
+use Rattle.store_parts.proofs.WhoKeepsHints.{keeps_tells}
+use Rattle.store_parts.proofs.StoreInWorld.{reached_of}
 use Rattle.store_events.proofs.TellsOnVersions.{comes, lasts, goes_on}
 use Rattle.store_events.proofs.ShownBrought.{served_shows, served_come, rest_shows}
 use Rattle.store_events.proofs.Writes.{served_is}

@@ -7,7 +7,7 @@ use Rattle.ring_names.specs.declared.ids.Slot.{Slot}
 use Rattle.ring_table.specs.Value.{RingValue}
 use Rattle.ring_versions.specs.declared.version.Version.{Version}
 use Rattle.ring_versions.specs.Versions.{IsMerge}
-use Rattle.store_tells.specs.Numbers.{at_bytes}
+use Rattle.store_parts.specs.Numbers.{at_bytes}
 use Rattle.ring_hints.specs.Views.{is_of, pair_of}
 use Rattle.plan_text.specs.declared.step.Planned.{Planned}
 use Rattle.plan_stage.specs.Clauses.{first_failing}
@@ -22,17 +22,17 @@ use Rattle.plan_runs.specs.Answers.{answer, reply_to}
 use Rattle.plan_runs.specs.Reached.{Reached}
 use Rattle.plan_runs.proofs.Answered.{allowed}
 use Rattle.plan_runs.proofs.Passed.{all_met}
-use Rattle.store_tables.specs.declared.puts.PutNow.{PutNow}
-use Rattle.store_tables.specs.declared.slots.SlotNow.{SlotNow}
-use Rattle.store_tables.specs.Slots.{slot_now}
-use Rattle.store_tells.specs.Stored as stored
-use Rattle.store_tells.specs.Puts.{clock_at}
-use Rattle.store_tells.specs.Slots.{IsNow}
-use Rattle.store_tells.proofs.PutsChanges.{puts_hinted}
-use Rattle.store_tells.proofs.SlotsFit.{kept_is}
-use Rattle.store_tells.proofs.StepsNow.{steps_stay}
-use Rattle.store_tells.specs.Kept.{Kept, Tells}
-use Rattle.store_tells.proofs.StoreInWorld.{reached_of}
+use Rattle.store_parts.specs.declared.puts.PutNow.{PutNow}
+use Rattle.store_parts.specs.declared.slots.SlotNow.{SlotNow}
+use Rattle.store_parts.specs.Slots.{slot_now}
+use Rattle.store_parts.specs.Stored as stored
+use Rattle.store_parts.specs.PutsMeet.{clock_at}
+use Rattle.store_parts.specs.SlotsMeet.{IsNow}
+use Rattle.store_parts.proofs.PutsChanges.{puts_hinted}
+use Rattle.store_parts.proofs.SlotsFit.{kept_is}
+use Rattle.store_parts.proofs.StepsNow.{steps_stay}
+use Rattle.store_parts.specs.Kept.{Kept, Tells}
+use Rattle.store_parts.proofs.StoreInWorld.{reached_of}
 use Rattle.store_events.proofs.TellsOnVersions.{comes, lasts, goes_on}
 use Rattle.store_events.proofs.ShownBrought.{pair_shows, node_come}
 use Rattle.store_events.proofs.Writes.{ticketed, ticket_clocks, kept_shows}

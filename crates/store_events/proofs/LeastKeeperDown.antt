@@ -11,8 +11,8 @@ use Rattle.ring_table.specs.Value.{RingValue}
 use Rattle.ring_hints.specs.Views.{in_keepers}
 use Rattle.store_maps.specs.declared.key_id.KeyId.{KeyId}
 use Rattle.store_maps.specs.Ids.{id}
-use Rattle.store_tables.specs.KeyTable.{chunk_of}
-use Rattle.store_tells.proofs.Numbers.{none, none_in_chunk}
+use Rattle.store_parts.specs.KeyTable.{chunk_of}
+use Rattle.store_parts.proofs.Numbers.{none, none_in_chunk}
 use Rattle.ring_hints.specs.Hints.{hinted_at}
 use Rattle.plan_text.specs.declared.step.Planned.{Planned}
 use Rattle.plan_text.specs.declared.step.Source.{Source}
@@ -21,13 +21,13 @@ use Rattle.plan_stage.proofs.Truth.{same}
 use Rattle.plan_runs.specs.Guards.{keeps_source}
 use Rattle.plan_runs.specs.Versions.{is_in_chunk}
 use Rattle.plan_runs.specs.World.{World, some_below, slot_at}
-use Rattle.store_tables.specs.Nodes.{is_up_at}
-use Rattle.store_tells.specs.Kept.{Kept, Tells}
-use Rattle.store_tells.specs.Parts.{IsSized, ring_of, plan_of, kept_of, Meets}
-use Rattle.store_tells.specs.declared.parts.Parts.{Parts}
-use Rattle.store_tells.proofs.WhoKeepsHints.{both_tell, chunk_tells}
+use Rattle.store_parts.specs.Nodes.{is_up_at}
+use Rattle.store_parts.specs.Kept.{Kept, Tells}
+use Rattle.store_parts.specs.Parts.{IsSized, ring_of, plan_of, kept_of, Meets}
+use Rattle.store_parts.specs.declared.parts.Parts.{Parts}
+use Rattle.store_parts.proofs.WhoKeepsHints.{both_tell, chunk_tells}
 use Rattle.store_events.specs.ChunkKeepers.{keeps_part, Lessens}
-use Rattle.store_tells.specs.LeastDown.{IsLeastDown}
+use Rattle.store_parts.specs.LeastDown.{IsLeastDown}
 use Rattle.store_events.proofs.ChunkSources.{any_map, some_node, named_node}
 
 -- ---- one node more

@@ -13,17 +13,17 @@ use Rattle.plan_runs.specs.declared.event.Reply.TheVariants.{Plain}
 use Rattle.plan_runs.specs.World.{World, keeps}
 use Rattle.plan_runs.specs.Guards.{guards}
 use Rattle.plan_runs.specs.Effects.{changed, effect}
-use Rattle.store_tables.specs.declared.nodes.NodeNow.{NodeNow}
-use Rattle.store_tables.specs.declared.slots.SlotNow.{SlotNow}
-use Rattle.store_tables.specs.Slots.{slot_now}
-use Rattle.store_tells.specs.GuardsKept.{is_served_kept}
-use Rattle.store_tells.proofs.NodesNow as now
-use Rattle.store_tells.proofs.StepsNow.{steps_stay}
-use Rattle.store_tells.proofs.SlotsNow.{slots_stay}
-use Rattle.store_tells.proofs.SlotsGuards.{slots_lose_kept}
-use Rattle.store_tells.specs.Kept.{Kept, Tells}
-use Rattle.store_tells.proofs.StoreInWorld.{reached_of}
-use Rattle.store_tells.proofs.WhoKeepsHints.{both_tell, keeps_tells}
+use Rattle.store_parts.specs.declared.nodes.NodeNow.{NodeNow}
+use Rattle.store_parts.specs.declared.slots.SlotNow.{SlotNow}
+use Rattle.store_parts.specs.Slots.{slot_now}
+use Rattle.store_parts.specs.GuardsKept.{is_served_kept}
+use Rattle.store_parts.proofs.NodesNow as now
+use Rattle.store_parts.proofs.StepsNow.{steps_stay}
+use Rattle.store_parts.proofs.SlotsNow.{slots_stay}
+use Rattle.store_parts.proofs.SlotsGuards.{slots_lose_kept}
+use Rattle.store_parts.specs.Kept.{Kept, Tells}
+use Rattle.store_parts.proofs.StoreInWorld.{reached_of}
+use Rattle.store_parts.proofs.WhoKeepsHints.{both_tell, keeps_tells}
 use Rattle.store_events.specs.Acts.{Forgets}
 use Rattle.store_events.specs.Groups.{raised, RaisesGroups}
 use Rattle.store_events.proofs.TellsOnSteps.{LeadsOn, leads_on, stored_on, hinted_on, stored_left, hinted_left}

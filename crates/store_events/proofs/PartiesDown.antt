@@ -28,13 +28,13 @@ use Rattle.plan_runs.specs.Guards.{up_guard, parties_up}
 use Rattle.plan_runs.specs.Reached.{Ready}
 use Rattle.plan_check.proofs.Mirrored.{Known, known}
 use Rattle.plan_check.proofs.Partakers.{own_count, owner_same}
-use Rattle.store_tables.specs.declared.slots.SlotNow.{SlotNow}
-use Rattle.store_tables.specs.Nodes.{is_up_at}
-use Rattle.store_tells.proofs.NodesNow.{nodes_meet}
-use Rattle.store_tells.proofs.StageGuards.{parties_kept}
-use Rattle.store_tells.proofs.StageSuits.{step_suiting}
-use Rattle.store_tells.specs.Kept.{Kept, Tells}
-use Rattle.store_tells.proofs.StoreInWorld.{reached_of, suits_of}
+use Rattle.store_parts.specs.declared.slots.SlotNow.{SlotNow}
+use Rattle.store_parts.specs.Nodes.{is_up_at}
+use Rattle.store_parts.proofs.NodesNow.{nodes_meet}
+use Rattle.store_parts.proofs.StageGuards.{parties_kept}
+use Rattle.store_parts.proofs.StageSuits.{step_suiting}
+use Rattle.store_parts.specs.Kept.{Kept, Tells}
+use Rattle.store_parts.proofs.StoreInWorld.{reached_of, suits_of}
 use Rattle.store_events.specs.Parties.{owner_kept, mirror_kept, party_kept, lesser, with_down, least_down}
 use Rattle.plan_stage.proofs.Holders.{has-from}
 

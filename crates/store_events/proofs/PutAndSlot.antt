@@ -14,12 +14,12 @@ use Rattle.plan_text.specs.Valid.{is_ring_slot}
 use Rattle.plan_runs.specs.World.{PutRecord, World, key_of_put, slot_at}
 use Rattle.plan_runs.specs.Guards.{put_exists}
 use Rattle.plan_runs.specs.Versions.{put_slot}
-use Rattle.store_tables.specs.declared.puts.PutNow.{PutNow}
-use Rattle.store_tables.specs.declared.slots.SlotNow.{SlotNow}
-use Rattle.store_tables.specs.Slots.{slot_now}
-use Rattle.store_tells.proofs.PutsTests.{both_puts, same_has_put}
-use Rattle.store_tells.specs.Kept.{Kept, Tells}
-use Rattle.store_tells.proofs.StoreInWorld.{slot_there, mirror_apart}
+use Rattle.store_parts.specs.declared.puts.PutNow.{PutNow}
+use Rattle.store_parts.specs.declared.slots.SlotNow.{SlotNow}
+use Rattle.store_parts.specs.Slots.{slot_now}
+use Rattle.store_parts.proofs.PutsTests.{both_puts, same_has_put}
+use Rattle.store_parts.specs.Kept.{Kept, Tells}
+use Rattle.store_parts.proofs.StoreInWorld.{slot_there, mirror_apart}
 
 -- an item that is there is within the list
 pub within : {A : Type 0} (xs : List A) (n : ℕ) (x : A) → slice_get xs n ≡ Some x → n < length xs

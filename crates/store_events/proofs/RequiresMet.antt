@@ -17,14 +17,14 @@ use Rattle.plan_runs.specs.World.{World}
 use Rattle.plan_runs.specs.Guards.{has_copy, has_other, guards}
 use Rattle.plan_runs.proofs.Passed.{all_met}
 use Rattle.ring_store.specs.Stores.{shared_space}
-use Rattle.store_tables.specs.declared.slots.SlotNow.{SlotNow}
-use Rattle.store_tables.specs.Slots.{slot_now, ChangesSlot}
+use Rattle.store_parts.specs.declared.slots.SlotNow.{SlotNow}
+use Rattle.store_parts.specs.Slots.{slot_now, ChangesSlot}
 use Rattle.plan_runs.proofs.Suited.{within as within_ring}
-use Rattle.store_tells.proofs.SlotsFit.{kept_within, may_raise, may_raise_mirrored}
-use Rattle.store_tells.proofs.StepsNow.{step_within, other_within, copy_within}
-use Rattle.store_tells.specs.declared.parts.Parts.{Parts}
-use Rattle.store_tells.specs.Parts.{Meets, IsSound, Passes, ring_of, plan_of, kept_of}
-use Rattle.store_tells.proofs.StoreInWorld.{holds, reached_of}
+use Rattle.store_parts.proofs.SlotsFit.{kept_within, may_raise, may_raise_mirrored}
+use Rattle.store_parts.proofs.StepsNow.{step_within, other_within, copy_within}
+use Rattle.store_parts.specs.declared.parts.Parts.{Parts}
+use Rattle.store_parts.specs.Parts.{Meets, IsSound, Passes, ring_of, plan_of, kept_of}
+use Rattle.store_parts.proofs.StoreInWorld.{holds, reached_of}
 use Rattle.store_events.specs.Parties.{mirror_kept}
 use Rattle.store_events.proofs.StepsOn.{no_copy, is_other}
 use Rattle.store_events.proofs.PutAndSlot.{mirror_prop, mirror_fits}

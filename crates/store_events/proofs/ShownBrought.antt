@@ -11,14 +11,14 @@ use Rattle.ring_versions.specs.declared.version.Version.{Version}
 use Rattle.plan_text.specs.Steps.{is_slot}
 use Rattle.plan_runs.specs.World.{World, is_of_key, key_of_put}
 use Rattle.plan_runs.specs.Effects.{without_puts}
-use Rattle.store_tells.specs.Numbers.{at_bytes}
+use Rattle.store_parts.specs.Numbers.{at_bytes}
 use Rattle.ring_store.specs.Nodes.{at_nodes, at_node}
 use Rattle.ring_store.specs.Slots.{at_slot}
 use Rattle.ring_hints.specs.Views.{is_of, pair_of}
-use Rattle.store_tells.specs.Shows.{Shows, value_of}
-use Rattle.store_tells.specs.Stored.{ShowAll, at_mirror}
-use Rattle.store_tells.specs.Stored as stored
-use Rattle.store_tells.proofs.ShownSets.{none, one, other_test}
+use Rattle.store_parts.specs.Shows.{Shows, value_of}
+use Rattle.store_parts.specs.Stored.{ShowAll, at_mirror}
+use Rattle.store_parts.specs.Stored as stored
+use Rattle.store_parts.proofs.ShownSets.{none, one, other_test}
 
 -- ---- one put
 

@@ -8,13 +8,13 @@ use Rattle.ring_versions.specs.declared.version.Version.{Version}
 use Rattle.plan_text.specs.Steps.{is_slot}
 use Rattle.plan_stage.proofs.Truth.{slot-is, slot-same}
 use Rattle.plan_runs.specs.World.{World, is_of_key}
-use Rattle.store_tells.specs.Shows.{Shows, value_of}
-use Rattle.store_tells.specs.Stored.{ShowAll}
-use Rattle.store_tells.proofs.ShownSets.{none}
+use Rattle.store_parts.specs.Shows.{Shows, value_of}
+use Rattle.store_parts.specs.Stored.{ShowAll}
+use Rattle.store_parts.proofs.ShownSets.{none}
 use Rattle.store_maps.specs.declared.key_id.KeyId.{KeyId}
-use Rattle.store_tables.specs.KeyTable.{KeyTable}
-use Rattle.store_tells.specs.Numbers.{by_keys, ArePlaced}
-use Rattle.store_tells.proofs.Numbers.{same, other, placed_less}
+use Rattle.store_parts.specs.KeyTable.{KeyTable}
+use Rattle.store_parts.specs.Numbers.{by_keys, ArePlaced}
+use Rattle.store_parts.proofs.Numbers.{same, other, placed_less}
 use Rattle.store_events.specs.Acts.{Forgets}
 
 -- the puts that are left

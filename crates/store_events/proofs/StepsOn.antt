@@ -19,16 +19,16 @@ use Rattle.plan_runs.specs.Guards.{has_other, guards}
 use Rattle.plan_runs.specs.Effects.{changed, with_number, step_effect, effect}
 use Rattle.plan_runs.proofs.Frames.{done_is}
 use Rattle.plan_runs.proofs.Passed.{all_met}
-use Rattle.store_tables.specs.declared.nodes.NodeNow.{NodeNow}
-use Rattle.store_tables.specs.declared.slots.SlotNow.{SlotNow}
-use Rattle.store_tells.specs.NodesTold.{NodesTell, step_leaves_nodes}
-use Rattle.store_tells.specs.Slots.{SlotsMeet}
-use Rattle.store_tells.specs.SlotsStepped.{StepsSlots, step_leaves_slots}
-use Rattle.store_tells.proofs.NodesNow.{nodes_join, nodes_retire, nodes_stay_do}
-use Rattle.store_tells.proofs.StepsNow.{steps_do}
-use Rattle.store_tells.proofs.SlotsNow.{slots_do, slots_stay_do}
-use Rattle.store_tells.specs.Kept.{Kept, Tells}
-use Rattle.store_tells.proofs.StoreInWorld.{reached_of, suits_of}
+use Rattle.store_parts.specs.declared.nodes.NodeNow.{NodeNow}
+use Rattle.store_parts.specs.declared.slots.SlotNow.{SlotNow}
+use Rattle.store_parts.specs.NodesTold.{NodesTell, step_leaves_nodes}
+use Rattle.store_parts.specs.SlotsMeet.{SlotsMeet}
+use Rattle.store_parts.specs.SlotsStepped.{StepsSlots, step_leaves_slots}
+use Rattle.store_parts.proofs.NodesNow.{nodes_join, nodes_retire, nodes_stay_do}
+use Rattle.store_parts.proofs.StepsNow.{steps_do}
+use Rattle.store_parts.proofs.SlotsNow.{slots_do, slots_stay_do}
+use Rattle.store_parts.specs.Kept.{Kept, Tells}
+use Rattle.store_parts.proofs.StoreInWorld.{reached_of, suits_of}
 use Rattle.store_events.specs.Acts.{Forgets, Acts}
 use Rattle.store_events.proofs.TellsOnSteps.{LeadsOn, leads_on, stored_on, hinted_on, stored_left}
 

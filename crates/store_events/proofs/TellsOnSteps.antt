@@ -14,23 +14,23 @@ use Rattle.plan_runs.specs.Guards.{guards}
 use Rattle.plan_runs.specs.Effects.{effect}
 use Rattle.plan_runs.specs.Answers.{reply_to, answer}
 use Rattle.plan_runs.proofs.Answered.{allowed}
-use Rattle.store_tables.specs.declared.nodes.NodeNow.{NodeNow}
-use Rattle.store_tables.specs.declared.slots.SlotNow.{SlotNow}
-use Rattle.store_tables.specs.declared.steps.StepNow.{StepNow}
-use Rattle.store_tells.specs.Shows.{ArePutsOf}
-use Rattle.store_tells.specs.Stored.{ShowAll}
-use Rattle.store_tells.specs.NodesTold.{NodesTell}
-use Rattle.store_tells.specs.Steps.{StepsMeet}
-use Rattle.store_tells.specs.Slots.{SlotsMeet}
-use Rattle.store_tells.specs.Puts.{clock_at}
+use Rattle.store_parts.specs.declared.nodes.NodeNow.{NodeNow}
+use Rattle.store_parts.specs.declared.slots.SlotNow.{SlotNow}
+use Rattle.store_parts.specs.declared.steps.StepNow.{StepNow}
+use Rattle.store_parts.specs.Shows.{ArePutsOf}
+use Rattle.store_parts.specs.Stored.{ShowAll}
+use Rattle.store_parts.specs.NodesTold.{NodesTell}
+use Rattle.store_parts.specs.StepsMeet.{StepsMeet}
+use Rattle.store_parts.specs.SlotsMeet.{SlotsMeet}
+use Rattle.store_parts.specs.PutsMeet.{clock_at}
 use Rattle.plan_runs.specs.Leaves.{changes_puts, changes_gets}
-use Rattle.store_tells.proofs.SlotsFit.{losses_stay}
-use Rattle.store_tells.proofs.PutsFrames.{puts_stay}
-use Rattle.store_tells.proofs.GetsFrames.{gets_stay}
-use Rattle.store_tells.proofs.GetsTests.{reads_stay}
-use Rattle.store_tells.specs.Kept.{Kept, Tells}
-use Rattle.store_tells.proofs.StoreInWorld.{reached_of, run_on}
-use Rattle.store_tells.proofs.HintsFit.{hints_stay}
+use Rattle.store_parts.proofs.SlotsFit.{losses_stay}
+use Rattle.store_parts.proofs.PutsFrames.{puts_stay}
+use Rattle.store_parts.proofs.GetsFrames.{gets_stay}
+use Rattle.store_parts.proofs.GetsTests.{reads_stay}
+use Rattle.store_parts.specs.Kept.{Kept, Tells}
+use Rattle.store_parts.proofs.StoreInWorld.{reached_of, run_on}
+use Rattle.store_parts.proofs.HintsFit.{hints_stay}
 use Rattle.store_events.specs.Acts.{Forgets}
 use Rattle.store_events.proofs.TellsOnVersions.{lasts}
 use Rattle.store_events.proofs.ShownLeft.{left, forgotten}

@@ -17,26 +17,26 @@ use Rattle.plan_runs.specs.Guards.{guards}
 use Rattle.plan_runs.specs.Effects.{effect}
 use Rattle.plan_runs.specs.Answers.{answer, reply_to}
 use Rattle.plan_runs.proofs.Answered.{allowed}
-use Rattle.store_tables.specs.declared.puts.PutNow.{PutNow}
-use Rattle.store_tables.specs.declared.steps.StepNow.{StepNow}
-use Rattle.store_tells.specs.Shows.{ArePutsOf}
-use Rattle.store_tells.specs.Stored.{ShowAll, MergeAll}
-use Rattle.store_tells.proofs.StoredGrows.{grown}
-use Rattle.store_tells.proofs.StoredLasts.{all_stay}
+use Rattle.store_parts.specs.declared.puts.PutNow.{PutNow}
+use Rattle.store_parts.specs.declared.steps.StepNow.{StepNow}
+use Rattle.store_parts.specs.Shows.{ArePutsOf}
+use Rattle.store_parts.specs.Stored.{ShowAll, MergeAll}
+use Rattle.store_parts.proofs.StoredGrows.{grown}
+use Rattle.store_parts.proofs.StoredLasts.{all_stay}
 use Rattle.plan_runs.specs.Leaves.{changes_gets}
-use Rattle.store_tells.specs.Gets.{GetsMeet}
-use Rattle.store_tells.specs.NodesTold.{leaves_nodes}
-use Rattle.store_tells.specs.Puts.{clock_at, PutsMeet}
-use Rattle.store_tells.specs.SlotsStepped.{leaves_slots}
-use Rattle.store_tells.specs.Steps.{StepsMeet}
-use Rattle.store_tells.proofs.GetsFrames.{gets_stay}
-use Rattle.store_tells.proofs.GetsTests.{reads_stay}
-use Rattle.store_tells.proofs.NodesNow.{nodes_stay}
-use Rattle.store_tells.proofs.SlotsFit.{losses_stay}
-use Rattle.store_tells.proofs.SlotsNow.{slots_stay}
-use Rattle.store_tells.specs.Kept.{Kept, Tells}
-use Rattle.store_tells.proofs.HintsFit.{hints_stay}
-use Rattle.store_tells.proofs.StoreInWorld.{reached_of, run_on}
+use Rattle.store_parts.specs.GetsMeet.{GetsMeet}
+use Rattle.store_parts.specs.NodesTold.{leaves_nodes}
+use Rattle.store_parts.specs.PutsMeet.{clock_at, PutsMeet}
+use Rattle.store_parts.specs.SlotsStepped.{leaves_slots}
+use Rattle.store_parts.specs.StepsMeet.{StepsMeet}
+use Rattle.store_parts.proofs.GetsFrames.{gets_stay}
+use Rattle.store_parts.proofs.GetsTests.{reads_stay}
+use Rattle.store_parts.proofs.NodesNow.{nodes_stay}
+use Rattle.store_parts.proofs.SlotsFit.{losses_stay}
+use Rattle.store_parts.proofs.SlotsNow.{slots_stay}
+use Rattle.store_parts.specs.Kept.{Kept, Tells}
+use Rattle.store_parts.proofs.HintsFit.{hints_stay}
+use Rattle.store_parts.proofs.StoreInWorld.{reached_of, run_on}
 
 module _ (ring : RingValue) (plan : List Planned) (w : World) (e : Event) (passes : first_failing (guards ring plan w e) ≡ None) where
   -- what comes to versions that show puts shows what comes in the next world

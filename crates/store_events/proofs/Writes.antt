@@ -6,7 +6,7 @@ use Rattle.ring_names.specs.declared.ids.NodeId.{NodeId}
 use Rattle.ring_names.specs.declared.ids.Slot.{Slot}
 use Rattle.ring_table.specs.Value.{RingValue}
 use Rattle.ring_versions.specs.declared.version.Version.{Version}
-use Rattle.store_tells.specs.Numbers.{at_bytes}
+use Rattle.store_parts.specs.Numbers.{at_bytes}
 use Rattle.ring_store.specs.Nodes.{at_nodes}
 use Rattle.ring_store.specs.Slots.{at_slot}
 use Rattle.plan_text.specs.declared.step.Planned.{Planned}
@@ -23,22 +23,22 @@ use Rattle.plan_runs.specs.Reached.{Reached}
 use Rattle.plan_runs.proofs.Answered.{allowed}
 use Rattle.plan_runs.proofs.Changed.{part_changed}
 use Rattle.plan_runs.proofs.Passed.{all_met}
-use Rattle.store_tables.specs.declared.puts.PutNow.{PutNow}
-use Rattle.store_tables.specs.declared.slots.SlotNow.{SlotNow}
-use Rattle.store_tables.specs.Puts.{with_ticket}
-use Rattle.store_tables.specs.Slots.{slot_now}
-use Rattle.store_tells.specs.Shows.{Shows, value_of}
-use Rattle.store_tells.specs.Stored.{MergeAll, at_mirror, at_served}
-use Rattle.store_tells.specs.Stored as stored
-use Rattle.store_tells.proofs.StoredGrows.{served_more}
-use Rattle.store_tells.specs.Puts.{clock_in, clock_at, PutMeets}
-use Rattle.store_tells.specs.Slots.{IsNow}
-use Rattle.store_tells.proofs.PutsChanges.{puts_written}
-use Rattle.store_tells.proofs.PutsTests.{both_puts}
-use Rattle.store_tells.proofs.SlotsFit.{kept_is}
-use Rattle.store_tells.proofs.StepsNow.{steps_stay}
-use Rattle.store_tells.specs.Kept.{Kept, Tells}
-use Rattle.store_tells.proofs.StoreInWorld.{reached_of}
+use Rattle.store_parts.specs.declared.puts.PutNow.{PutNow}
+use Rattle.store_parts.specs.declared.slots.SlotNow.{SlotNow}
+use Rattle.store_parts.specs.Puts.{with_ticket}
+use Rattle.store_parts.specs.Slots.{slot_now}
+use Rattle.store_parts.specs.Shows.{Shows, value_of}
+use Rattle.store_parts.specs.Stored.{MergeAll, at_mirror, at_served}
+use Rattle.store_parts.specs.Stored as stored
+use Rattle.store_parts.proofs.StoredGrows.{served_more}
+use Rattle.store_parts.specs.PutsMeet.{clock_in, clock_at, PutMeets}
+use Rattle.store_parts.specs.SlotsMeet.{IsNow}
+use Rattle.store_parts.proofs.PutsChanges.{puts_written}
+use Rattle.store_parts.proofs.PutsTests.{both_puts}
+use Rattle.store_parts.proofs.SlotsFit.{kept_is}
+use Rattle.store_parts.proofs.StepsNow.{steps_stay}
+use Rattle.store_parts.specs.Kept.{Kept, Tells}
+use Rattle.store_parts.proofs.StoreInWorld.{reached_of}
 use Rattle.store_events.proofs.TellsOnVersions.{comes, lasts, goes_on}
 use Rattle.store_events.proofs.ShownBrought.{put_shows, served_shows, served_come}
 use Rattle.store_events.proofs.PutAndSlot.{key_of}

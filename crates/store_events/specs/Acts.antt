@@ -6,8 +6,8 @@ use Rattle.plan_text.specs.declared.step.Step.{Step}
 use Rattle.plan_text.specs.declared.step.Step.TheVariants as step
 use Rattle.plan_text.specs.Steps.{is_slot}
 use Rattle.plan_runs.specs.Effects.{changed}
-use Rattle.store_tells.specs.SlotsStepped.{StepsSlots}
-use Rattle.store_tells.specs.Kept.{Kept}
+use Rattle.store_parts.specs.SlotsStepped.{StepsSlots}
+use Rattle.store_parts.specs.Kept.{Kept}
 
 -- versions by node, slot and key: those that pass the test are gone, and all others are as before
 abbrev pub Forgets : {K : Type 0} → (ℕ → Slot → Bool) → (ℕ → Slot → K → List Version) → (ℕ → Slot → K → List Version) → Type 0

@@ -5,10 +5,10 @@ use Rattle.ring_names.specs.declared.ids.Slot.{Slot}
 use Rattle.ring_table.specs.Value.{RingValue}
 use Rattle.plan_runs.specs.Versions.{is_in_chunk}
 use Rattle.plan_runs.specs.World.{World, some_below}
-use Rattle.store_tables.specs.Nodes.{is_up_at}
-use Rattle.store_tells.specs.LeastDown.{IsLeastDown}
-use Rattle.store_tells.specs.Parts.{Meets}
-use Rattle.store_tells.specs.declared.parts.Parts.{Parts}
+use Rattle.store_parts.specs.Nodes.{is_up_at}
+use Rattle.store_parts.specs.LeastDown.{IsLeastDown}
+use Rattle.store_parts.specs.Parts.{Meets}
+use Rattle.store_parts.specs.declared.parts.Parts.{Parts}
 
 -- whether the node keeps a put of the chunk as a hint for the slot
 abbrev pub keeps_part : RingValue → World → Slot → ℕ → ℕ → Bool

@@ -2,9 +2,9 @@
 use Rattle.std.specs.Prelude.{◌≡◌, ◌↔◌, ℕ, ◌+◌, Bool, true, false, ◌||◌, List, [], option_map, if◌then◌else◌}
 use Rattle.ring_names.specs.declared.ids.Slot.{Slot}
 use Rattle.ring_versions.specs.declared.version.Version.{Version}
-use Rattle.store_tables.specs.declared.slots.SlotNow.{SlotNow}
-use Rattle.store_tables.specs.Slots.{slot_now}
-use Rattle.store_tells.specs.GuardsKept.{is_served_kept}
+use Rattle.store_parts.specs.declared.slots.SlotNow.{SlotNow}
+use Rattle.store_parts.specs.Slots.{slot_now}
+use Rattle.store_parts.specs.GuardsKept.{is_served_kept}
 
 -- of the next generation
 abbrev pub raised : SlotNow → SlotNow

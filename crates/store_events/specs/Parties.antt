@@ -4,8 +4,8 @@ use Rattle.ring_names.specs.declared.ids.NodeId.{NodeId}
 use Rattle.ring_names.specs.declared.ids.Slot.{Slot}
 use Rattle.plan_text.specs.declared.step.Source.{Source}
 use Rattle.plan_stage.specs.Parties.{source_slots}
-use Rattle.store_tables.specs.declared.slots.SlotNow.{SlotNow}
-use Rattle.store_tables.specs.Slots.{slot_now}
+use Rattle.store_parts.specs.declared.slots.SlotNow.{SlotNow}
+use Rattle.store_parts.specs.Slots.{slot_now}
 
 -- the node that owns the slot, if the ring has it
 abbrev pub owner_kept : List (List SlotNow) → Slot → Option NodeId

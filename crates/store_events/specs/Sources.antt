@@ -4,7 +4,7 @@ use Rattle.std.specs.List.{list_all}
 use Rattle.ring_clock.specs.declared.entry.Entry.{Entry}
 use Rattle.ring_versions.specs.declared.version.Version.{Version}
 use Rattle.store_maps.specs.Ids.{of_chunk}
-use Rattle.store_tables.specs.KeyTable.{chunk_of}
+use Rattle.store_parts.specs.KeyTable.{chunk_of}
 use Rattle.ring_store.specs.Nodes.{at_node}
 use Rattle.ring_store.specs.Slots.{at_slot}
 use Rattle.plan_text.specs.declared.step.Source.{Source}
@@ -13,14 +13,14 @@ use Rattle.ring_names.specs.declared.ids.NodeId.{NodeId}
 use Rattle.ring_names.specs.declared.ids.Slot.{Slot}
 use Rattle.plan_runs.specs.Effects.{source_has}
 use Rattle.plan_runs.specs.World.{World, is_of_key, slot_at}
-use Rattle.store_tells.specs.Numbers.{ArePlaced, in_part}
-use Rattle.store_tells.specs.Shows.{Shows, value_of}
-use Rattle.store_tells.specs.Stored.{MergeAll}
-use Rattle.store_tells.specs.Puts.{clock_at}
-use Rattle.store_tables.specs.declared.slots.SlotNow.{SlotNow}
-use Rattle.store_tables.specs.Slots.{slot_now}
-use Rattle.store_tells.specs.Parts.{ring_of, plan_of, kept_of, Meets}
-use Rattle.store_tells.specs.declared.parts.Parts.{Parts}
+use Rattle.store_parts.specs.Numbers.{ArePlaced, in_part}
+use Rattle.store_parts.specs.Shows.{Shows, value_of}
+use Rattle.store_parts.specs.Stored.{MergeAll}
+use Rattle.store_parts.specs.PutsMeet.{clock_at}
+use Rattle.store_parts.specs.declared.slots.SlotNow.{SlotNow}
+use Rattle.store_parts.specs.Slots.{slot_now}
+use Rattle.store_parts.specs.Parts.{ring_of, plan_of, kept_of, Meets}
+use Rattle.store_parts.specs.declared.parts.Parts.{Parts}
 
 -- for each key of the chunk, among q partitions, the versions show those puts of the key that pass the test
 abbrev pub ShowsChunk : ℕ → World → (ℕ → List Entry) → ℕ → (List ℕ → List Version) → (ℕ → Bool) → Type 0

@@ -4,15 +4,15 @@ ghost use Rattle.std.specs.Prelude.{◌<◌, ◌&&◌, ◌==◌, None};
 ghost use Rattle.std.specs.List.{list_any};
 ghost use Rattle.plan_runs.specs.Guards.{keeps_source};
 ghost use Rattle.plan_runs.specs.World.{World, slot_at};
-ghost use Rattle.store_tables.specs.Nodes.{is_up_at};
-ghost use Rattle.store_tells.specs.Parts.{ring_of, Meets, IsSized};
+ghost use Rattle.store_parts.specs.Nodes.{is_up_at};
+ghost use Rattle.store_parts.specs.Parts.{ring_of, Meets, IsSized};
 ghost use Rattle.store_events.specs.ChunkKeepers.{keeps_part, Lessens};
-ghost use Rattle.store_tells.specs.LeastDown.{IsLeastDown};
+ghost use Rattle.store_parts.specs.LeastDown.{IsLeastDown};
 
 use plan_text::Source;
 use ring_names::{NodeId, Slot};
 use std::collections::BTreeSet;
-use store_tells::Parts;
+use store_parts::Parts;
 
 // The lesser of `least` and the keeper, if down and keeping some of the chunk for the slot.
 fn with_keeper(

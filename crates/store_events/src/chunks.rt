@@ -6,8 +6,8 @@ ghost use Rattle.plan_stage.specs.Clauses.{first_failing};
 ghost use Rattle.plan_runs.specs.declared.event.Event.TheVariants.{ChunkCopy};
 ghost use Rattle.plan_runs.specs.Guards.{has_copy, keepers_up};
 ghost use Rattle.plan_runs.specs.World.{World};
-ghost use Rattle.store_tells.specs.Parts.{ring_of, plan_of, Meets, IsSound, IsSized, Follows, Tests, Passes, Answers};
-ghost use Rattle.store_tells.specs.Parts.{Stays};
+ghost use Rattle.store_parts.specs.Parts.{ring_of, plan_of, Meets, IsSound, IsSized, Follows, Tests, Passes, Answers};
+ghost use Rattle.store_parts.specs.Parts.{Stays};
 
 use crate::chunk_keepers::least_keeper;
 use crate::kinds::has_copy;
@@ -16,7 +16,7 @@ use crate::sources::give_source;
 use plan_runs::Reply;
 use plan_text::Step;
 use ring_names::Refusal;
-use store_tells::Parts;
+use store_parts::Parts;
 
 fn has_chunk(parts: &Parts, step: u32, chunk: u32) -> bool
     ensures { result ≡ (has_copy (plan_of parts.now) step && nat_lt chunk 16) }

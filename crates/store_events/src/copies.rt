@@ -3,14 +3,14 @@
 ghost use Rattle.std.specs.Prelude.{◌≡◌};
 ghost use Rattle.plan_stage.specs.Clauses.{first_failing};
 ghost use Rattle.plan_runs.specs.declared.event.Event.TheVariants.{OpenCopy, CloseCopy, AbortCopy};
-ghost use Rattle.store_tells.specs.GuardsKept.{abort_copy_guards_kept};
-ghost use Rattle.store_tells.specs.Parts.{plan_of, IsSound, Tests, Passes, Answers, Follows};
+ghost use Rattle.store_parts.specs.GuardsKept.{abort_copy_guards_kept};
+ghost use Rattle.store_parts.specs.Parts.{plan_of, IsSound, Tests, Passes, Answers, Follows};
 
 use crate::kinds::{has_copy, is_ready};
 use crate::parties::party_refusal;
 use plan_runs::Reply;
 use ring_names::Refusal;
-use store_tells::Parts;
+use store_parts::Parts;
 
 /// Returns why the copy cannot open now: `UnknownNumber` without such a copy, or `AlreadyDone` if finished or open.
 ///

@@ -6,13 +6,13 @@ ghost use Rattle.plan_text.specs.Steps.{is_slot};
 ghost use Rattle.plan_text.specs.Valid.{is_ring_slot};
 ghost use Rattle.ring_hints.specs.Hints.{hinted_at};
 ghost use Rattle.store_events.specs.Groups.{RaisesGroups};
-ghost use Rattle.store_tables.specs.Slots.{slot_now};
+ghost use Rattle.store_parts.specs.Slots.{slot_now};
 
 use crate::served::is_served;
 use ring_hints::Hints;
 use ring_names::{NodeId, Slot};
 use ring_table::Ring;
-use store_tables::Slots;
+use store_parts::Slots;
 
 fn raise_group(slots: &mut Slots, hints: &Hints, slot: Slot, node: NodeId)
     requires { IfSome (slot_now slots.old slot) (λ x. x.generation < 4294967295) }

@@ -3,13 +3,13 @@
 ghost use Rattle.std.specs.Prelude.{◌≡◌, IfOk, IfErr, OnErr};
 ghost use Rattle.ring_names.specs.declared.refusal.Refusal.TheVariants.{OutOfMemory};
 ghost use Rattle.plan_runs.specs.declared.event.Event.TheVariants.{Handoff};
-ghost use Rattle.store_tells.specs.Parts.{IsSound, Follows, Tests, Passes, Answers, Stays};
+ghost use Rattle.store_parts.specs.Parts.{IsSound, Follows, Tests, Passes, Answers, Stays};
 
 use crate::served::served_refusal;
 use plan_runs::Reply;
 use ring_hints::KeptFor;
 use ring_names::{NodeId, Refusal, Slot};
-use store_tells::Parts;
+use store_parts::Parts;
 
 /// Returns why a handoff is refused now: the slot is unknown, the node keeps nothing for it, or node, owner or mirror
 /// is down.

@@ -3,15 +3,15 @@
 ghost use Rattle.std.specs.Prelude.{◌≡◌, IfOk, IfErr, OnErr};
 ghost use Rattle.ring_names.specs.declared.refusal.Refusal.TheVariants.{OutOfMemory};
 ghost use Rattle.plan_runs.specs.declared.event.Event.TheVariants.{Hint};
-ghost use Rattle.store_tells.specs.GuardsKept.{serves_in_kept};
-ghost use Rattle.store_tells.specs.Parts.{ring_of, IsSound, Follows, Tests, Passes, Answers, Stays};
+ghost use Rattle.store_parts.specs.GuardsKept.{serves_in_kept};
+ghost use Rattle.store_parts.specs.Parts.{ring_of, IsSound, Follows, Tests, Passes, Answers, Stays};
 
 use crate::served::is_served;
 use crate::targets::put_slot;
 use plan_runs::Reply;
 use ring_hints::KeptFor;
 use ring_names::{NodeId, Refusal, Slot};
-use store_tells::Parts;
+use store_parts::Parts;
 
 fn serves_in(parts: &Parts, partition: u32, node: NodeId) -> bool
     ensures { result ≡ serves_in_kept (ring_of parts.now) parts.now.slots partition node.0 }

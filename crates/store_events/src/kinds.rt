@@ -4,13 +4,12 @@ ghost use Rattle.std.specs.Prelude.{◌≡◌, ◌<◌, length, is_some};
 ghost use Rattle.std.specs.List.{list_all};
 ghost use Rattle.plan_text.specs.Steps.{copy_of};
 ghost use Rattle.plan_runs.specs.Guards.{has_copy, has_other};
-ghost use Rattle.store_tables.specs.Steps.{is_done_at};
-ghost use Rattle.store_tells.specs.GuardsKept.{is_ready_kept};
-ghost use Rattle.store_tells.specs.Parts.{plan_of};
+ghost use Rattle.store_parts.specs.Steps.{is_done_at};
+ghost use Rattle.store_parts.specs.GuardsKept.{is_ready_kept};
+ghost use Rattle.store_parts.specs.Parts.{plan_of};
 
 use plan_text::Step;
-use store_tables::Steps;
-use store_tells::Parts;
+use store_parts::{Parts, Steps};
 
 fn is_copy(step: &Step) -> bool
     ensures { result ≡ is_some (copy_of step.now) }

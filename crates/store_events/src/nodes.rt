@@ -1,12 +1,12 @@
 //! Nodes that go down, come up, or lose their data.
 
 ghost use Rattle.plan_runs.specs.declared.event.Event.TheVariants.{Down, Up, Lose};
-ghost use Rattle.store_tells.specs.Parts.{IsSound, Tests, Passes, Answers, Follows};
+ghost use Rattle.store_parts.specs.Parts.{IsSound, Tests, Passes, Answers, Follows};
 
 use crate::groups::raise_groups;
 use plan_runs::Reply;
 use ring_names::{NodeId, Refusal};
-use store_tells::Parts;
+use store_parts::Parts;
 
 /// Returns why the node cannot go down now: `NotMember`, or `AlreadyDone` if down.
 pub fn down_refusal(parts: &Parts, node: NodeId) -> Option<Refusal>

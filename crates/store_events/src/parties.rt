@@ -5,13 +5,13 @@ ghost use Rattle.plan_stage.specs.Clauses.{first_failing};
 ghost use Rattle.plan_runs.specs.Guards.{has_copy, parties_up};
 ghost use Rattle.plan_runs.specs.Reached.{Ready};
 ghost use Rattle.plan_runs.specs.World.{World, slot_at};
-ghost use Rattle.store_tables.specs.Nodes.{is_up_at};
-ghost use Rattle.store_tells.specs.Parts.{Meets, IsSound, ring_of, plan_of};
+ghost use Rattle.store_parts.specs.Nodes.{is_up_at};
+ghost use Rattle.store_parts.specs.Parts.{Meets, IsSound, ring_of, plan_of};
 ghost use Rattle.store_events.specs.Parties.{owner_kept, party_kept, with_down, least_down};
 
 use plan_text::{Source, Step};
 use ring_names::{NodeId, Refusal, Slot};
-use store_tells::Parts;
+use store_parts::Parts;
 
 /// Returns `NodeDown` with the least down node among the slot's mirror and the owners of the slots read.
 pub(crate) fn party_refusal(parts: &Parts, step: u32) -> Option<Refusal>

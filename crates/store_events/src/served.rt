@@ -2,11 +2,10 @@
 
 ghost use Rattle.std.specs.Prelude.{◌≡◌};
 ghost use Rattle.plan_stage.specs.Clauses.{first_failing};
-ghost use Rattle.store_tells.specs.GuardsKept.{is_served_kept, served_up_kept};
+ghost use Rattle.store_parts.specs.GuardsKept.{is_served_kept, served_up_kept};
 
 use ring_names::{NodeId, Refusal, Slot};
-use store_tables::Slots;
-use store_tells::Parts;
+use store_parts::{Parts, Slots};
 
 pub(crate) fn is_served(slots: &Slots, slot: Slot, node: NodeId) -> bool
     ensures { result ≡ is_served_kept slots.now slot node.0 }

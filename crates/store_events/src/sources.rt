@@ -5,13 +5,13 @@ ghost use Rattle.std.specs.List.{list_any};
 ghost use Rattle.ring_names.specs.declared.refusal.Refusal.TheVariants.{OutOfMemory};
 ghost use Rattle.store_maps.specs.Held.{held};
 ghost use Rattle.store_maps.specs.Ids.{of_chunk};
-ghost use Rattle.store_tells.specs.Numbers.{in_part, ArePlaced};
-ghost use Rattle.store_tells.specs.Puts.{clock_at};
+ghost use Rattle.store_parts.specs.Numbers.{in_part, ArePlaced};
+ghost use Rattle.store_parts.specs.PutsMeet.{clock_at};
 ghost use Rattle.plan_text.specs.declared.step.Source.TheVariants.{Owner, Slots};
 ghost use Rattle.plan_runs.specs.Effects.{source_has};
 ghost use Rattle.plan_runs.specs.Versions.{some_hinted, slot_has};
 ghost use Rattle.plan_runs.specs.World.{World, slot_at, stage_now};
-ghost use Rattle.store_tells.specs.Parts.{ring_of, plan_of, Meets, IsSound, IsSized, Follows, Stays};
+ghost use Rattle.store_parts.specs.Parts.{ring_of, plan_of, Meets, IsSound, IsSized, Follows, Stays};
 ghost use Rattle.store_events.specs.Parties.{mirror_kept};
 ghost use Rattle.store_events.specs.Sources.{ShowsChunk, Takes, Gives, are_kept, is_kept, reads_kept};
 
@@ -20,7 +20,7 @@ use ring_hints::KeptFor;
 use ring_names::{NodeId, Refusal, Slot};
 use std::collections::BTreeSet;
 use store_maps::KeyMap;
-use store_tells::Parts;
+use store_parts::Parts;
 
 fn add_owner(parts: &Parts, read: &mut KeyMap, slot: Slot, chunk: u32) -> Result<(), Refusal>
     requires chunk { chunk < 16 }

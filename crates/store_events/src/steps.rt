@@ -6,14 +6,14 @@ ghost use Rattle.plan_stage.specs.Clauses.{first_failing};
 ghost use Rattle.plan_runs.specs.declared.event.Event.TheVariants.{Do};
 ghost use Rattle.plan_runs.specs.Guards.{step_guards};
 ghost use Rattle.plan_runs.specs.World.{World};
-ghost use Rattle.store_tells.specs.Parts.{Meets, IsSized, IsSound, Tests, Passes, Answers, Follows, ring_of, kept_of};
+ghost use Rattle.store_parts.specs.Parts.{Meets, IsSized, IsSound, Tests, Passes, Answers, Follows, ring_of, kept_of};
 ghost use Rattle.store_events.specs.Acts.{Acts};
 
 use crate::kinds::{has_other, is_ready};
 use plan_runs::Reply;
 use plan_text::Step;
 use ring_names::Refusal;
-use store_tells::Parts;
+use store_parts::Parts;
 
 /// Returns why the step cannot be done now: `UnknownNumber` without such a step or for a copy, or `AlreadyDone`.
 ///

@@ -2,10 +2,10 @@
 
 ghost use Rattle.plan_runs.specs.World.{World};
 ghost use Rattle.store_events.specs.Targets.{IsPutSlot};
-ghost use Rattle.store_tells.specs.Parts.{ring_of, Meets, IsSound};
+ghost use Rattle.store_parts.specs.Parts.{ring_of, Meets, IsSound};
 
 use ring_names::Slot;
-use store_tells::Parts;
+use store_parts::Parts;
 
 /// Returns the indexed slot of the put's partition, if both exist.
 pub(crate) fn put_slot(parts: &Parts, put: u32, index: u32) -> Option<Slot>

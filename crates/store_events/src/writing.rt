@@ -3,14 +3,14 @@
 ghost use Rattle.std.specs.Prelude.{◌≡◌, IfOk, IfErr, OnErr};
 ghost use Rattle.ring_names.specs.declared.refusal.Refusal.TheVariants.{OutOfMemory};
 ghost use Rattle.plan_runs.specs.declared.event.Event.TheVariants.{Write};
-ghost use Rattle.store_tells.specs.Parts.{IsSound, Follows, Tests, Passes, Answers, Stays};
+ghost use Rattle.store_parts.specs.Parts.{IsSound, Follows, Tests, Passes, Answers, Stays};
 
 use crate::served::served_refusal;
 use crate::targets::put_slot;
 use plan_runs::Reply;
 use ring_names::{Refusal, Slot};
 use ring_store::SlotKey;
-use store_tells::Parts;
+use store_parts::Parts;
 
 /// Returns why a write is refused now: put or slot is unknown, or the owner or mirror is down.
 pub fn write_refusal(parts: &Parts, put: u32, index: u32) -> Option<Refusal>

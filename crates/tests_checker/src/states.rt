@@ -7,7 +7,7 @@ use ring_table::Ring;
 use ring_versions::{Found, Versions};
 use std::process::Abort;
 use std::test::Fail;
-use store_tables::{GetNow, Gets, Keys, Lasts, Marks, Nodes, PutNow, Puts, Slots, Steps};
+use store_parts::{GetNow, Gets, Keys, Lasts, Marks, Nodes, PutNow, Puts, Slots, Steps};
 
 const SLOT: Slot = Slot {
     partition: 0,

@@ -1,7 +1,7 @@
 use Rattle.std.proofs.Common.{sym, subst, List}
-use Rattle.store_tells.specs.Kept.{Tells}
-use Rattle.store_tells.specs.Parts.{ring_of, plan_of, kept_of}
-use Rattle.store_tables.specs.declared.puts.PutNow.{PutNow}
+use Rattle.store_parts.specs.Kept.{Tells}
+use Rattle.store_parts.specs.Parts.{ring_of, plan_of, kept_of}
+use Rattle.store_parts.specs.declared.puts.PutNow.{PutNow}
 use Rattle.store_clients.proofs.Acknowledgements.{acked_on}
 use Rattle.store_clients.proofs.acks.ack.Goals as goal
 

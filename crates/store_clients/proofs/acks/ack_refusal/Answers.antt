@@ -6,8 +6,8 @@ use Rattle.ring_space.specs.Place.{place_of}
 use Rattle.ring_table.specs.Value.{RingValue}
 use Rattle.plan_stage.specs.Clauses.{first_failing}
 use Rattle.plan_runs.specs.World.{passing_below}
-use Rattle.store_tells.specs.Parts.{ring_of, plan_of, kept_of}
-use Rattle.store_tells.proofs.StoreInWorld.{holds}
+use Rattle.store_parts.specs.Parts.{ring_of, plan_of, kept_of}
+use Rattle.store_parts.proofs.StoreInWorld.{holds}
 use Rattle.store_clients.specs.Acks.{is_current_in}
 use Rattle.store_clients.proofs.Acknowledgements.{no_put, put_key_there, put_tested}
 use Rattle.store_clients.proofs.acks.ack_refusal.Goals as goal

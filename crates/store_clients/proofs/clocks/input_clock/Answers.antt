@@ -1,8 +1,8 @@
 use Rattle.std.proofs.Common.{List, sym, subst}
 use Rattle.ring_clock.specs.declared.entry.Entry.{Entry}
-use Rattle.store_tells.specs.Found.{IsJoinOfFound}
-use Rattle.store_tells.specs.Gets.{found_at}
-use Rattle.store_tells.specs.Puts.{clock_at}
+use Rattle.store_parts.specs.Found.{IsJoinOfFound}
+use Rattle.store_parts.specs.GetsMeet.{found_at}
+use Rattle.store_parts.specs.PutsMeet.{clock_at}
 use Rattle.store_clients.proofs.ClocksRaised.{joined_found, joined_last}
 use Rattle.store_clients.proofs.clocks.input_clock.Goals.{in-Some+in_ok-raise_to_put, in_default}
 use Rattle.store_clients.proofs.clocks.input_clock.Goals as goal

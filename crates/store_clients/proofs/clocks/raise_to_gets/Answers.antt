@@ -1,4 +1,4 @@
-use Rattle.store_tells.specs.Gets.{found_at}
+use Rattle.store_parts.specs.GetsMeet.{found_at}
 use Rattle.store_clients.specs.Clocks.{IsFoundClock}
 use Rattle.store_clients.proofs.ClocksRaised.{raised_none, raised_all, none_found, get_raised}
 use Rattle.store_clients.proofs.clocks.raise_to_gets.Goals as goal

@@ -1,5 +1,5 @@
 use Rattle.std.proofs.Common.{length}
-use Rattle.store_tells.specs.Gets.{found_at}
+use Rattle.store_parts.specs.GetsMeet.{found_at}
 use Rattle.store_clients.specs.Clocks.{IsFoundClock}
 use Rattle.store_clients.proofs.ClocksRaised.{RaisedBut}
 use Rattle.store_clients.proofs.clocks.raise_to_gets.Given as goal

@@ -1,7 +1,7 @@
 use Rattle.std.proofs.Common.{◌≡◌, ◌∙◌, ℕ, ap}
 use Rattle.ring_table.specs.Value.{RingValue}
 use Rattle.plan_stage.specs.Clauses.{first_failing}
-use Rattle.store_tells.specs.Parts.{ring_of, plan_of, kept_of}
+use Rattle.store_parts.specs.Parts.{ring_of, plan_of, kept_of}
 use Rattle.store_clients.specs.Gets.{end_guards_kept}
 use Rattle.store_clients.proofs.GetsStartEnd.{end_tested}
 use Rattle.store_clients.proofs.gets.end_refusal.Goals as goal

@@ -1,10 +1,10 @@
 use Rattle.std.proofs.Common.{◌∙◌, ℕ, List, refl, sym, ap, subst}
 use Rattle.std.specs.Prelude.{Some, None, Ok}
 use Rattle.plan_runs.specs.declared.event.Reply.TheVariants as reply
-use Rattle.store_tables.specs.declared.gets.GetNow.{GetNow}
+use Rattle.store_parts.specs.declared.gets.GetNow.{GetNow}
 use Rattle.store_maps.proofs.OneAnswer.{always_err}
-use Rattle.store_tells.specs.Kept.{Tells}
-use Rattle.store_tells.specs.Parts.{ring_of, plan_of, kept_of}
+use Rattle.store_parts.specs.Kept.{Tells}
+use Rattle.store_parts.specs.Parts.{ring_of, plan_of, kept_of}
 use Rattle.store_clients.proofs.GetsStartEnd.{started_on}
 use Rattle.store_clients.proofs.KeysNumbered.{kept_by, named_still, sized_still}
 use Rattle.store_clients.proofs.gets.start_get.Goals as goal

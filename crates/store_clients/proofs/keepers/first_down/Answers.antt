@@ -1,6 +1,6 @@
 use Rattle.std.proofs.Common.{◌∙◌, ℕ, inl, inr, sym}
 use Rattle.ring_hints.specs.Hints.{hinted_at}
-use Rattle.store_tables.specs.Nodes.{is_up_at}
+use Rattle.store_parts.specs.Nodes.{is_up_at}
 use Rattle.store_clients.proofs.SlotKeepers.{passing_more, passing_stops, has_some, has_none}
 use Rattle.store_clients.proofs.keepers.first_down.Goals.{else-is_some-via-then-is_some+else-not-is_up, else-is_some-via-else-is_some}
 use Rattle.store_clients.proofs.keepers.first_down.Goals as goal

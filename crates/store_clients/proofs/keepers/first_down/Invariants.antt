@@ -1,5 +1,5 @@
 use Rattle.ring_hints.specs.Hints.{hinted_at}
-use Rattle.store_tables.specs.Nodes.{is_up_at}
+use Rattle.store_parts.specs.Nodes.{is_up_at}
 use Rattle.store_clients.proofs.SlotKeepers.{Passing}
 use Rattle.store_clients.proofs.keepers.first_down.Given as goal
 

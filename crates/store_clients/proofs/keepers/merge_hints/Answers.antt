@@ -2,7 +2,7 @@ use Rattle.std.proofs.Common.{◌≡◌, ℕ, List, [], sym, subst, rules}
 use Rattle.ring_names.specs.declared.ids.NodeId.{NodeId}
 use Rattle.ring_versions.specs.declared.version.Version.{Version}
 use Rattle.ring_versions.specs.Versions.{IsMerge}
-use Rattle.store_tells.proofs.ShownSets.{with_none}
+use Rattle.store_parts.proofs.ShownSets.{with_none}
 use Rattle.ring_hints.specs.Hints.{hinted_at}
 use Rattle.store_clients.proofs.SlotKeepers.{Merging, merging_none, merging_more, merging_all}
 use Rattle.store_clients.specs.Keepers.{JoinIsAtMost}

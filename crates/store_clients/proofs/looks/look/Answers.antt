@@ -3,11 +3,11 @@ use Rattle.std.specs.Prelude.{Some, slice_get, option_map}
 use Rattle.std.proofs.Props.{props}
 use Rattle.ring_space.specs.Place.{place_of}
 use Rattle.plan_runs.specs.World.{slot_at}
-use Rattle.store_tells.specs.Parts.{ring_of, plan_of, kept_of}
-use Rattle.store_tells.proofs.StoreInWorld.{holds}
+use Rattle.store_parts.specs.Parts.{ring_of, plan_of, kept_of}
+use Rattle.store_parts.proofs.StoreInWorld.{holds}
 use Rattle.ring_store.specs.Stores.{held_at}
 use Rattle.ring_hints.specs.Hints.{hinted_at}
-use Rattle.store_tells.proofs.Numbers.{id_named}
+use Rattle.store_parts.proofs.Numbers.{id_named}
 use Rattle.store_clients.specs.Keepers.{JoinsTell, MergesOthers}
 use Rattle.store_clients.proofs.SlotHasOfKey.{get_key_there, reads_there, finds_shown, at_number, at_key}
 use Rattle.store_clients.proofs.SlotJoins.{joins_tell}

@@ -1,7 +1,7 @@
 use Rattle.std.proofs.Common.{◌∙◌, ℕ, List, sym, ap}
 use Rattle.ring_names.specs.Names.{place}
 use Rattle.plan_stage.specs.Clauses.{first_failing}
-use Rattle.store_tells.specs.Parts.{ring_of, plan_of, kept_of}
+use Rattle.store_parts.specs.Parts.{ring_of, plan_of, kept_of}
 use Rattle.store_clients.specs.Puts.{seen_guards_kept}
 use Rattle.store_clients.proofs.PutStarts.{known_key, none_named, some_named}
 use Rattle.store_clients.proofs.NumberTests.{none_listed, some_listed}

@@ -2,12 +2,12 @@ use Rattle.std.proofs.Common.{◌∙◌, ℕ, List, refl, sym, ap, subst, arith}
 use Rattle.std.specs.Prelude.{Some, Ok}
 use Rattle.std.proofs.Props.{props}
 use Rattle.plan_runs.specs.declared.event.Reply.TheVariants as reply
-use Rattle.store_tables.specs.declared.puts.PutNow.{PutNow}
-use Rattle.store_tables.specs.Lasts.{last_of}
+use Rattle.store_parts.specs.declared.puts.PutNow.{PutNow}
+use Rattle.store_parts.specs.Lasts.{last_of}
 use Rattle.store_maps.proofs.OneAnswer.{always_err}
-use Rattle.store_tells.specs.Kept.{Tells}
-use Rattle.store_tells.specs.Parts.{ring_of, plan_of, kept_of}
-use Rattle.store_tells.proofs.StoreInWorld.{holds}
+use Rattle.store_parts.specs.Kept.{Tells}
+use Rattle.store_parts.specs.Parts.{ring_of, plan_of, kept_of}
+use Rattle.store_parts.proofs.StoreInWorld.{holds}
 use Rattle.store_clients.specs.Puts.{IsNewPut}
 use Rattle.store_clients.proofs.CountersFew.{few_joined}
 use Rattle.store_clients.proofs.KeysNumbered.{kept_by, named_still, sized_still}

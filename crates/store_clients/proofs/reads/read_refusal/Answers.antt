@@ -6,11 +6,11 @@ use Rattle.ring_table.specs.Value.{RingValue}
 use Rattle.ring_hints.specs.Hints.{hinted_at}
 use Rattle.ring_versions.specs.declared.version.Version.{Version}
 use Rattle.plan_runs.specs.World.{slot_at}
-use Rattle.store_tables.specs.Nodes.{is_up_at}
+use Rattle.store_parts.specs.Nodes.{is_up_at}
 use Rattle.store_clients.specs.Reads.{StopsRead}
-use Rattle.store_tells.proofs.Numbers.{id_named, others_named}
-use Rattle.store_tells.specs.Parts.{ring_of, plan_of, kept_of}
-use Rattle.store_tells.proofs.StoreInWorld.{holds}
+use Rattle.store_parts.proofs.Numbers.{id_named, others_named}
+use Rattle.store_parts.specs.Parts.{ring_of, plan_of, kept_of}
+use Rattle.store_parts.proofs.StoreInWorld.{holds}
 use Rattle.store_clients.proofs.SlotHasOfKey.{get_key_there}
 use Rattle.store_clients.proofs.SlotReads.{no_get, no_slot, get_ended, slot_read, nodes_stop}
 use Rattle.store_clients.proofs.reads.read_refusal.Goals.{In-Some, After-n}

@@ -1,10 +1,10 @@
 use Rattle.std.proofs.Common.{◌∙◌, sym, subst}
 use Rattle.std.specs.Prelude.{Option}
 use Rattle.ring_names.specs.declared.ids.NodeId.{NodeId}
-use Rattle.store_tables.specs.Nodes.{is_up_at}
-use Rattle.store_tells.specs.Parts.{ring_of}
+use Rattle.store_parts.specs.Nodes.{is_up_at}
+use Rattle.store_parts.specs.Parts.{ring_of}
 use Rattle.store_events.specs.ChunkKeepers.{keeps_part}
-use Rattle.store_tells.specs.LeastDown.{IsLeastDown}
+use Rattle.store_parts.specs.LeastDown.{IsLeastDown}
 use Rattle.store_events.proofs.LeastKeeperDown.{less_none, less_first, less_old, less_new, chunk_kept}
 use Rattle.store_events.proofs.chunk_keepers.with_keeper.Goals as goal
 

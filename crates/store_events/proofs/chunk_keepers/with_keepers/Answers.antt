@@ -2,7 +2,7 @@ use Rattle.std.proofs.Common.{List, sym, subst}
 use Rattle.std.specs.Prelude.{◌&&◌, ◌==◌, ℕ}
 use Rattle.ring_names.specs.declared.ids.NodeId.{NodeId}
 use Rattle.plan_runs.specs.World.{World}
-use Rattle.store_tells.specs.Parts.{ring_of}
+use Rattle.store_parts.specs.Parts.{ring_of}
 use Rattle.store_events.specs.ChunkKeepers.{keeps_part}
 use Rattle.store_events.proofs.LeastKeeperDown.{Lessening, lessening_first, lessening_more, lessening_all}
 use Rattle.store_events.proofs.chunk_keepers.with_keepers.Goals as goal

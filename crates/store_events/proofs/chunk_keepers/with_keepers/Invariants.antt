@@ -1,5 +1,5 @@
 use Rattle.std.specs.Prelude.{◌&&◌, ◌==◌}
-use Rattle.store_tells.specs.Parts.{ring_of}
+use Rattle.store_parts.specs.Parts.{ring_of}
 use Rattle.store_events.specs.ChunkKeepers.{keeps_part}
 use Rattle.store_events.proofs.LeastKeeperDown.{Lessening}
 use Rattle.store_events.proofs.chunk_keepers.with_keepers.Given as goal

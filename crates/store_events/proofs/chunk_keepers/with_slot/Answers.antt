@@ -1,6 +1,6 @@
 use Rattle.std.specs.List.{list_any}
 use Rattle.std.specs.Prelude.{◌&&◌, ◌==◌}
-use Rattle.store_tells.specs.Parts.{ring_of, plan_of, kept_of}
+use Rattle.store_parts.specs.Parts.{ring_of, plan_of, kept_of}
 use Rattle.store_events.specs.ChunkKeepers.{keeps_part}
 use Rattle.store_events.proofs.LeastKeeperDown.{lessens_same, lessens_no, keepers_keep, keepers_named, none_keep, none_kept}
 use Rattle.store_events.proofs.chunk_keepers.with_slot.Goals as goal

@@ -1,6 +1,6 @@
 use Rattle.std.specs.Prelude.{ℕ, None}
 use Rattle.plan_runs.specs.World.{World, slot_at}
-use Rattle.store_tells.specs.Parts.{ring_of}
+use Rattle.store_parts.specs.Parts.{ring_of}
 use Rattle.store_events.specs.ChunkKeepers.{keeps_part}
 use Rattle.store_events.proofs.ChunkSources.{none_left}
 use Rattle.store_events.proofs.LeastKeeperDown.{lessening_first, lessening_more, lessening_all}

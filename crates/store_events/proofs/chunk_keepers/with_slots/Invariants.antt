@@ -1,7 +1,7 @@
 use Rattle.std.proofs.Common.{length}
 use Rattle.std.specs.Prelude.{None}
 use Rattle.plan_runs.specs.World.{slot_at}
-use Rattle.store_tells.specs.Parts.{ring_of}
+use Rattle.store_parts.specs.Parts.{ring_of}
 use Rattle.store_events.specs.ChunkKeepers.{keeps_part}
 use Rattle.store_events.proofs.LeastKeeperDown.{Lessening}
 use Rattle.store_events.proofs.chunk_keepers.with_slots.Given as goal

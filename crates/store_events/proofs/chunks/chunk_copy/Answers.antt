@@ -2,9 +2,9 @@ use Rattle.std.proofs.Common.{◌∙◌, sym, ap, subst}
 use Rattle.std.specs.Prelude.{Some, option_and_then}
 use Rattle.plan_text.specs.declared.step.Step.{Step}
 use Rattle.plan_check.specs.Approval.{Approval}
-use Rattle.store_tables.specs.declared.slots.SlotNow.{SlotNow}
-use Rattle.store_tells.specs.Kept.{Tells}
-use Rattle.store_tells.specs.Parts.{ring_of, plan_of, kept_of}
+use Rattle.store_parts.specs.declared.slots.SlotNow.{SlotNow}
+use Rattle.store_parts.specs.Kept.{Tells}
+use Rattle.store_parts.specs.Parts.{ring_of, plan_of, kept_of}
 use Rattle.store_events.proofs.RequiresMet.{copy_there, is_no_other}
 use Rattle.store_events.proofs.StepsOn.{read_at, read_within}
 use Rattle.store_events.proofs.ChunkCopies.{copy_known, chunk_few, slot_known, source_known, kept_there, given, copied_nowhere}

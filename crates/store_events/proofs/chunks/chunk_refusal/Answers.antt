@@ -2,7 +2,7 @@ use Rattle.std.proofs.Common.{◌∙◌, sym, ltb-true}
 use Rattle.std.specs.Prelude.{nat_lt}
 use Rattle.std.proofs.lemmas.Bool.{and_parts}
 use Rattle.plan_runs.specs.Guards.{has_copy}
-use Rattle.store_tells.specs.Parts.{plan_of}
+use Rattle.store_parts.specs.Parts.{plan_of}
 use Rattle.store_events.proofs.ChunkTests.{chunk_unknown, chunk_not_open, chunk_ready, chunk_done, chunk_party, chunk_keepers}
 use Rattle.store_events.proofs.chunks.chunk_refusal.Goals as goal
 

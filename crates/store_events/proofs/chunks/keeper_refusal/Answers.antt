@@ -3,7 +3,7 @@ use Rattle.std.specs.Prelude.{Option, Some, option_map}
 use Rattle.ring_names.specs.declared.ids.NodeId.{NodeId}
 use Rattle.ring_names.specs.declared.refusal.Refusal.TheVariants.{NodeDown}
 use Rattle.plan_text.specs.declared.step.Step.{Step}
-use Rattle.store_tells.specs.Parts.{plan_of}
+use Rattle.store_parts.specs.Parts.{plan_of}
 use Rattle.store_events.proofs.RequiresMet.{copy_there, is_no_other}
 use Rattle.store_events.proofs.StepsOn.{read_at, read_within}
 use Rattle.store_events.proofs.ChunkTests.{keepers_tested}

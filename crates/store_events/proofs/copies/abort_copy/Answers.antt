@@ -1,5 +1,5 @@
 use Rattle.std.proofs.Common.{sym, refl}
-use Rattle.store_tells.specs.Parts.{ring_of, plan_of, kept_of}
+use Rattle.store_parts.specs.Parts.{ring_of, plan_of, kept_of}
 use Rattle.store_events.proofs.CopiesOn.{abort_on}
 use Rattle.store_events.proofs.copies.abort_copy.Goals as goal
 

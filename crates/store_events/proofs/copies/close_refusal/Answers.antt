@@ -3,9 +3,9 @@ use Rattle.std.specs.Prelude.{◌==◌, Some, None}
 use Rattle.ring_names.specs.declared.refusal.Refusal.TheVariants.{UnknownNumber, NotOpen, ChunksLeft}
 use Rattle.plan_stage.specs.Clauses.{first_failing, Guard}
 use Rattle.plan_runs.specs.Guards.{has_copy}
-use Rattle.store_tables.specs.Steps.{is_open_at}
-use Rattle.store_tells.specs.GuardsKept.{chunks_left_kept}
-use Rattle.store_tells.specs.Parts.{plan_of}
+use Rattle.store_parts.specs.Steps.{is_open_at}
+use Rattle.store_parts.specs.GuardsKept.{chunks_left_kept}
+use Rattle.store_parts.specs.Parts.{plan_of}
 use Rattle.store_events.proofs.EventTests.{close_tested, marked_most, third_later, third_decides}
 use Rattle.store_events.proofs.copies.close_refusal.Goals as goal
 

@@ -1,9 +1,9 @@
 use Rattle.std.proofs.Common.{◌∙◌, sym}
 use Rattle.std.proofs.lemmas.Bool.{or_right, or_from, or_left}
 use Rattle.plan_runs.proofs.Passed.{ready}
-use Rattle.store_tables.specs.Steps.{is_done_at, is_open_at}
-use Rattle.store_tells.proofs.StageGuards.{ready_kept}
-use Rattle.store_tells.specs.Parts.{plan_of}
+use Rattle.store_parts.specs.Steps.{is_done_at, is_open_at}
+use Rattle.store_parts.proofs.StageGuards.{ready_kept}
+use Rattle.store_parts.specs.Parts.{plan_of}
 use Rattle.store_events.proofs.RequiresMet.{copy_there}
 use Rattle.store_events.proofs.EventTests.{open_unknown, open_done, open_unready, open_ready}
 use Rattle.store_events.proofs.copies.open_refusal.Goals.{then-is_done-via-then-is_done, then-is_done-via-else-is_done+then-is_open}

@@ -1,7 +1,7 @@
 use Rattle.std.proofs.Common.{◌∙◌, sym, refl}
 use Rattle.std.proofs.lemmas.Bool.{or_right, or_left}
 use Rattle.ring_hints.specs.Hints.{hinted_at}
-use Rattle.store_tells.specs.GuardsKept.{is_served_kept}
+use Rattle.store_parts.specs.GuardsKept.{is_served_kept}
 use Rattle.store_events.proofs.GroupsRaised.{group_raised, group_left}
 use Rattle.store_events.proofs.groups.raise_group.Goals.{then-keeps-via-then-keeps, then-keeps-via-else-keeps+then-is_served}
 use Rattle.store_events.proofs.groups.raise_group.Goals as goal

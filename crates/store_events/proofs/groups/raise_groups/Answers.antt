@@ -1,7 +1,7 @@
 use Rattle.std.proofs.Common.{◌≡◌, ◌<◌, ℕ, ◌+◌, ◌∙◌, sym, subst, arith}
 use Rattle.std.specs.Prelude.{Option, IfSome}
 use Rattle.ring_hints.specs.Hints.{hinted_at}
-use Rattle.store_tables.specs.declared.slots.SlotNow.{SlotNow}
+use Rattle.store_parts.specs.declared.slots.SlotNow.{SlotNow}
 use Rattle.store_events.specs.Groups.{RaisesGroups}
 use Rattle.store_events.proofs.GroupsRaised.{in_row, in_rows, none_raised, more_raised, rows_none, rows_at, rows_next, rows_more}
 use Rattle.store_events.proofs.groups.raise_groups.Goals as goal

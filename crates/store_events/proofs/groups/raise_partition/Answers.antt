@@ -3,7 +3,7 @@ use Rattle.std.specs.Prelude.{Option, IfSome}
 use Rattle.ring_names.specs.declared.ids.Slot.{Slot}
 use Rattle.plan_text.specs.Steps.{is_slot}
 use Rattle.ring_hints.specs.Hints.{hinted_at}
-use Rattle.store_tables.specs.declared.slots.SlotNow.{SlotNow}
+use Rattle.store_parts.specs.declared.slots.SlotNow.{SlotNow}
 use Rattle.store_events.specs.Groups.{RaisesGroups}
 use Rattle.store_events.proofs.GroupsRaised.{in_row, none_raised, more_raised, row_none, row_at, row_next, row_more}
 use Rattle.store_events.proofs.groups.raise_partition.Goals as goal

@@ -1,17 +1,17 @@
 use Rattle.std.proofs.Common.{inl, ◌∙◌, ℕ, List, refl, sym, subst}
 use Rattle.ring_names.specs.declared.ids.Slot.{Slot}
 use Rattle.ring_versions.specs.declared.version.Version.{Version}
-use Rattle.store_tells.specs.Kept.{Tells}
+use Rattle.store_parts.specs.Kept.{Tells}
 use Rattle.store_maps.proofs.OneAnswer.{always_err}
 use Rattle.std.proofs.Props.{props}
 use Rattle.store_maps.specs.Slots.{held_for}
 use Rattle.ring_store.specs.Stores.{held_at}
 use Rattle.ring_hints.specs.Hints.{hinted_at}
-use Rattle.store_tells.specs.Parts.{ring_of, plan_of, kept_of}
-use Rattle.store_tells.proofs.StoreInWorld.{holds}
+use Rattle.store_parts.specs.Parts.{ring_of, plan_of, kept_of}
+use Rattle.store_parts.proofs.StoreInWorld.{holds}
 use Rattle.ring_hints.specs.Views.{is_of, pair_of}
-use Rattle.store_tells.specs.Numbers.{by_bytes, by_keys}
-use Rattle.store_tells.proofs.Numbers.{given, kept_as, placed_as, placed_given, placed_less, same}
+use Rattle.store_parts.specs.Numbers.{by_bytes, by_keys}
+use Rattle.store_parts.proofs.Numbers.{given, kept_as, placed_as, placed_given, placed_less, same}
 use Rattle.store_events.proofs.LeastKeeperDown.{none_kept}
 use Rattle.store_events.proofs.ShownLeft.{forgets_named, placed_left}
 use Rattle.store_events.proofs.RequiresMet.{slot_ready, mirror_ready}

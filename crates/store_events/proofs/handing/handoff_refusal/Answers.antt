@@ -1,8 +1,8 @@
 use Rattle.std.proofs.Common.{◌∙◌, not, sym, ap}
 use Rattle.std.specs.Prelude.{is_some}
 use Rattle.plan_runs.specs.World.{keeps}
-use Rattle.store_tells.specs.Parts.{ring_of, plan_of, kept_of}
-use Rattle.store_tells.proofs.WhoKeepsHints.{keeps_tells, both_tell}
+use Rattle.store_parts.specs.Parts.{ring_of, plan_of, kept_of}
+use Rattle.store_parts.proofs.WhoKeepsHints.{keeps_tells, both_tell}
 use Rattle.store_events.proofs.LeastKeeperDown.{keeps_named}
 use Rattle.store_events.proofs.PutAndSlot.{kept_in_ring}
 use Rattle.store_events.proofs.FirstRefusal.{handoff_no_slot, handoff_not_kept, handoff_down, handoff_last}

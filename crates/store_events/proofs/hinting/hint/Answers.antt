@@ -10,12 +10,12 @@ use Rattle.plan_runs.specs.Answers.{answer}
 use Rattle.plan_runs.specs.World.{World, slot_at}
 use Rattle.ring_hints.specs.Views.{is_of, pair_of}
 use Rattle.ring_hints.specs.Hints.{hinted_at}
-use Rattle.store_tables.specs.declared.puts.PutNow.{PutNow}
-use Rattle.store_tells.specs.Kept.{Tells}
-use Rattle.store_tells.specs.Numbers.{by_keys}
-use Rattle.store_tells.proofs.Numbers.{id_named, kept_as, kept_at, placed_as, placed_kept}
-use Rattle.store_tells.specs.Parts.{ring_of, plan_of, kept_of}
-use Rattle.store_tells.proofs.StoreInWorld.{holds}
+use Rattle.store_parts.specs.declared.puts.PutNow.{PutNow}
+use Rattle.store_parts.specs.Kept.{Tells}
+use Rattle.store_parts.specs.Numbers.{by_keys}
+use Rattle.store_parts.proofs.Numbers.{id_named, kept_as, kept_at, placed_as, placed_kept}
+use Rattle.store_parts.specs.Parts.{ring_of, plan_of, kept_of}
+use Rattle.store_parts.proofs.StoreInWorld.{holds}
 use Rattle.store_events.proofs.PutAndSlot.{key_within, version_some, put_kept, put_slot_in_ring, partition_within, slot_is, slot_kept, index_few}
 use Rattle.store_events.proofs.Hints.{hint_exists, hinted}
 use Rattle.store_events.proofs.hinting.hint.Goals as goal

@@ -1,7 +1,7 @@
 use Rattle.std.proofs.Common.{◌∙◌, refl, not, sym, ap, []}
 use Rattle.plan_runs.specs.World.{keeps_other}
 use Rattle.ring_names.specs.declared.refusal.Refusal.TheVariants.{KeeperTaken}
-use Rattle.store_tells.specs.Parts.{ring_of, plan_of, kept_of}
+use Rattle.store_parts.specs.Parts.{ring_of, plan_of, kept_of}
 use Rattle.store_events.proofs.EventTests.{other_kept}
 use Rattle.store_events.proofs.FirstRefusal.{hint_of_none, hint_no_member, hint_down, hint_serves, hint_last, fails, passes_on}
 use Rattle.store_events.proofs.hinting.hint_refusal.Goals as goal

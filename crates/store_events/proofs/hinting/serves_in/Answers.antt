@@ -1,8 +1,8 @@
 use Rattle.std.proofs.Common.{◌∙◌, ◌<◌, sym, ap, subst}
 use Rattle.plan_runs.specs.World.{slot_at}
 use Rattle.plan_runs.proofs.Passing.{some_is}
-use Rattle.store_tells.specs.GuardsKept.{is_served_kept}
-use Rattle.store_tells.specs.Parts.{ring_of}
+use Rattle.store_parts.specs.GuardsKept.{is_served_kept}
+use Rattle.store_parts.specs.Parts.{ring_of}
 use Rattle.store_events.proofs.hinting.serves_in.Goals as goal
 
 pub returns-then-is_served : goal.returns-then-is_served

@@ -1,6 +1,6 @@
 use Rattle.std.proofs.Common.{◌≡◌, ◌∙◌, List, subst}
 use Rattle.plan_text.specs.declared.step.Planned.{Planned}
-use Rattle.store_tells.specs.GuardsKept.{is_ready_kept}
+use Rattle.store_parts.specs.GuardsKept.{is_ready_kept}
 use Rattle.store_events.proofs.EventTests.{ready_is}
 use Rattle.store_events.proofs.kinds.is_ready.Goals as goal
 

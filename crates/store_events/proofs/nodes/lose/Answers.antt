@@ -4,7 +4,7 @@ use Rattle.ring_table.specs.Value.{RingValue}
 use Rattle.plan_text.specs.Valid.{is_ring_slot}
 use Rattle.ring_store.specs.Stores.{held_at}
 use Rattle.ring_hints.specs.Hints.{hinted_at}
-use Rattle.store_tells.specs.Parts.{ring_of, plan_of, kept_of}
+use Rattle.store_parts.specs.Parts.{ring_of, plan_of, kept_of}
 use Rattle.store_events.specs.Groups.{RaisesGroups}
 use Rattle.store_events.proofs.RequiresMet.{may_be_raised, few_lost}
 use Rattle.store_events.proofs.ShownLeft.{clears, forgets_named, placed_left}

@@ -1,6 +1,6 @@
 use Rattle.std.proofs.Common.{◌∙◌, ◌≡◌, false, true, nat_lt, sym, ap, refl, arith, le-ltb, lt-ltb}
 use Rattle.ring_table.specs.Value.{RingValue}
-use Rattle.store_tells.specs.Parts.{ring_of}
+use Rattle.store_parts.specs.Parts.{ring_of}
 use Rattle.store_events.proofs.EventTests.{lose_tested}
 use Rattle.store_events.proofs.nodes.lose_refusal.Goals as goal
 

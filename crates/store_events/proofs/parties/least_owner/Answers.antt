@@ -1,5 +1,5 @@
 use Rattle.std.proofs.Common.{◌<◌, ◌≤◌, length, arith}
-use Rattle.store_tables.specs.Nodes.{is_up_at}
+use Rattle.store_parts.specs.Nodes.{is_up_at}
 use Rattle.store_events.proofs.PartiesDown.{owners_next}
 use Rattle.store_events.proofs.parties.least_owner.Goals as goal
 

@@ -1,6 +1,6 @@
 use Rattle.std.proofs.Common.{◌≡◌, drop, map}
 use Rattle.plan_runs.specs.World.{slot_at}
-use Rattle.store_tables.specs.Nodes.{is_up_at}
+use Rattle.store_parts.specs.Nodes.{is_up_at}
 use Rattle.store_events.specs.Parties.{owner_kept, least_down}
 use Rattle.store_events.proofs.parties.least_owner.Given as goal
 

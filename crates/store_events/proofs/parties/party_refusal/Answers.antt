@@ -3,7 +3,7 @@ use Rattle.std.specs.Prelude.{Option, Some, option_map}
 use Rattle.ring_names.specs.declared.ids.NodeId.{NodeId}
 use Rattle.ring_names.specs.declared.refusal.Refusal.TheVariants.{NodeDown}
 use Rattle.plan_text.specs.declared.step.Step.{Step}
-use Rattle.store_tells.specs.Parts.{ring_of, plan_of, kept_of}
+use Rattle.store_parts.specs.Parts.{ring_of, plan_of, kept_of}
 use Rattle.store_events.proofs.RequiresMet.{known_copy, copy_there, is_no_other}
 use Rattle.store_events.proofs.StepsOn.{read_at, read_within}
 use Rattle.store_events.proofs.PartiesDown.{party_tested}

@@ -1,8 +1,8 @@
 use Rattle.std.specs.List.{list_any}
 use Rattle.plan_runs.specs.Versions.{some_hinted}
 use Rattle.store_maps.specs.Held.{held}
-use Rattle.store_tells.specs.Numbers.{in_part}
-use Rattle.store_tells.specs.Parts.{ring_of, plan_of, kept_of}
+use Rattle.store_parts.specs.Numbers.{in_part}
+use Rattle.store_parts.specs.Parts.{ring_of, plan_of, kept_of}
 use Rattle.store_events.proofs.ChunkSources.{gathers_same, gathers_no, keepers_have, none_have}
 use Rattle.store_events.proofs.LeastKeeperDown.{keepers_named, none_kept}
 use Rattle.store_events.proofs.sources.add_hints.Goals as goal

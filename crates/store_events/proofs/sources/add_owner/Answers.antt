@@ -1,7 +1,7 @@
 use Rattle.store_maps.specs.Held.{held}
 use Rattle.ring_store.specs.Stores.{held_at}
 use Rattle.plan_runs.specs.World.{stage_now}
-use Rattle.store_tells.specs.Parts.{ring_of, plan_of, kept_of}
+use Rattle.store_parts.specs.Parts.{ring_of, plan_of, kept_of}
 use Rattle.store_events.proofs.ChunkSources.{takes, takes_none, owner_shows, owner_there}
 use Rattle.store_events.proofs.sources.add_owner.Goals as goal
 

@@ -2,7 +2,7 @@ use Rattle.std.proofs.Common.{ℕ}
 use Rattle.store_maps.specs.Held.{held}
 use Rattle.plan_runs.specs.Versions.{slot_has, some_hinted}
 use Rattle.plan_runs.specs.World.{World, slot_at, stage_now}
-use Rattle.store_tells.specs.Parts.{ring_of, plan_of}
+use Rattle.store_parts.specs.Parts.{ring_of, plan_of}
 use Rattle.store_events.proofs.ChunkSources.{some_first, some_more, some_all, takes_both, kept_later, none_left}
 use Rattle.store_events.proofs.sources.add_slots.Goals as goal
 

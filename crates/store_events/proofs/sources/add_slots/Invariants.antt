@@ -2,7 +2,7 @@ use Rattle.std.proofs.Common.{◌≡◌, true, length}
 use Rattle.plan_runs.specs.Versions.{slot_has}
 use Rattle.plan_runs.specs.World.{slot_at}
 use Rattle.store_maps.specs.Held.{held}
-use Rattle.store_tells.specs.Parts.{ring_of, plan_of}
+use Rattle.store_parts.specs.Parts.{ring_of, plan_of}
 use Rattle.store_events.specs.Sources.{are_kept}
 use Rattle.store_events.proofs.ChunkSources.{TakesSome}
 use Rattle.store_events.proofs.sources.add_slots.Given as goal

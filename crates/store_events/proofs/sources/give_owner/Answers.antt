@@ -1,17 +1,17 @@
 use Rattle.std.proofs.Common.{◌∙◌, ℕ, List, refl, sym, ap, subst}
 use Rattle.ring_names.specs.declared.ids.Slot.{Slot}
 use Rattle.ring_versions.specs.declared.version.Version.{Version}
-use Rattle.store_tells.specs.Kept.{Tells}
+use Rattle.store_parts.specs.Kept.{Tells}
 use Rattle.std.specs.Prelude.{None}
 use Rattle.store_maps.proofs.OneAnswer.{on_ok, on_err, on_either}
 use Rattle.store_maps.specs.Ids.{id, of_chunk}
 use Rattle.ring_store.specs.Stores.{held_at}
 use Rattle.plan_runs.specs.World.{stage_now}
-use Rattle.store_tables.specs.KeyTable.{chunk_of}
-use Rattle.store_tells.specs.Numbers.{by_bytes, in_part}
-use Rattle.store_tells.specs.Puts.{clock_at}
-use Rattle.store_tells.specs.Parts.{ring_of, plan_of, kept_of}
-use Rattle.store_tells.proofs.Numbers.{given, kept_as, part_at, part_apart, placed_as, placed_chunk, placed_given}
+use Rattle.store_parts.specs.KeyTable.{chunk_of}
+use Rattle.store_parts.specs.Numbers.{by_bytes, in_part}
+use Rattle.store_parts.specs.PutsMeet.{clock_at}
+use Rattle.store_parts.specs.Parts.{ring_of, plan_of, kept_of}
+use Rattle.store_parts.proofs.Numbers.{given, kept_as, part_at, part_apart, placed_as, placed_chunk, placed_given}
 use Rattle.store_events.proofs.ChunkSources.{part_shown, owner_shows, owner_there}
 use Rattle.store_events.proofs.ChunkCopies.{mirrored_there}
 use Rattle.store_events.proofs.RequiresMet.{mirror_stands}

@@ -1,16 +1,16 @@
 use Rattle.std.proofs.Common.{◌∙◌, ℕ, List, refl, sym, ap, subst}
 use Rattle.ring_names.specs.declared.ids.Slot.{Slot}
 use Rattle.ring_versions.specs.declared.version.Version.{Version}
-use Rattle.store_tells.specs.Kept.{Tells}
-use Rattle.store_tells.specs.Parts.{ring_of, plan_of, kept_of}
+use Rattle.store_parts.specs.Kept.{Tells}
+use Rattle.store_parts.specs.Parts.{ring_of, plan_of, kept_of}
 use Rattle.std.specs.Prelude.{None}
 use Rattle.store_maps.specs.Held.{held}
 use Rattle.store_maps.specs.Ids.{of_chunk}
 use Rattle.store_maps.proofs.OneAnswer.{on_ok, on_err, on_either}
 use Rattle.ring_store.specs.Stores.{held_at}
-use Rattle.store_tables.specs.KeyTable.{chunk_of}
-use Rattle.store_tells.specs.Numbers.{in_part}
-use Rattle.store_tells.proofs.Numbers.{given, kept_as, part_apart, placed_as, placed_given}
+use Rattle.store_parts.specs.KeyTable.{chunk_of}
+use Rattle.store_parts.specs.Numbers.{in_part}
+use Rattle.store_parts.proofs.Numbers.{given, kept_as, part_apart, placed_as, placed_given}
 use Rattle.store_events.proofs.RequiresMet.{mirror_stands}
 use Rattle.store_events.proofs.sources.give_slots.Goals as goal
 

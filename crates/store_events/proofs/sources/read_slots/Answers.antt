@@ -1,7 +1,7 @@
 use Rattle.store_maps.specs.Held.{held}
 use Rattle.store_maps.specs.Ids.{of_chunk}
-use Rattle.store_tells.specs.Numbers.{in_part}
-use Rattle.store_tells.proofs.Numbers.{nothing_at, placed_nothing, nothing_of_chunk}
+use Rattle.store_parts.specs.Numbers.{in_part}
+use Rattle.store_parts.proofs.Numbers.{nothing_at, placed_nothing, nothing_of_chunk}
 use Rattle.store_events.proofs.ChunkSources.{from_slots}
 use Rattle.store_events.proofs.sources.read_slots.Goals as goal
 

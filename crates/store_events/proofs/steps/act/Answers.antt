@@ -3,8 +3,8 @@ use Rattle.std.specs.Prelude.{◌==◌, ◌&&◌}
 use Rattle.plan_text.specs.Steps.{is_slot}
 use Rattle.plan_text.specs.declared.step.Step.{Step}
 use Rattle.ring_store.specs.Stores.{held_at}
-use Rattle.store_tells.specs.Numbers.{by_keys}
-use Rattle.store_tells.specs.Parts.{kept_of}
+use Rattle.store_parts.specs.Numbers.{by_keys}
+use Rattle.store_parts.specs.Parts.{kept_of}
 use Rattle.store_events.specs.Acts.{Acts}
 use Rattle.store_events.proofs.ShownLeft.{drops, forgets_named, placed_left}
 use Rattle.store_events.proofs.RequiresMet.{may_be_mirrored}

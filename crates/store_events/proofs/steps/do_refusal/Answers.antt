@@ -1,5 +1,5 @@
 use Rattle.std.proofs.Common.{◌∙◌, sym}
-use Rattle.store_tells.specs.Parts.{plan_of}
+use Rattle.store_parts.specs.Parts.{plan_of}
 use Rattle.store_events.proofs.RequiresMet.{other_there}
 use Rattle.store_events.proofs.StepsOn.{read_at, read_within}
 use Rattle.store_events.proofs.EventTests.{do_unknown, do_done, do_unready, do_ready}

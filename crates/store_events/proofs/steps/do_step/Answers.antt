@@ -1,8 +1,8 @@
 use Rattle.std.proofs.Common.{List, sym, subst}
 use Rattle.plan_check.specs.Approval.{Approval}
-use Rattle.store_tables.specs.declared.steps.StepNow.{StepNow}
-use Rattle.store_tells.specs.Kept.{Tells}
-use Rattle.store_tells.specs.Parts.{ring_of, plan_of, kept_of}
+use Rattle.store_parts.specs.declared.steps.StepNow.{StepNow}
+use Rattle.store_parts.specs.Kept.{Tells}
+use Rattle.store_parts.specs.Parts.{ring_of, plan_of, kept_of}
 use Rattle.store_events.proofs.RequiresMet.{done_there, done_other}
 use Rattle.store_events.proofs.StepsOn.{read_at, read_within, do_on}
 use Rattle.store_events.proofs.steps.do_step.Goals as goal

@@ -10,12 +10,12 @@ use Rattle.plan_runs.specs.Answers.{answer}
 use Rattle.plan_runs.specs.World.{World, slot_at}
 use Rattle.store_maps.specs.Merges.{at_key}
 use Rattle.ring_store.specs.Stores.{held_at}
-use Rattle.store_tables.specs.declared.puts.PutNow.{PutNow}
-use Rattle.store_tells.specs.Kept.{Tells}
-use Rattle.store_tells.specs.Numbers.{by_keys}
-use Rattle.store_tells.proofs.Numbers.{id_named, given_at, kept_as, placed_as, placed_given, placed_one}
-use Rattle.store_tells.specs.Parts.{ring_of, plan_of, kept_of}
-use Rattle.store_tells.proofs.StoreInWorld.{holds}
+use Rattle.store_parts.specs.declared.puts.PutNow.{PutNow}
+use Rattle.store_parts.specs.Kept.{Tells}
+use Rattle.store_parts.specs.Numbers.{by_keys}
+use Rattle.store_parts.proofs.Numbers.{id_named, given_at, kept_as, placed_as, placed_given, placed_one}
+use Rattle.store_parts.specs.Parts.{ring_of, plan_of, kept_of}
+use Rattle.store_parts.proofs.StoreInWorld.{holds}
 use Rattle.store_events.proofs.RequiresMet.{slot_ready, mirror_ready}
 use Rattle.store_events.proofs.PutAndSlot.{key_within, put_kept, put_slot_in_ring, partition_within, slot_is, slot_kept, index_few}
 use Rattle.store_events.proofs.Writes.{write_exists, written}

@@ -1,8 +1,8 @@
 use Rattle.std.proofs.Common.{◌∙◌, true, false, sym}
 use Rattle.plan_runs.specs.World.{slot_at}
-use Rattle.store_tells.proofs.NodesNow.{nodes_meet}
-use Rattle.store_tells.proofs.SlotsGuards.{write_kept}
-use Rattle.store_tells.specs.Parts.{ring_of, plan_of}
+use Rattle.store_parts.proofs.NodesNow.{nodes_meet}
+use Rattle.store_parts.proofs.SlotsGuards.{write_kept}
+use Rattle.store_parts.specs.Parts.{ring_of, plan_of}
 use Rattle.store_events.proofs.writing.write_refusal.Goals as goal
 
 pub returns-in-Some : goal.returns-in-Some

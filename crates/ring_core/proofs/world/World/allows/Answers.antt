@@ -1,7 +1,7 @@
 use Rattle.std.proofs.Common.{sym}
 use Rattle.std.proofs.Props.{props}
 use Rattle.plan_runs.proofs.Answered.{refused}
-use Rattle.store_tells.proofs.StoreInWorld.{holds}
+use Rattle.store_parts.proofs.StoreInWorld.{holds}
 use Rattle.ring_core.specs.World.{ring_of, plan_of}
 use Rattle.ring_core.proofs.GuardRefusals.{never_memory}
 use Rattle.ring_core.proofs.world.World.allows.Goals as goal

@@ -1,4 +1,4 @@
-use Rattle.store_tells.specs.Parts.{Answers, Stays}
+use Rattle.store_parts.specs.Parts.{Answers, Stays}
 use Rattle.ring_core.proofs.SoundAfterEvent.{sound_still, puts_few, gets_few, counts_grow}
 use Rattle.ring_core.proofs.ReplyCopies.{alone, ok_alone, err_alone, ok_beside}
 use Rattle.ring_core.specs.Promises.{IsFresh}

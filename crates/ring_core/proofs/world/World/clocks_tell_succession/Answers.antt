@@ -1,4 +1,4 @@
-use Rattle.store_tells.proofs.ClocksOrder.{tells}
+use Rattle.store_parts.proofs.ClocksOrder.{tells}
 use Rattle.ring_core.specs.World.{clock_of}
 use Rattle.ring_core.proofs.world.World.clocks_tell_succession.Goals as goal
 

@@ -6,10 +6,10 @@ use Rattle.ring_store.specs.Stores.{held_at}
 use Rattle.ring_versions.specs.Versions.{Covers}
 use Rattle.ring_versions.specs.declared.version.Version.{Version}
 use Rattle.plan_runs.specs.World.{slot_at}
-use Rattle.store_tells.proofs.Numbers.{id_named, held_named, others_named}
+use Rattle.store_parts.proofs.Numbers.{id_named, held_named, others_named}
 use Rattle.ring_core.specs.Tables.{owner_kept}
-use Rattle.store_tells.specs.Parts.{ring_of, plan_of, kept_of}
-use Rattle.store_tells.proofs.StoreInWorld.{holds}
+use Rattle.store_parts.specs.Parts.{ring_of, plan_of, kept_of}
+use Rattle.store_parts.proofs.StoreInWorld.{holds}
 use Rattle.ring_core.proofs.SlotHoldsPut.{lies_there, one_of, none_of_one, put_key_within, one_version, held_kept}
 use Rattle.ring_core.proofs.world.World.holds.Goals as goal
 

@@ -1,5 +1,5 @@
 use Rattle.std.proofs.Common.{◌∙◌}
-use Rattle.store_tells.proofs.NodesNow.{nodes_meet}
+use Rattle.store_parts.proofs.NodesNow.{nodes_meet}
 use Rattle.ring_core.specs.World.{ring_of, plan_of}
 use Rattle.ring_core.proofs.world.World.is_member.Goals as goal
 

@@ -2,8 +2,8 @@ use Rattle.std.proofs.Common.{◌≡◌, ℕ, ◌<◌, Some, sym, subst}
 use Rattle.std.specs.Prelude.{slice_get, option_map}
 use Rattle.std.proofs.Props.{props}
 use Rattle.ring_space.specs.Place.{place_of}
-use Rattle.store_tells.specs.Parts.{ring_of, plan_of, kept_of}
-use Rattle.store_tells.proofs.StoreInWorld.{holds}
+use Rattle.store_parts.specs.Parts.{ring_of, plan_of, kept_of}
+use Rattle.store_parts.proofs.StoreInWorld.{holds}
 use Rattle.ring_core.proofs.SlotHoldsPut.{put_key_within}
 use Rattle.ring_core.proofs.NodeStoresPut.{place_told}
 use Rattle.ring_core.proofs.world.World.put_slot.Goals as goal

@@ -1,6 +1,6 @@
 use Rattle.std.proofs.Common.{◌≡◌}
 use Rattle.plan_runs.specs.World.{slot_at}
-use Rattle.store_tells.specs.Parts.{kept_of}
+use Rattle.store_parts.specs.Parts.{kept_of}
 use Rattle.ring_core.specs.Tables.{values_below, owner_kept}
 use Rattle.ring_core.proofs.world.World.row.Given as goal
 

@@ -2,7 +2,7 @@ use Rattle.std.proofs.Common.{◌≡◌, ◌∙◌, ℕ, List, length, ap, arith
 use Rattle.ring_names.specs.declared.ids.NodeId.{NodeId}
 use Rattle.ring_table.specs.Value.{RingValue}
 use Rattle.plan_runs.specs.World.{slot_at}
-use Rattle.store_tells.specs.Parts.{kept_of}
+use Rattle.store_parts.specs.Parts.{kept_of}
 use Rattle.ring_core.specs.Tables.{values_below, table_of, owner_kept}
 use Rattle.ring_core.specs.World.{ring_of, plan_of}
 use Rattle.ring_core.proofs.SlotOwners.{length_values, table_told, table_last}

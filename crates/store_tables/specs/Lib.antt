@@ -1,9 +1,0 @@
-pub mod Nodes
-pub mod Marks
-pub mod Steps
-pub mod Slots
-pub mod Puts
-pub mod Gets
-pub mod KeyTable
-pub mod Keys
-pub mod Lasts

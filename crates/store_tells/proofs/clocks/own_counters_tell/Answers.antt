@@ -1,5 +1,0 @@
-use Rattle.store_tells.proofs.ClocksOrder.{own_tells}
-use Rattle.store_tells.proofs.clocks.own_counters_tell.Goals as goal
-
-pub returns : goal.returns
-returns c = own_tells

@@ -1,8 +1,0 @@
-use Rattle.store_tells.proofs.ShownLatest.{numbers, shows_latest}
-use Rattle.store_tells.proofs.shows.shown_numbers_are_the_latest.Goals as goal
-
-pub returns-clause-numbers : goal.returns-clause-numbers
-returns-clause-numbers c = numbers
-
-pub returns-clause-shown : goal.returns-clause-shown
-returns-clause-shown c = shows_latest

@@ -1,5 +1,0 @@
-use Rattle.store_tells.proofs.SlotHolds.{held}
-use Rattle.store_tells.proofs.shows.slot_is_held_where_covered.Goals as goal
-
-pub returns : goal.returns
-returns c = held
