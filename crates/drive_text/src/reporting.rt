@@ -8,8 +8,8 @@ ghost use Rattle.drive_text.specs.Refused.{IsRefused};
 
 use crate::entries::{entry_values, step_values};
 use plan_check::Approved;
+use ring_board::Outcome;
 use ring_names::{Names, Refusal};
-use ring_receipts::Outcome;
 use serde_json::{Value, json};
 use std::alloc::{AllocError, Global};
 

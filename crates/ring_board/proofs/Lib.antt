@@ -3,3 +3,10 @@ pub mod Parts
 pub mod Steps
 pub mod Seats
 pub mod Closing
+pub mod Fronts
+pub mod KindsApart
+pub mod Opening
+pub mod PutLines
+pub mod GetLines
+pub mod NodeLines
+pub mod Ends

@@ -4,3 +4,10 @@ pub mod Views
 pub mod Kept
 pub mod Seated
 pub mod Boarded
+pub mod Entries
+pub mod Kinds
+pub mod Interleaving
+pub mod Behind
+pub mod Blocks
+pub mod Finishing
+pub mod Agreed

@@ -19,7 +19,7 @@ use Rattle.ring_core.specs.declared.world.World.{World}
 use Rattle.ring_core.specs.World.{ring_of, plan_of, put_count, get_count, Meets, Answers, Refuses, Stays}
 use Rattle.ring_core.proofs.GuardRefusals.{never_full}
 use Rattle.ring_core.specs.Replays.{Replays}
-use Rattle.ring_receipts.specs.Entries.{entry}
+use Rattle.ring_board.specs.Entries.{entry}
 
 -- the event with its reply stands last
 pub replays_on : (ring : RingValue) (plan : List Planned) (old new : World) (history : List Entry) (e : Event) (r : Reply) → ring_of old ≡ ring → plan_of old ≡ plan

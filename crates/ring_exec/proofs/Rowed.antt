@@ -3,7 +3,7 @@ use Rattle.std.proofs.Common.{◌≡◌, ◌∙◌, ℕ, ◌+◌, ◌<◌, true,
 use Rattle.std.proofs.lemmas.List.{take_more, map-append}
 use Rattle.std.proofs.lemmas.List.Elements.{All-nil, All-cons, All-append}
 use Rattle.plan_runs.specs.declared.event.Event.{Event}
-use Rattle.ring_receipts.specs.declared.receipt.Receipt.{Receipt}
+use Rattle.ring_board.specs.declared.receipt.Receipt.{Receipt}
 use Rattle.ring_exec.specs.Replies.{fits_reply}
 use Rattle.ring_exec.specs.Rows.{AddsRow, IsOfHistory}
 

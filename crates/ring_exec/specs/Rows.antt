@@ -2,7 +2,7 @@
 use Rattle.std.specs.Prelude.{◌≡◌, ◌<◌, true, List, ◌++◌, length, map, take}
 use Rattle.std.specs.List.{All}
 use Rattle.plan_runs.specs.declared.event.Event.{Event}
-use Rattle.ring_receipts.specs.declared.receipt.Receipt.{Receipt}
+use Rattle.ring_board.specs.declared.receipt.Receipt.{Receipt}
 use Rattle.ring_exec.specs.Replies.{fits_reply}
 
 -- the reply is of the event's kind, and the place is one of a history

@@ -9,9 +9,9 @@ use crate::run_ledger::RunLedger;
 use crate::share::{Share, count_of};
 use plan_check::Approved;
 use plan_runs::{Entry, Event};
+use ring_board::Receipt;
 use ring_core::World;
 use ring_names::Refusal;
-use ring_receipts::Receipt;
 use std::alloc::Global;
 use std::sync::ledger::{Blank, Book};
 
@@ -44,7 +44,7 @@ impl<'a, L: RunLedger> Ledgered<'a, L> {
     ghost use Rattle.ring_core.specs.World.{Meets, Passes, Answers, Refuses, Stays};
     ghost use Rattle.ring_core.specs.Tables.{AllDone};
     ghost use Rattle.ring_core.specs.Replays.{Replays};
-    ghost use Rattle.ring_receipts.specs.Entries.{entry};
+    ghost use Rattle.ring_board.specs.Entries.{entry};
     ghost use Rattle.ring_core.specs.Faults.{IsFirstFault};
     ghost use Rattle.ring_exec.specs.Replies.{fits_reply};
     ghost use Rattle.ring_exec.specs.Rows.{AddsRow};

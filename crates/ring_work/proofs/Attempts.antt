@@ -5,8 +5,8 @@ use Rattle.ring_names.specs.declared.refusal.Refusal.{Refusal}
 use Rattle.plan_runs.specs.declared.event.Event.{Event}
 use Rattle.plan_runs.specs.declared.event.Event.TheVariants.{StartGet}
 use Rattle.plan_runs.specs.declared.event.Reply.TheVariants.{Put, Get}
-use Rattle.ring_receipts.specs.declared.receipt.Receipt.{Receipt}
-use Rattle.ring_receipts.specs.Kinds.{sends, acknowledges, reads, ends}
+use Rattle.ring_board.specs.declared.receipt.Receipt.{Receipt}
+use Rattle.ring_board.specs.Kinds.{sends, acknowledges, reads, ends}
 use Rattle.ring_work.specs.Noted.{Completes}
 use Rattle.ring_work.specs.Attempts.{AddsPut, AddsGet, IsPutAttempt}
 

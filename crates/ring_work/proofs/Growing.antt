@@ -3,7 +3,7 @@ use Rattle.std.proofs.Common.{◌≡◌, ◌∙◌, Bool, true, false, List, [],
 use Rattle.std.specs.List.{list_all}
 use Rattle.std.proofs.lemmas.List.Folds.{list_all-append}
 use Rattle.plan_runs.specs.declared.event.Event.{Event}
-use Rattle.ring_receipts.specs.declared.receipt.Receipt.{Receipt}
+use Rattle.ring_board.specs.declared.receipt.Receipt.{Receipt}
 use Rattle.ring_work.specs.Noted.{Adds, Grows, Completes}
 
 all_both : (test : Receipt → Bool) (a b : List Receipt) → list_all test a ≡ true → list_all test b ≡ true → list_all test (a ++ b) ≡ true

@@ -2,9 +2,9 @@
 use Rattle.std.specs.Prelude.{◌≡◌, ◌⊎◌, ℕ, true, not, List, [], ◌++◌, length, cond, Option, is_some}
 use Rattle.plan_runs.specs.declared.event.Event.{Event}
 use Rattle.ring_names.specs.declared.refusal.Refusal.{Refusal}
-use Rattle.ring_receipts.specs.declared.receipt.Receipt.{Receipt}
-use Rattle.ring_receipts.specs.declared.asked.Asked.{Asked}
-use Rattle.ring_receipts.specs.Blocks.{IsPut, IsGet}
+use Rattle.ring_board.specs.declared.receipt.Receipt.{Receipt}
+use Rattle.ring_board.specs.declared.asked.Asked.{Asked}
+use Rattle.ring_board.specs.Blocks.{IsPut, IsGet}
 
 -- none, if the start was refused. Otherwise the block of the put that the event starts, with its
 -- acknowledgement exactly if nothing is refused in the end

@@ -11,8 +11,8 @@ use Rattle.plan_runs.specs.Runs.{IsRun}
 use Rattle.plan_check.specs.Safe.{Safe}
 pub use Rattle.ring_exec.specs.Replays.{IsHistory}
 use Rattle.ring_exec.specs.Tables.{AllDone}
-use Rattle.ring_receipts.specs.declared.receipt.Receipt.{Receipt}
-use Rattle.ring_receipts.specs.Agreed.{Agrees}
+use Rattle.ring_board.specs.declared.receipt.Receipt.{Receipt}
+use Rattle.ring_board.specs.Agreed.{Agrees}
 
 -- it is one that finishes every step
 abbrev pub IsWhole : RingValue → List Planned → List Entry → Type 0

@@ -2,7 +2,7 @@
 use Rattle.std.specs.Prelude.{◌≡◌, ◌+◌, ℕ, Bool, true, List, [], ◌∷◌, ◌++◌, length, cond}
 use Rattle.std.specs.List.{list_all}
 use Rattle.plan_runs.specs.declared.event.Event.{Event}
-use Rattle.ring_receipts.specs.declared.receipt.Receipt.{Receipt}
+use Rattle.ring_board.specs.declared.receipt.Receipt.{Receipt}
 use Rattle.ring_exec.specs.Replies.{fits_reply}
 
 -- a receipt of the event stands behind the others

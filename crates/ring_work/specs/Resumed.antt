@@ -10,8 +10,8 @@ use Rattle.plan_runs.specs.declared.event.Event.{Event}
 use Rattle.plan_runs.specs.declared.event.Event.TheVariants.{OpenCopy, CloseCopy, AbortCopy}
 use Rattle.plan_runs.specs.World.{opening_world}
 use Rattle.ring_exec.specs.Faults.{IsFirstFault}
-use Rattle.ring_receipts.specs.declared.receipt.Receipt.{Receipt}
-use Rattle.ring_receipts.specs.Finishing.{list_at}
+use Rattle.ring_board.specs.declared.receipt.Receipt.{Receipt}
+use Rattle.ring_board.specs.Finishing.{list_at}
 use Rattle.ring_work.specs.Driven.{Driven, IsFault}
 
 -- the receipt of an entry at that place

@@ -1,7 +1,7 @@
 //! A put's or get's result.
 
+use ring_board::Receipt;
 use ring_names::Refusal;
-use ring_receipts::Receipt;
 
 /// A put's or get's receipts, and its last refusal: none if acknowledged or ended.
 #[derive(Debug, Drop)]

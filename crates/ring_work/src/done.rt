@@ -3,10 +3,9 @@
 use crate::noting::note;
 use crate::site::LockedStore;
 use plan_runs::Event;
-use ring_board::Seat;
+use ring_board::{Receipt, Seat};
 use ring_exec::{RunLedger, Share};
 use ring_names::Refusal;
-use ring_receipts::Receipt;
 use std::alloc::Global;
 use std::sync::Wait;
 

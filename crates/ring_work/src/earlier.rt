@@ -9,10 +9,9 @@ ghost use Rattle.ring_work.specs.Resumed.{Continues};
 use crate::noting::note;
 use crate::site::LockedStore;
 use plan_runs::{Entry, Event, Reply};
-use ring_board::{Board, Claim, Seat};
+use ring_board::{Board, Claim, Receipt, Seat};
 use ring_exec::{RunLedger, Share};
 use ring_names::{Listed, Refusal};
-use ring_receipts::Receipt;
 use std::alloc::{AllocError, Global};
 use std::sync::Wait;
 

@@ -5,10 +5,9 @@ ghost use Rattle.ring_names.specs.declared.refusal.Refusal.TheVariants.{OutOfMem
 ghost use Rattle.ring_work.specs.Driven.{IsSpent, gravity};
 
 use crate::done::{Done, Sat};
-use ring_board::{Board, Seat};
+use ring_board::{Board, Receipt, Seat};
 use ring_exec::{RunLedger, Share};
 use ring_names::{Listed, Refusal};
-use ring_receipts::Receipt;
 use std::alloc::Global;
 
 /// The threads' results, by join, and the worst refusal. Reserves room first, to lose none.

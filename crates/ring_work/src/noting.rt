@@ -8,9 +8,9 @@ ghost use Rattle.ring_work.specs.Noted.{Adds, IsCounted};
 
 use crate::site::LockedStore;
 use plan_runs::{Event, Reply};
+use ring_board::Receipt;
 use ring_exec::{RunLedger, Share};
 use ring_names::Refusal;
-use ring_receipts::Receipt;
 use std::sync::Wait;
 
 /// The most rounds of a put or a get.

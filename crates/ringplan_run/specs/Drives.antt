@@ -9,7 +9,7 @@ use Rattle.plan_text.specs.declared.step.Planned.{Planned}
 use Rattle.plan_runs.specs.declared.event.Entry.{Entry}
 use Rattle.plan_runs.specs.declared.event.Event.{Event}
 use Rattle.plan_check.specs.First.{first_refusal}
-use Rattle.ring_receipts.specs.declared.receipt.Receipt.{Receipt}
+use Rattle.ring_board.specs.declared.receipt.Receipt.{Receipt}
 use Rattle.ring_work.specs.Driven.{Driven, IsFault}
 use Rattle.history_text.specs.Spelling.{history_text}
 use Rattle.drive_text.specs.Report.{report_value}

@@ -12,8 +12,8 @@ ghost use Rattle.ringplan_run.specs.Drives.{outcome_text, DrivesIf, DrivesOfIf, 
 use drive_text::{DriveBundle, read_drive, write_report};
 use history_text::{are_known, push_history};
 use plan_check::{Approved, OpenGate, check};
+use ring_board::Outcome;
 use ring_names::{Names, Refusal};
-use ring_receipts::Outcome;
 use ring_work::{MAX_ENTRIES, drive};
 use ringplan_command::Form;
 use script_text::Script;

@@ -7,9 +7,9 @@ ghost use Rattle.drive_text.specs.Drives.{AreOfClients};
 
 use plan_check::{Approved, Gate};
 use plan_runs::Entry;
+use ring_board::{Outcome, agrees};
 use ring_core::World;
 use ring_names::Refusal;
-use ring_receipts::{Outcome, agrees};
 use ring_work::drive;
 use script_text::Script;
 use std::alloc::Global;

@@ -3,9 +3,8 @@
 use crate::inputs::{JOIN, NO_CHAINS, RING, SILENCE, approved, ring, script};
 use plan_check::Approved;
 use plan_runs::{Entry, Event, Reply};
-use ring_board::{Board, ClosedBoard};
+use ring_board::{Board, ClosedBoard, Outcome, Receipt, agrees};
 use ring_names::{Listed, NodeId, Refusal};
-use ring_receipts::{Outcome, Receipt, agrees};
 use script_text::Script;
 use std::alloc::{AllocError, Global};
 use std::slice;

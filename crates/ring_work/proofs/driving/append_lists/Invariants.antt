@@ -1,5 +1,5 @@
 use Rattle.std.proofs.Common.{◌≡◌, ◌<◌, ◌≤◌, vec_len}
-use Rattle.ring_receipts.specs.Finishing.{list_at}
+use Rattle.ring_board.specs.Finishing.{list_at}
 use Rattle.ring_work.specs.Driven.{IsSpent}
 use Rattle.ring_work.proofs.driving.append_lists.Given as goal
 

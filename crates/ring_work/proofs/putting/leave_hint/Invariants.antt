@@ -1,5 +1,5 @@
 use Rattle.std.proofs.Common.{◌≡◌}
-use Rattle.ring_receipts.specs.Kinds.{sends}
+use Rattle.ring_board.specs.Kinds.{sends}
 use Rattle.ring_work.specs.Noted.{Grows, IsCounted}
 use Rattle.ring_work.proofs.putting.leave_hint.Given as goal
 

@@ -1,6 +1,6 @@
 use Rattle.std.proofs.Common.{refl, eq-eqb}
 use Rattle.plan_runs.specs.declared.event.Event.TheVariants.{Ack}
-use Rattle.ring_receipts.specs.Kinds.{sends, acknowledges}
+use Rattle.ring_board.specs.Kinds.{sends, acknowledges}
 use Rattle.ring_work.proofs.Growing.{completes_by}
 use Rattle.ring_work.proofs.putting.round.Goals as goal
 

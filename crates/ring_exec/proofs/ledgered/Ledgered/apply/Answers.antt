@@ -1,7 +1,7 @@
 use Rattle.std.proofs.Common.{rules, ◌≡◌, ◌∙◌, ◌<◌, List, [], ◌∷◌, ◌++◌, vec_len, Err, sym, subst, arith}
 use Rattle.plan_runs.specs.declared.event.Entry.{Entry}
 use Rattle.ring_core.specs.Replays.{Replays}
-use Rattle.ring_receipts.specs.Entries.{entry}
+use Rattle.ring_board.specs.Entries.{entry}
 use Rattle.ring_exec.proofs.Histories.{replays_on, replays_still, puts_still, gets_still, never_full_there, full_alone}
 use Rattle.ring_exec.proofs.Replied.{fits_there}
 use Rattle.ring_exec.proofs.ledgered.Ledgered.apply.Goals as goal

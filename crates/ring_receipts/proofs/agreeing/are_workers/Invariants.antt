@@ -1,8 +1,0 @@
-use Rattle.std.proofs.Common.{◌≡◌, ◌+◌, ◌<◌, ℕ, true}
-use Rattle.std.specs.List.{list_all}
-use Rattle.ring_receipts.specs.Kinds.{is_step}
-use Rattle.ring_receipts.specs.Finishing.{list_at}
-use Rattle.ring_receipts.proofs.agreeing.are_workers.Given as goal
-
-abbrev pub invariant-loop-worker : goal.invariant-loop-worker
-invariant-loop-worker l = (i : ℕ) → i < l.worker → list_all (λ r. is_step r.event) (list_at l.lists (l.first + i)) ≡ true
