@@ -12,9 +12,9 @@ use Rattle.plan_check.specs.First.{first_refusal}
 use Rattle.ring_board.specs.declared.receipt.Receipt.{Receipt}
 use Rattle.ring_work.specs.Driven.{Driven, IsFault}
 use Rattle.history_text.specs.Spelling.{history_text}
-use Rattle.drive_text.specs.Report.{report_value}
-use Rattle.drive_text.specs.Drives.{drive_at}
-use Rattle.drive_text.specs.declared.bundle.DriveBundle.{DriveBundle}
+use Rattle.ring_work.specs.Report.{report_value}
+use Rattle.ring_work.specs.Drives.{drive_at}
+use Rattle.ring_work.specs.declared.bundle.DriveBundle.{DriveBundle}
 use Rattle.ringplan_command.specs.declared.form.Form.{Form}
 use Rattle.ringplan_command.specs.declared.form.Form.TheVariants.{History, Report}
 

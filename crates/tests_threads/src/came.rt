@@ -3,7 +3,7 @@
 ghost use Rattle.std.specs.Prelude.{◌≡◌, ◌<◌, ◌≤◌, true};
 ghost use Rattle.std.specs.List.{list_all};
 ghost use Rattle.script_text.specs.Client.{is_client_event};
-ghost use Rattle.drive_text.specs.Drives.{AreOfClients};
+ghost use Rattle.ring_work.specs.Drives.{AreOfClients};
 
 use plan_check::{Approved, Gate};
 use plan_runs::Entry;

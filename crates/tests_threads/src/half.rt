@@ -1,12 +1,12 @@
 //! Eight clients during a plan that moves half of the slots.
 
 ghost use Rattle.std.specs.Prelude.{◌<◌, ◌≤◌};
-ghost use Rattle.drive_text.specs.Drives.{IsDrive};
+ghost use Rattle.ring_work.specs.Drives.{IsDrive};
 
 use crate::came::{Came, drive_all};
-use drive_text::{DriveBundle, read_drive};
 use plan_check::{OpenGate, Turned, check};
 use ring_names::Refusal;
+use ring_work::{DriveBundle, read_drive};
 use std::process::Abort;
 use std::sync::Wait;
 use std::thread::Threads;

@@ -1,4 +1,0 @@
-pub mod ScriptsRead
-mod Examples
-pub mod NoFloats
-pub mod Ascii

@@ -1,7 +1,0 @@
-use Rattle.std.proofs.Common.{◌≡◌, map, take}
-use Rattle.serde_json.specs.View.{view}
-use Rattle.drive_text.specs.Report.{step_data}
-use Rattle.drive_text.proofs.entries.step_values.Given as goal
-
-abbrev pub invariant-loop-finisher : goal.invariant-loop-finisher
-invariant-loop-finisher l = map view l.out.items ≡ map step_data (take l.finisher-index l.finishers)

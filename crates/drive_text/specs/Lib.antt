@@ -1,3 +1,0 @@
-pub mod Drives
-pub mod Report
-pub mod Refused
