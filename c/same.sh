@@ -30,7 +30,7 @@ quietly() {
     }
 }
 
-for name in ringplan_command ringplan_people history_watch; do
+for name in ringplan_command ringplan_reports history_watch; do
     [ -d "$top/crates/$name/out/rlib/$name.rlib" ] || (cd "$top/crates/$name" && quietly rt lib)
 done
 [ -x "$program" ] || (cd "$top/crates/ringplan" && quietly rt run -- help)
@@ -42,7 +42,7 @@ for name in std clap std_alloc core; do
     words+=(--extern "$name=$kit/rlibs/$name.rlib")
 done
 words+=(-L "dependency=$kit/rlibs")
-for name in history_watch plan_text ring_table texts change_text ringplan_command ringplan_people ringplan_job ringplan_jobs ring_names; do
+for name in history_watch plan_text ring_table texts change_text ringplan_command ringplan_reports ringplan_request ringplan_answers ring_names; do
     words+=(--extern "$name=$top/crates/$name/out/rlib/$name.rlib")
 done
 for folder in "$top"/crates/*/out/rlib; do

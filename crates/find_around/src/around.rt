@@ -16,7 +16,7 @@ use plan_runs::{Back, Entry};
 use plan_text::Plan;
 use ring_names::{NodeId, Refusal, Slot};
 use ring_table::Ring;
-use ringplan_job::{Extent, Shape};
+use ringplan_request::{Extent, Shape};
 use std::alloc::Global;
 use std::collections::{BTreeMap, BTreeSet};
 use texts::{Labels, Words, is_set, put};

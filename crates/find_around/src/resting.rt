@@ -5,7 +5,7 @@ use crate::moving::PlannedMove;
 use crate::told::SlotOutcome;
 use plan_runs::Back;
 use ring_names::{NodeId, Refusal, Slot};
-use ringplan_job::Extent;
+use ringplan_request::Extent;
 use texts::{is_set, put, small};
 
 impl Search<'_> {

@@ -2,7 +2,7 @@
 
 use crate::around::{Reach, Search};
 use ring_names::{Refusal, Slot};
-use ringplan_job::Shape;
+use ringplan_request::Shape;
 
 /// A slot's fate, if not as planned. `say_outcome` has the words.
 #[derive(Clone, Copy, Debug, PartialEq, Eq)]

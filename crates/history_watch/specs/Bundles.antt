@@ -8,7 +8,7 @@ use Rattle.plan_check.specs.First.{first_refusal}
 use Rattle.ring_script.specs.Bundles.{bundle_at}
 use Rattle.ring_script.specs.declared.bundle.Bundle.{Bundle}
 use Rattle.ring_script.specs.declared.bundle.Kind.TheVariants.{Check}
-use Rattle.ringplan_jobs.specs.Verdict.{verdict}
+use Rattle.ringplan_answers.specs.Verdict.{verdict}
 use Rattle.history_watch.specs.declared.judge.Judge.{Judge}
 use Rattle.history_watch.specs.Judging.{IsJudging}
 use Rattle.history_watch.specs.Loops.{IsOutside, Watches}

@@ -3,7 +3,7 @@
 ghost use Rattle.std.specs.Prelude.{◌≡◌, ◌≤◌, ◌++◌, ℕ, List, IfOk, IfErr, OnOk, OnErr};
 ghost use Rattle.std.specs.Io.KnownBytes.{Appends};
 ghost use Rattle.ring_table.specs.Value.{RingValue};
-ghost use Rattle.ringplan_jobs.specs.Io.{AppendsPart};
+ghost use Rattle.ringplan_answers.specs.Io.{AppendsPart};
 ghost use Rattle.plan_text.specs.declared.step.Planned.{Planned};
 ghost use Rattle.history_watch.specs.Watching.{HasRoom, IsWatching, IsRefused, IsJudged};
 ghost use Rattle.history_watch.specs.Loops.{is_shown, shown_at, so_far_line, IsOutside, Shows, ShowsPart, Watches};
@@ -12,7 +12,7 @@ use crate::watch::Watch;
 use history_text::{CHUNK, read_some};
 use plan_check::Approved;
 use ring_names::{Refusal, push_decimal};
-use ringplan_jobs::write_all;
+use ringplan_answers::write_all;
 use std::alloc::{AllocError, Global};
 use std::io::{Read, Write};
 

@@ -19,7 +19,7 @@ use Rattle.plan_around.specs.Alike.{last_step, AreAlike, InBoth, LeadAlike}
 use Rattle.plan_around.specs.Around.{LeadsWell}
 use Rattle.plan_around.specs.Ends.{EndsWell}
 use Rattle.plan_runs.specs.declared.back.Back.{Back}
-use Rattle.ringplan_job.specs.declared.making.Extent.{Extent}
+use Rattle.ringplan_request.specs.declared.making.Extent.{Extent}
 
 -- nodes of one number are one
 pub same_node : (x y : NodeId) → x.0 ≡ y.0 → x ≡ y

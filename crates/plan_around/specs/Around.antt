@@ -25,8 +25,8 @@ use Rattle.plan_runs.specs.declared.back.Back.TheVariants.{Allowed}
 use Rattle.history_laws.specs.Past.{IsSamePast}
 use Rattle.plan_goal.specs.GoalsReached.{AreNamed, dead_names}
 use Rattle.change_text.specs.declared.options.Options.{Options}
-use Rattle.ringplan_job.specs.declared.making.Detour.{Detour}
-use Rattle.ringplan_job.specs.declared.making.Extent.{Extent}
+use Rattle.ringplan_request.specs.declared.making.Detour.{Detour}
+use Rattle.ringplan_request.specs.declared.making.Extent.{Extent}
 use Rattle.plan_around.specs.Apart.{AreApart}
 use Rattle.plan_around.specs.Chosen.{GoesBy, halted_at}
 use Rattle.plan_around.specs.declared.chosen.Chosen.{Chosen}

@@ -17,8 +17,8 @@ use Rattle.plan_runs.specs.declared.back.Back.TheVariants.{Allowed}
 use Rattle.plan_moves.specs.Moves.{served_before}
 use Rattle.plan_goal.specs.Reached.{member_after}
 use Rattle.plan_goal.specs.Sized.{row_at}
-use Rattle.ringplan_job.specs.declared.making.Extent.{Extent}
-use Rattle.ringplan_job.specs.declared.making.Extent.TheVariants.{Whole, Begun}
+use Rattle.ringplan_request.specs.declared.making.Extent.{Extent}
+use Rattle.ringplan_request.specs.declared.making.Extent.TheVariants.{Whole, Begun}
 use Rattle.plan_around.specs.Apart.{is_whole}
 
 -- who owns the slot once the plan is done

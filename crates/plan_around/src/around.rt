@@ -20,7 +20,7 @@ use plan_runs::Entry;
 use plan_text::Plan;
 use ring_core::{World, replay};
 use ring_names::{Names, NodeId, Refusal, Slot};
-use ringplan_job::Detour;
+use ringplan_request::Detour;
 use std::alloc::Global;
 use texts::{Labels, Words};
 

@@ -31,7 +31,7 @@ use plan_text::{Plan, Step};
 use ring_core::World;
 use ring_names::{NodeId, Refusal, Slot};
 use ring_table::Ring;
-use ringplan_job::Extent;
+use ringplan_request::Extent;
 use std::alloc::Global;
 
 #[derive(Clone, Copy)]

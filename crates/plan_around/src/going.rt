@@ -29,7 +29,7 @@ use plan_text::Plan;
 use ring_core::World;
 use ring_names::{Names, NodeId, Refusal, Slot};
 use ring_table::Ring;
-use ringplan_job::Extent;
+use ringplan_request::Extent;
 use std::alloc::Global;
 
 const MOST: usize = 1_000_000;

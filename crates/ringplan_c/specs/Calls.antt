@@ -3,9 +3,9 @@ use Rattle.std.specs.Prelude.{◌≡◌, ◌⊎◌, ℕ, List, Result, Err}
 use Rattle.ring_names.specs.declared.refusal.Refusal.{Refusal}
 use Rattle.ring_names.specs.declared.refusal.Refusal.TheVariants.{OutOfMemory}
 use Rattle.ringplan_c.specs.Room.{Fills}
-use Rattle.ringplan_jobs.specs.Answers.{output_of, status_of}
-use Rattle.ringplan_jobs.specs.Outcomes.{Outcome}
-use Rattle.ringplan_job.specs.declared.job.Job.{Job}
+use Rattle.ringplan_answers.specs.Answers.{output_of, status_of}
+use Rattle.ringplan_answers.specs.Outcomes.{Outcome}
+use Rattle.ringplan_request.specs.declared.job.Job.{Job}
 
 -- what the program makes of an input, or out of memory
 abbrev pub Comes : Job → List ℕ → Result (List ℕ) Refusal → Type 0

@@ -10,9 +10,9 @@ use Rattle.history_watch.specs.Bundles.{StartsBy}
 use Rattle.history_watch.specs.Judging.{HasRefused, IsJudging, IsOver, IsUnchanged}
 use Rattle.history_watch.specs.Watching.{IsAnswer, IsCutOff, IsJudged, IsRefused}
 use Rattle.history_watch.specs.declared.judge.Judge.{Judge}
-use Rattle.ringplan_jobs.specs.Answers.{output_of, status_of, texts_of}
-use Rattle.ringplan_jobs.specs.Io.{max_input}
-use Rattle.ringplan_jobs.specs.Verdict.{verdict}
+use Rattle.ringplan_answers.specs.Answers.{output_of, status_of, texts_of}
+use Rattle.ringplan_answers.specs.Io.{max_input}
+use Rattle.ringplan_answers.specs.Verdict.{verdict}
 use Rattle.ringplan_c.specs.Held.{held}
 use Rattle.ringplan_c.specs.Room.{Fills}
 use Rattle.ringplan_c.specs.declared.handle.Handle.{Handle}

@@ -10,10 +10,10 @@ use Rattle.ringplan_command.specs.Command.{Answers, AsksMaking, IsRefused, Wants
 use Rattle.ringplan_command.specs.Files.{Names, files_of, no_files}
 use Rattle.ringplan_command.specs.declared.command.Request.{Request}
 use Rattle.ringplan_command.specs.declared.command.Request.TheVariants as request
-use Rattle.ringplan_job.specs.declared.making.Making.{Making}
+use Rattle.ringplan_request.specs.declared.making.Making.{Making}
 use Rattle.change_text.specs.declared.options.Options.{Options}
-use Rattle.ringplan_jobs.specs.Io.{max_input}
-use Rattle.ringplan_people.specs.Made.{IsReport}
+use Rattle.ringplan_answers.specs.Io.{max_input}
+use Rattle.ringplan_reports.specs.Made.{IsReport}
 
 -- no file is named: none that is read or written, and none that has a layout
 abbrev pub NamesNone : Names → Options → Type 0

@@ -2,12 +2,12 @@
 
 ghost use Rattle.std.specs.Prelude.{◌≡◌};
 ghost use Rattle.ringplan_c.specs.Calls.{Comes, Replies};
-ghost use Rattle.ringplan_jobs.specs.Answers.{texts_of};
-ghost use Rattle.ringplan_job.specs.declared.job.Job.TheVariants.{Check, Migrate, Plan, Play, Replay};
+ghost use Rattle.ringplan_answers.specs.Answers.{texts_of};
+ghost use Rattle.ringplan_request.specs.declared.job.Job.TheVariants.{Check, Migrate, Plan, Play, Replay};
 
 use crate::room::fill;
 use ring_names::Refusal;
-use ringplan_jobs::{Job, MAX_INPUT, answer_of, make};
+use ringplan_answers::{Job, MAX_INPUT, answer_of, make};
 use std::alloc::Global;
 
 /// The refusal's line if memory runs out. It needs no memory.

@@ -9,10 +9,10 @@ use crate::line::read_line;
 use crate::room::fill;
 use change_text::Options;
 use ring_names::Refusal;
+use ringplan_answers::MAX_INPUT;
 use ringplan_command::{CommandLine, Files, NO_WORDS, Request};
-use ringplan_job::Making;
-use ringplan_jobs::MAX_INPUT;
-use ringplan_people::{Report, report_bundle, report_unread};
+use ringplan_reports::{Report, report_bundle, report_unread};
+use ringplan_request::Making;
 use std::alloc::{AllocError, Global};
 
 // For options that name a file.

@@ -6,7 +6,7 @@ use crate::{
     ringplan_version, ringplan_watch_count, ringplan_watch_end, ringplan_watch_free,
     ringplan_watch_new, ringplan_watch_take,
 };
-use ringplan_jobs::Job;
+use ringplan_answers::Job;
 use std::alloc::Global;
 use std::process::Abort;
 

@@ -11,7 +11,7 @@ use crate::handle::Handle;
 use crate::room::fill;
 use history_watch::{Judge, start_judge};
 use ring_names::Refusal;
-use ringplan_jobs::{MAX_INPUT, answer_of};
+use ringplan_answers::{MAX_INPUT, answer_of};
 use std::alloc::Global;
 
 // The status of a yes.

@@ -18,17 +18,17 @@ use Rattle.ringplan_command.specs.declared.word.Guide.{Guide}
 use Rattle.ringplan_command.specs.declared.word.Guide.TheVariants.{Completions, Manual}
 use Rattle.ringplan_command.specs.declared.word.Word.{Word}
 use Rattle.ringplan_command.specs.declared.word.Word.TheVariants as people
-use Rattle.ringplan_job.specs.declared.making.Making.{Making}
-use Rattle.ringplan_job.specs.declared.making.Making.TheVariants.{Why, Cert, After, Show, Draw, Steps, Moves, Windows, Goal, Around, State as StateMaking}
-use Rattle.ringplan_job.specs.declared.making.Statement.{Statement}
-use Rattle.ringplan_job.specs.declared.making.Statement.TheVariants as stated
+use Rattle.ringplan_request.specs.declared.making.Making.{Making}
+use Rattle.ringplan_request.specs.declared.making.Making.TheVariants.{Why, Cert, After, Show, Draw, Steps, Moves, Windows, Goal, Around, State as StateMaking}
+use Rattle.ringplan_request.specs.declared.making.Statement.{Statement}
+use Rattle.ringplan_request.specs.declared.making.Statement.TheVariants as stated
 use Rattle.ringplan_command.specs.declared.parts.PartWish.{PartWish}
 use Rattle.ringplan_command.specs.declared.command.Format.{Format}
 use Rattle.ringplan_command.specs.declared.command.Format.TheVariants as format
 use Rattle.ringplan_command.specs.declared.form.Form.{Form}
 use Rattle.ringplan_command.specs.declared.form.Form.TheVariants.{History, Report}
-use Rattle.ringplan_job.specs.declared.job.Job.{Job}
-use Rattle.ringplan_job.specs.declared.job.Job.TheVariants.{Check, Migrate, Plan, Play, Replay}
+use Rattle.ringplan_request.specs.declared.job.Job.{Job}
+use Rattle.ringplan_request.specs.declared.job.Job.TheVariants.{Check, Migrate, Plan, Play, Replay}
 
 -- the command for people by which a statement is asked for
 abbrev pub word_of_statement : Statement → Word

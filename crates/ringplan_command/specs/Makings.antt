@@ -7,23 +7,23 @@ use Rattle.ringplan_command.specs.Numbers.{IsCount, IsNumberNamed}
 use Rattle.ringplan_command.specs.Slots.{AreSlots}
 use Rattle.plan_runs.specs.declared.back.Back.{Back}
 use Rattle.plan_runs.specs.declared.back.Back.TheVariants.{Allowed, Never as NoBack}
-use Rattle.ringplan_job.specs.declared.making.Color.{Color}
-use Rattle.ringplan_job.specs.declared.making.Color.TheVariants.{Always, Never}
-use Rattle.ringplan_job.specs.declared.making.Cut.{Cut}
-use Rattle.ringplan_job.specs.declared.making.Detour.{Detour}
-use Rattle.ringplan_job.specs.declared.making.Exit.{Exit}
-use Rattle.ringplan_job.specs.declared.making.Exit.TheVariants.{Printed, Steps as StepsExit}
-use Rattle.ringplan_job.specs.declared.making.Extent.{Extent}
-use Rattle.ringplan_job.specs.declared.making.Extent.TheVariants.{Begun, Whole as WholePlan}
-use Rattle.ringplan_job.specs.declared.making.Making.{Making}
-use Rattle.ringplan_job.specs.declared.making.Making.TheVariants.{Why, Cert, After, Show, Draw, Steps, Moves, Windows, Goal, Around, State}
-use Rattle.ringplan_job.specs.declared.making.Picture.{Picture}
-use Rattle.ringplan_job.specs.declared.making.Picture.TheVariants.{Map, Rounds}
-use Rattle.ringplan_job.specs.declared.making.Shape.{Shape}
-use Rattle.ringplan_job.specs.declared.making.Shape.TheVariants.{Short, Whole}
-use Rattle.ringplan_job.specs.declared.making.Statement.{Statement}
-use Rattle.ringplan_job.specs.declared.making.Statement.TheVariants as stated
-use Rattle.ringplan_job.specs.declared.making.Wish.{Wish}
+use Rattle.ringplan_request.specs.declared.making.Color.{Color}
+use Rattle.ringplan_request.specs.declared.making.Color.TheVariants.{Always, Never}
+use Rattle.ringplan_request.specs.declared.making.Cut.{Cut}
+use Rattle.ringplan_request.specs.declared.making.Detour.{Detour}
+use Rattle.ringplan_request.specs.declared.making.Exit.{Exit}
+use Rattle.ringplan_request.specs.declared.making.Exit.TheVariants.{Printed, Steps as StepsExit}
+use Rattle.ringplan_request.specs.declared.making.Extent.{Extent}
+use Rattle.ringplan_request.specs.declared.making.Extent.TheVariants.{Begun, Whole as WholePlan}
+use Rattle.ringplan_request.specs.declared.making.Making.{Making}
+use Rattle.ringplan_request.specs.declared.making.Making.TheVariants.{Why, Cert, After, Show, Draw, Steps, Moves, Windows, Goal, Around, State}
+use Rattle.ringplan_request.specs.declared.making.Picture.{Picture}
+use Rattle.ringplan_request.specs.declared.making.Picture.TheVariants.{Map, Rounds}
+use Rattle.ringplan_request.specs.declared.making.Shape.{Shape}
+use Rattle.ringplan_request.specs.declared.making.Shape.TheVariants.{Short, Whole}
+use Rattle.ringplan_request.specs.declared.making.Statement.{Statement}
+use Rattle.ringplan_request.specs.declared.making.Statement.TheVariants as stated
+use Rattle.ringplan_request.specs.declared.making.Wish.{Wish}
 use Rattle.change_text.specs.declared.options.Options.{Options}
 use Rattle.change_text.specs.declared.options.RackRule.{RackRule}
 use Rattle.change_text.specs.declared.options.Unreadable.{Unreadable}

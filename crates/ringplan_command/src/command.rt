@@ -7,7 +7,7 @@ ghost use Rattle.ringplan_command.specs.Makings.{MeansMaking, but_text};
 ghost use Rattle.ringplan_command.specs.Command.{IsTurnedAway, MeansFormat, option_named, part_texts, rows_named, to_describe, to_do, to_drive, to_make, to_part, to_watch};
 ghost use Rattle.ringplan_command.specs.Tree.{word_of};
 ghost use Rattle.ringplan_command.specs.Files.{IsJob, files_in, files_named, files_of, no_files};
-ghost use Rattle.ringplan_job.specs.declared.job.Job.{Job};
+ghost use Rattle.ringplan_request.specs.declared.job.Job.{Job};
 ghost use Rattle.change_text.specs.declared.options.Options.{Options as OptionsValue};
 
 use crate::counts::{Count, MOST_WORKERS, count_of};
@@ -23,7 +23,7 @@ use crate::word::{Guide, Word, guide_of, people_word};
 use change_text::Options;
 use clap::error::ErrorKind;
 use clap::{ArgMatches, Error};
-use ringplan_job::{Job, Making, Screen};
+use ringplan_request::{Job, Making, Screen};
 use std::alloc::{AllocError, Global};
 use std::convert::AsStr;
 

@@ -18,7 +18,7 @@ use crate::word::Word;
 use change_text::{Layout, Options, RackRule, Unreadable};
 use clap::ArgMatches;
 use plan_runs::Back;
-use ringplan_job::{Color, Cut, Detour, Exit, Extent, Making, Picture, Shape, Statement, Wish};
+use ringplan_request::{Color, Cut, Detour, Exit, Extent, Making, Picture, Shape, Statement, Wish};
 use std::alloc::{AllocError, Global};
 
 const MOST_ROUNDS: u32 = 1_000_000;

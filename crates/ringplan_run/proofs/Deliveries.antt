@@ -3,10 +3,10 @@ use Rattle.std.proofs.Common.{◌≡◌, ◌≢◌, ◌⊎◌, inl, inr, ℕ, tr
 use Rattle.std.proofs.lemmas.List.{append_assoc, append-nil}
 use Rattle.std.specs.Prelude.{IsSome, ◌==◌}
 use Rattle.ringplan_command.specs.declared.files.Files.{Files}
-use Rattle.ringplan_job.specs.declared.job.Job.{Job}
-use Rattle.ringplan_job.specs.declared.making.Making.{Making}
+use Rattle.ringplan_request.specs.declared.job.Job.{Job}
+use Rattle.ringplan_request.specs.declared.making.Making.{Making}
 use Rattle.change_text.specs.declared.options.Options.{Options}
-use Rattle.ringplan_jobs.specs.Io.{Prints, AppendsPart, Tells}
+use Rattle.ringplan_answers.specs.Io.{Prints, AppendsPart, Tells}
 use Rattle.ringplan_command.specs.Command.{Asked, asked, only}
 use Rattle.ringplan_command.specs.Files.{Names, files_in, files_of, no_files}
 use Rattle.ringplan_command.specs.Tree.{word_of}

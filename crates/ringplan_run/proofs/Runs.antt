@@ -6,9 +6,9 @@ use Rattle.ring_names.specs.declared.refusal.Refusal.{Refusal}
 use Rattle.ring_names.specs.declared.refusal.Refusal.TheVariants.{OutOfMemory, ReadFailed}
 use Rattle.ring_names.specs.Refusals.{line_of, number_of}
 use Rattle.ringplan_command.specs.declared.form.Form.{Form}
-use Rattle.ringplan_job.specs.declared.job.Job.{Job}
-use Rattle.ringplan_job.specs.declared.job.Job.TheVariants.{Check}
-use Rattle.ringplan_jobs.specs.Answers.{output_of, refused_status, status_of}
+use Rattle.ringplan_request.specs.declared.job.Job.{Job}
+use Rattle.ringplan_request.specs.declared.job.Job.TheVariants.{Check}
+use Rattle.ringplan_answers.specs.Answers.{output_of, refused_status, status_of}
 use Rattle.ring_names.specs.declared.choice.Choice.{Choice}
 use Rattle.ring_names.specs.declared.choice.Choice.TheVariants.{Range, Share}
 use Rattle.history_laws.specs.Choices.{IsChoice}
@@ -19,12 +19,12 @@ use Rattle.ringplan_run.proofs.Deliveries.{prints_nothing}
 use Rattle.ringplan_command.specs.declared.parts.PartWish.{PartWish}
 use Rattle.ringplan_command.specs.Parts.{MeansChoice, PartTexts}
 use Rattle.ringplan_command.specs.Command.{Asked, Asks, AsksBy, AsksDrive, AsksJson, AsksMaking, AsksPart, IsMany, only}
-use Rattle.ringplan_jobs.specs.Io.{Prints, Tells}
-use Rattle.ringplan_jobs.specs.Outcomes.{Finds}
-use Rattle.ringplan_jobs.specs.Stated.{json_of}
+use Rattle.ringplan_answers.specs.Io.{Prints, Tells}
+use Rattle.ringplan_answers.specs.Outcomes.{Finds}
+use Rattle.ringplan_answers.specs.Stated.{json_of}
 use Rattle.ringplan_run.specs.Part.{IsCutShown, IsWanted, ShowsCut, ShowsPart, cut, failed}
 use Rattle.ringplan_run.specs.Run.{FindsDrive, PrintsFound, PrintsStated, Says, Shows, ShowsReport, answered, driven, stated, unread, unstated, undriven, parted, reported, out_of_memory}
-use Rattle.ringplan_job.specs.declared.making.Making.{Making}
+use Rattle.ringplan_request.specs.declared.making.Making.{Making}
 use Rattle.change_text.specs.declared.options.Options.{Options}
 
 pub no_memory_line : line_of OutOfMemory ≡ codes "no 60" ++ 10 ∷ []

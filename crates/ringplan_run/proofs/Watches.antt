@@ -1,6 +1,6 @@
 -- A run by a line of words that may ask for a watch.
 use Rattle.std.proofs.Common.{◌≡◌, ℕ, List, [], ◌∷◌, Option, drop, inl, inr, sym, ap, ◌∙◌}
-use Rattle.ringplan_job.specs.declared.job.Job.{Job}
+use Rattle.ringplan_request.specs.declared.job.Job.{Job}
 use Rattle.ringplan_command.specs.Command.{asked, only, to_do, to_watch}
 use Rattle.ringplan_command.specs.Files.{files_of, no_files}
 use Rattle.ringplan_command.specs.Tree.{word_of}

@@ -6,8 +6,8 @@ use Rattle.history_text.specs.declared.cutting.Part.{Part}
 use Rattle.history_text.specs.declared.cutting.NoPart.{NoPart}
 use Rattle.history_text.specs.Cutting.{IsCut, refusal_of}
 use Rattle.ringplan_command.specs.declared.parts.PartWish.{PartWish}
-use Rattle.ringplan_jobs.specs.Answers.{refused_status}
-use Rattle.ringplan_jobs.specs.Io.{Prints}
+use Rattle.ringplan_answers.specs.Answers.{refused_status}
+use Rattle.ringplan_answers.specs.Io.{Prints}
 
 -- the place is that number on a line; nothing is printed where the part has no such entry
 abbrev pub IsPlaceShown : Option ℕ → List ℕ → ℕ → Type 0

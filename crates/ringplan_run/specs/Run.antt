@@ -3,23 +3,23 @@ use Rattle.std.specs.Prelude.{◌≡◌, ◌≢◌, ◌⊎◌, ℕ, ◌<◌, ◌
 use Rattle.ring_names.specs.declared.refusal.Refusal.{Refusal}
 use Rattle.ring_names.specs.declared.refusal.Refusal.TheVariants.{TooLarge, OutOfMemory, ReadFailed}
 use Rattle.ring_names.specs.Refusals.{line_of}
-use Rattle.ringplan_jobs.specs.Answers.{output_of, status_of}
+use Rattle.ringplan_answers.specs.Answers.{output_of, status_of}
 use Rattle.ringplan_command.specs.Command.{Asked, Asks, AsksDrive, AsksGuide, AsksJson, AsksMaking, AsksPart, IsRefused, WantsHelp}
 use Rattle.ringplan_command.specs.Files.{Names}
-use Rattle.ringplan_jobs.specs.Io.{Prints, max_input}
-use Rattle.ringplan_jobs.specs.Outcomes.{Outcome}
-use Rattle.ringplan_jobs.specs.Stated.{json_of}
+use Rattle.ringplan_answers.specs.Io.{Prints, max_input}
+use Rattle.ringplan_answers.specs.Outcomes.{Outcome}
+use Rattle.ringplan_answers.specs.Stated.{json_of}
 use Rattle.ringplan_run.specs.Drives.{Drives}
 use Rattle.ringplan_run.specs.Part.{Parts}
 use Rattle.ringplan_command.specs.declared.form.Form.{Form}
 use Rattle.ringplan_command.specs.declared.parts.PartWish.{PartWish}
 use Rattle.ringplan_command.specs.declared.word.Guide.{Guide}
-use Rattle.ringplan_job.specs.declared.job.Job.{Job}
-use Rattle.ringplan_job.specs.declared.making.Making.{Making}
+use Rattle.ringplan_request.specs.declared.job.Job.{Job}
+use Rattle.ringplan_request.specs.declared.making.Making.{Making}
 use Rattle.change_text.specs.declared.layout.Layout.{Layout}
 use Rattle.change_text.specs.LayoutReading.{layout_reading}
 use Rattle.change_text.specs.declared.options.Options.{Options}
-use Rattle.ringplan_people.specs.Made.{IsReport}
+use Rattle.ringplan_reports.specs.Made.{IsReport}
 
 -- what comes of an input to a drive by so many workers, printed in that form. It is what the drive makes of the
 -- input, or that the input is too large, if it has too many bytes

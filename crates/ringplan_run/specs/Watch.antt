@@ -2,9 +2,9 @@
 use Rattle.std.specs.Prelude.{◌≡◌, ◌⊎◌, ℕ, List, Option, Result, Err}
 use Rattle.std.specs.Global.{Vec}
 use Rattle.ring_names.specs.declared.refusal.Refusal.{Refusal}
-use Rattle.ringplan_jobs.specs.Answers.{texts_of}
+use Rattle.ringplan_answers.specs.Answers.{texts_of}
 use Rattle.history_watch.specs.Bundles.{WatchesBundle}
-use Rattle.ringplan_jobs.specs.Io.{Tells}
+use Rattle.ringplan_answers.specs.Io.{Tells}
 use Rattle.ringplan_command.specs.Command.{Asked, AsksWatch}
 use Rattle.ringplan_command.specs.Files.{Names}
 use Rattle.ringplan_run.specs.Run.{PrintsFound, Runs, told_by}

@@ -8,7 +8,7 @@ ghost use Rattle.ringplan_run.specs.Watch.{RunsLine};
 use crate::files::say;
 use crate::program::run;
 use ringplan_command::{Request, parse};
-use ringplan_job::{Job, Screen};
+use ringplan_request::{Job, Screen};
 use std::convert::AsStr;
 use std::io::{Read, Write};
 use std::rt::Files;

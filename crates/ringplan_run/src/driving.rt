@@ -6,7 +6,7 @@ ghost use Rattle.texts.specs.Left.{whole_text};
 ghost use Rattle.texts.specs.Late.{NoFaultBefore};
 ghost use Rattle.ring_work.specs.Drives.{drive_at, AreOfClients, IsDrive};
 ghost use Rattle.ring_work.specs.Driven.{IsFault};
-ghost use Rattle.ringplan_jobs.specs.Answers.{texts_of};
+ghost use Rattle.ringplan_answers.specs.Answers.{texts_of};
 ghost use Rattle.ringplan_run.specs.Drives.{outcome_text, DrivesIf, DrivesOfIf, IsOutcome};
 
 use history_text::{are_known, push_history};

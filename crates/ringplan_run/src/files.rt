@@ -2,7 +2,7 @@
 
 ghost use Rattle.std.specs.Prelude.{◌≡◌, ◌⊎◌, IfErr};
 
-use ringplan_jobs::MAX_INPUT;
+use ringplan_answers::MAX_INPUT;
 use std::fmt::{Display, Formatter};
 use std::fs::{OpenFile, OpenOptions, Permissions};
 use std::io::{ErrorKind, Write};

@@ -7,8 +7,8 @@ use crate::files::{Harmless, Limit, open, say};
 use crate::program::NO_MEMORY;
 use change_text::{Layout, Options, read_layout};
 use ring_names::Refusal;
-use ringplan_jobs::read_all;
-use ringplan_people::layout_fault;
+use ringplan_answers::read_all;
+use ringplan_reports::layout_fault;
 use std::alloc::Global;
 use std::rt::Files;
 

@@ -13,4 +13,4 @@ mod watching;
 pub use advice::run_advised;
 pub use driving::drive_bundle;
 pub use program::{end_without_memory, end_without_words, run, run_alone};
-pub use ringplan_job::Screen;
+pub use ringplan_request::Screen;

@@ -2,15 +2,15 @@
 
 ghost use Rattle.std.specs.Prelude.{◌≡◌, ℕ, List};
 ghost use Rattle.history_laws.specs.Choices.{IsChoice};
-ghost use Rattle.ringplan_jobs.specs.Io.{Tells};
+ghost use Rattle.ringplan_answers.specs.Io.{Tells};
 ghost use Rattle.ringplan_run.specs.Part.{ShowsCut, ShowsPart};
 
 use crate::files::say;
 use crate::program::{FAILED, NO_MEMORY, REFUSED, finish};
 use history_text::{MOST_ENTRIES, NoPart, Part, cut_stream};
 use ring_names::{Choice, Refusal};
+use ringplan_answers::{MAX_INPUT, status_of};
 use ringplan_command::{MOST_PARTS, PartWish};
-use ringplan_jobs::{MAX_INPUT, status_of};
 use std::io::{Read, Write};
 use texts::Fields;
 

@@ -2,19 +2,19 @@
 
 ghost use Rattle.std.specs.Prelude.{◌≡◌, ◌≢◌, ◌<◌, ◌≤◌, ◌∷◌, true, false, Err, ℕ, List, [], IfOk, drop, map, option_map, string_bytes};
 ghost use Rattle.ring_names.specs.Refusals.{line_of};
-ghost use Rattle.ringplan_jobs.specs.Answers.{texts_of};
+ghost use Rattle.ringplan_answers.specs.Answers.{texts_of};
 ghost use Rattle.ringplan_command.specs.Command.{Answers, Asked, AsksMaking, asked, only};
 ghost use Rattle.ringplan_command.specs.Files.{files_of, no_files};
 ghost use Rattle.ringplan_command.specs.Tree.{word_of};
-ghost use Rattle.ringplan_jobs.specs.Io.{Prints, Tells};
-ghost use Rattle.ringplan_jobs.specs.Outcomes.{Finds};
+ghost use Rattle.ringplan_answers.specs.Io.{Prints, Tells};
+ghost use Rattle.ringplan_answers.specs.Outcomes.{Finds};
 ghost use Rattle.ringplan_run.specs.Run.{FindsDrive, HasLayout, IsWritten, PrintsFound, PrintsStated, Reports, Runs, RunsTo, Shows, ShowsReport, unlaid};
 ghost use Rattle.ringplan_run.specs.Watch.{RunsLine};
 ghost use Rattle.ringplan_command.specs.declared.command.Request.{Request};
 ghost use Rattle.change_text.specs.declared.options.Options.{Options as OptionsValue};
-ghost use Rattle.ringplan_job.specs.declared.job.Job.{Job};
-ghost use Rattle.ringplan_job.specs.declared.making.Making.{Making};
-ghost use Rattle.ringplan_job.specs.declared.job.Job.TheVariants.{Check};
+ghost use Rattle.ringplan_request.specs.declared.job.Job.{Job};
+ghost use Rattle.ringplan_request.specs.declared.making.Making.{Making};
+ghost use Rattle.ringplan_request.specs.declared.job.Job.TheVariants.{Check};
 
 use crate::driving::drive_bundle;
 use crate::files::{Limit, save, say};
@@ -24,10 +24,12 @@ use crate::several::open_all;
 use crate::watching::print_watch;
 use change_text::Options;
 use ring_names::Refusal;
+use ringplan_answers::{
+    Job, answer_bytes, answer_check, answer_of, read_all, stated_of, write_all,
+};
 use ringplan_command::{CommandLine, Files as Named, Form, NO_WORDS, Request, parse};
-use ringplan_job::{Making, Screen};
-use ringplan_jobs::{Job, answer_bytes, answer_check, answer_of, read_all, stated_of, write_all};
-use ringplan_people::{Report, report_bundle, report_unread};
+use ringplan_reports::{Report, report_bundle, report_unread};
+use ringplan_request::{Making, Screen};
 use std::alloc::Global;
 use std::convert::AsStr;
 use std::io::{Read, Write};

@@ -5,7 +5,7 @@ ghost use Rattle.ringplan_run.specs.Watch.{PrintsWatch, PrintsWatchOf};
 use crate::files::{Limit, open, say};
 use crate::program::{REFUSED, tell};
 use history_watch::watch_bundle;
-use ringplan_jobs::read_all;
+use ringplan_answers::read_all;
 use std::io::{Read, Write};
 use std::rt::Files;
 

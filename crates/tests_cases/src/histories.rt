@@ -1,7 +1,7 @@
 //! Replays of a play's history, also with a fault. A play of the same events shows what is due. Also replays a drive's
 //! printed history.
 
-use ringplan_jobs::{play_bundle, replay_bundle};
+use ringplan_answers::{play_bundle, replay_bundle};
 use std::alloc::{AllocError, Global};
 use std::str;
 

@@ -17,7 +17,7 @@ mod people;
 
 use crate::histories::{is_replayed, others};
 use crate::people::{show_report, words_of};
-use ringplan_jobs::{check_bundle, plan_bundle, play_bundle, replay_bundle};
+use ringplan_answers::{check_bundle, plan_bundle, play_bundle, replay_bundle};
 use ringplan_run::{Screen, run};
 use std::alloc::Global;
 use std::fs::File;

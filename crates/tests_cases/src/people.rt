@@ -1,7 +1,7 @@
 //! Output for people.
 
 use ringplan_command::{CommandLine, Request, parse};
-use ringplan_people::{Report, report_bundle};
+use ringplan_reports::{Report, report_bundle};
 use std::alloc::Global;
 use std::rt::Runtime;
 use std::{fs, io, str};

@@ -1,6 +1,6 @@
 use Rattle.std.proofs.Common.{◌∙◌, ap, inl, refl}
-use Rattle.ringplan_jobs.specs.Verdict.{judged}
-use Rattle.ringplan_jobs.proofs.Verdicts.{verdict-bad, verdict-good}
+use Rattle.ringplan_answers.specs.Verdict.{judged}
+use Rattle.ringplan_answers.proofs.Verdicts.{verdict-bad, verdict-good}
 use Rattle.history_watch.proofs.Looped.{watched_by}
 use Rattle.history_watch.proofs.bundle.watch_bundle.Goals as goal
 

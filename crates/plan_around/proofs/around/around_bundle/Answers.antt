@@ -7,7 +7,7 @@ use Rattle.ring_names.specs.declared.ids.Slot.{Slot}
 use Rattle.ring_table.specs.Value.{names_of}
 use Rattle.plan_runs.specs.declared.back.Back.{Back}
 use Rattle.history_text.specs.Replays.{parts_of}
-use Rattle.ringplan_job.specs.declared.making.Extent.{Extent}
+use Rattle.ringplan_request.specs.declared.making.Extent.{Extent}
 use Rattle.plan_around.specs.Around.{GoesAround}
 use Rattle.plan_around.proofs.around.around_bundle.Goals as goal
 

@@ -3,7 +3,7 @@ use Rattle.ringplan_c.specs.Line.{line_of}
 use Rattle.ringplan_c.specs.Speaking.{Reports, for_others, reported}
 use Rattle.ringplan_command.specs.Command.{Answers, asked}
 use Rattle.ringplan_command.specs.Files.{IsJob, Names}
-use Rattle.ringplan_people.proofs.Kept.{weaker}
+use Rattle.ringplan_reports.proofs.Kept.{weaker}
 use Rattle.ringplan_c.proofs.speaking.report_line.Goals as goal
 
 pub returns-in-Make : goal.returns-in-Make

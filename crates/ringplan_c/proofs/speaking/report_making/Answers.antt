@@ -1,8 +1,8 @@
 use Rattle.std.proofs.Common.{◌≤◌, arith, length, rules}
 use Rattle.std.proofs.lemmas.Grind.{common_steps}
 use Rattle.ringplan_command.specs.Files.{files_in}
-use Rattle.ringplan_jobs.specs.Io.{max_input}
-use Rattle.ringplan_people.proofs.Kept.{weaker}
+use Rattle.ringplan_answers.specs.Io.{max_input}
+use Rattle.ringplan_reports.proofs.Kept.{weaker}
 use Rattle.ringplan_c.specs.Speaking.{NamesNone, read}
 use Rattle.ringplan_c.proofs.speaking.report_making.Goals as goal
 

@@ -2,7 +2,7 @@ use Rattle.std.proofs.Common.{◌≡◌, ◌∙◌, sym, subst, codes, List, [],
 use Rattle.std.specs.Prelude.{Option}
 use Rattle.clap.specs.Words.{first_of, found_of, one_text, rows_of, subcommand_rows_of}
 use Rattle.clap.proofs.WalkLemmas.{one_text-rows}
-use Rattle.ringplan_job.specs.declared.job.Job.TheVariants.{Check}
+use Rattle.ringplan_request.specs.declared.job.Job.TheVariants.{Check}
 use Rattle.ringplan_command.specs.declared.command.Request.TheVariants.{Do, CheckBy, State, StateBy}
 use Rattle.ringplan_command.specs.Makings.{but_text}
 use Rattle.ringplan_command.specs.Command.{MeansFormat, asked_by, format_named, option_named, to_do}

@@ -1,7 +1,7 @@
 use Rattle.std.proofs.Common.{◌≡◌, sym, subst, codes, List, [], ℕ}
 use Rattle.std.specs.Prelude.{Option}
 use Rattle.clap.specs.Words.{first_of, found_of, rows_of, subcommand_rows_of}
-use Rattle.ringplan_job.specs.declared.job.Job.TheVariants.{Replay}
+use Rattle.ringplan_request.specs.declared.job.Job.TheVariants.{Replay}
 use Rattle.ringplan_command.specs.declared.command.Request.TheVariants.{Do, State}
 use Rattle.ringplan_command.specs.Makings.{but_text}
 use Rattle.ringplan_command.specs.Command.{MeansFormat, asked_by, format_named, to_do}

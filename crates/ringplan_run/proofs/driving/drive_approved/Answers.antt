@@ -8,7 +8,7 @@ use Rattle.plan_runs.specs.declared.event.Event.{Event}
 use Rattle.ring_board.specs.declared.receipt.Receipt.{Receipt}
 use Rattle.ring_work.specs.Driven.{Driven, IsFault}
 use Rattle.ringplan_command.specs.declared.form.Form.{Form}
-use Rattle.ringplan_jobs.specs.Answers.{texts_of}
+use Rattle.ringplan_answers.specs.Answers.{texts_of}
 use Rattle.ringplan_run.specs.Drives.{IsOutcome, outcome_text}
 use Rattle.ringplan_run.proofs.driving.drive_approved.Goals as goal
 

@@ -1,6 +1,6 @@
 use Rattle.std.proofs.Common.{ap, ◌∙◌}
 use Rattle.ring_names.specs.Refusals.{number_of}
-use Rattle.ringplan_jobs.specs.Answers.{refused_status}
+use Rattle.ringplan_answers.specs.Answers.{refused_status}
 use Rattle.ringplan_run.proofs.Runs.{none_shown, parts_shown, wanted_entry}
 use Rattle.ringplan_run.proofs.parting.print_part.Goals as goal
 

@@ -1,5 +1,5 @@
 use Rattle.std.proofs.Common.{ℕ, List, [], refl, subst}
-use Rattle.ringplan_jobs.specs.Io.{Prints}
+use Rattle.ringplan_answers.specs.Io.{Prints}
 use Rattle.ringplan_run.specs.Run.{failed}
 use Rattle.ringplan_run.proofs.Deliveries.{prints_nothing, told_bytes}
 use Rattle.ringplan_run.proofs.program.print_report.Goals as goal

@@ -1,6 +1,6 @@
 use Rattle.std.proofs.Common.{◌≡◌, ◌∙◌, ℕ, List, sym, subst}
-use Rattle.ringplan_jobs.specs.Io.{Tells}
-use Rattle.ringplan_people.proofs.Kept.{weaker}
+use Rattle.ringplan_answers.specs.Io.{Tells}
+use Rattle.ringplan_reports.proofs.Kept.{weaker}
 use Rattle.ringplan_run.specs.Run.{read}
 use Rattle.ringplan_run.proofs.program.report_of.Goals as goal
 

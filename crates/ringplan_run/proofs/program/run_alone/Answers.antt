@@ -1,5 +1,5 @@
 use Rattle.std.proofs.Common.{inl, refl}
-use Rattle.ringplan_jobs.specs.Answers.{texts_of}
+use Rattle.ringplan_answers.specs.Answers.{texts_of}
 use Rattle.ringplan_command.specs.Command.{only}
 use Rattle.ringplan_run.proofs.Runs.{ran_found}
 use Rattle.ringplan_run.proofs.program.run_alone.Goals as goal

@@ -1,6 +1,6 @@
 use Rattle.std.proofs.Common.{rules, [], subst, refl, inl, inr}
-use Rattle.ringplan_job.specs.declared.job.Job.TheVariants.{Check}
-use Rattle.ringplan_jobs.specs.Answers.{texts_of}
+use Rattle.ringplan_request.specs.declared.job.Job.TheVariants.{Check}
+use Rattle.ringplan_answers.specs.Answers.{texts_of}
 use Rattle.ringplan_command.specs.Command.{Answers}
 use Rattle.ringplan_command.specs.declared.command.Request.{Request}
 use Rattle.ringplan_run.specs.Run.{described, help, refused}

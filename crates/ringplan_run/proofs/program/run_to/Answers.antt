@@ -1,7 +1,7 @@
 use Rattle.std.proofs.Common.{ℕ, List, Option, Some, sym, subst, refl}
 use Rattle.std.specs.Prelude.{IsSome, String, option_map, string_bytes}
 use Rattle.std.specs.Global.{Global}
-use Rattle.ringplan_jobs.specs.Io.{Prints}
+use Rattle.ringplan_answers.specs.Io.{Prints}
 use Rattle.ringplan_run.specs.Run.{Shows}
 use Rattle.ringplan_run.proofs.Deliveries.{delivers, handed_on, saved}
 use Rattle.ringplan_run.proofs.program.run_to.Goals as goal

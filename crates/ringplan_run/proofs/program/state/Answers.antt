@@ -1,4 +1,4 @@
-use Rattle.ringplan_jobs.specs.Answers.{texts_of}
+use Rattle.ringplan_answers.specs.Answers.{texts_of}
 use Rattle.ringplan_run.proofs.Runs.{prints_stated}
 use Rattle.ringplan_run.proofs.program.state.Goals as goal
 

@@ -1,5 +1,5 @@
 use Rattle.std.proofs.Common.{inr}
-use Rattle.ringplan_jobs.specs.Answers.{texts_of}
+use Rattle.ringplan_answers.specs.Answers.{texts_of}
 use Rattle.ringplan_run.proofs.Runs.{prints_answer}
 use Rattle.ringplan_run.proofs.program.tell.Goals as goal
 

@@ -1,5 +1,0 @@
-use Rattle.ringplan_jobs.proofs.Verdicts.{gives-plan}
-use Rattle.ringplan_jobs.proofs.bundle.plan_bundle.Goals as goal
-
-pub returns-in-Ok-clause-plans : goal.returns-in-Ok-clause-plans
-returns-in-Ok-clause-plans c = gives-plan c.args.bytes.now c.in-Ok.wanted c.plan_wanted.result c.in-Ok.ensures.read c.plan_wanted.ensures

@@ -1,5 +1,0 @@
-use Rattle.ringplan_people.proofs.Kept.{at_goal}
-use Rattle.ringplan_people.proofs.reporting.made_status.Goals as goal
-
-pub returns-in-Goal : goal.returns-in-Goal
-returns-in-Goal c = at_goal c.args.making c.in-Goal.exit c.goal_status.result c.in-Goal.is c.goal_status.ensures

@@ -1,7 +1,0 @@
-use Rattle.std.proofs.Common.{sym, subst, IfOk}
-use Rattle.ringplan_job.specs.declared.making.Making.{Making}
-use Rattle.ringplan_people.specs.Made.{IsMade}
-use Rattle.ringplan_people.proofs.reporting.make_of.Goals as goal
-
-pub returns-in-Goal : goal.returns-in-Goal
-returns-in-Goal c = subst (λ (m : Making). IfOk c.make_goal.result (λ text. IsMade m c.args.options.now c.args.bytes.now text.items)) (sym c.in-Goal.is) c.make_goal.ensures

@@ -1,8 +1,0 @@
-use Rattle.ringplan_people.specs.Studies.{of_ring}
-use Rattle.ringplan_people.proofs.Kept.{kept}
-use Rattle.ringplan_people.proofs.show.show_ring.Goals as goal
-
-pub returns : goal.returns
-returns c =
-    let read = c.in_ok-ring in
-    record { shown = kept c.ring_summary.result (of_ring (read.ring, read.ensures.found.1)) }
