@@ -106,7 +106,7 @@ if command -v go > /dev/null; then
 fi
 jobs="check plan play migrate replay"
 SECONDS=0 number=0
-for bundle in "$top"/crates/tests_cases/data/*.bundle "$top"/examples/*.bundle; do
+for bundle in "$top"/crates/tests_program/data/*.bundle "$top"/examples/*.bundle; do
     for job in $jobs; do
         compare $job
     done

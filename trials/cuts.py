@@ -35,7 +35,7 @@ def main() -> int:
     with ThreadPoolExecutor(len(os.sched_getaffinity(0))) as pool:
         for words, name in CASES:
             with open(
-                os.path.join(TOP, "crates", "tests_cases", "data", name + ".bundle"), "rb"
+                os.path.join(TOP, "crates", "tests_program", "data", name + ".bundle"), "rb"
             ) as file:
                 bundle = file.read()
             whole = answer(words, bundle)

@@ -3,7 +3,7 @@
 trials/growths.py, once `rt ci` or `rt run` has built crates/ringplan and crates/tests_growths. It
 needs a C compiler, for what it preloads. Without one it says so and ends with 0.
 
-Of each case of `tests_cases` the program prints what it prints with memory and all its threads, or
+Of each case of `tests_program` the program prints what it prints with memory and all its threads, or
 `no 60` with status 3; the checks are also done by three workers. Of a drive by several workers, in
 which the threads' turns are not the same in two runs, the first line alone is compared. The stores
 of `tests_growths`, which run through all kinds of event, print the same, for an event that was
@@ -24,7 +24,7 @@ HERE = os.path.dirname(os.path.abspath(__file__))
 CRATES = os.path.join(os.path.dirname(HERE), "crates")
 RUN = os.path.join(CRATES, "ringplan", "out", "ringplan")
 STORES = os.path.join(CRATES, "tests_growths", "out", "tests_growths")
-CASES = os.path.join(CRATES, "tests_cases")
+CASES = os.path.join(CRATES, "tests_program")
 # An exit status, and what is on standard output.
 Ended = tuple[int, bytes]
 # A name, the program with its words, its input, what is owed if memory is refused, and whether only
@@ -101,10 +101,10 @@ def people() -> Iterator[Case]:
             if name in SOUGHT
             else ("why",)
         ):
-            given = os.path.join(CRATES, "tests_cases", "data", name + ".bundle")
+            given = os.path.join(CRATES, "tests_program", "data", name + ".bundle")
             yield "%s %s" % (name, words), [RUN, *words.split()], given, NOTHING, False
     for name, words in WISHED:
-        given = os.path.join(CRATES, "tests_cases", "data", name + ".bundle")
+        given = os.path.join(CRATES, "tests_program", "data", name + ".bundle")
         yield "%s %s" % (name, words), [RUN, *words.split()], given, NOTHING, False
 
 

@@ -40,7 +40,7 @@ READS = ((0, 1), (1, 2), (2, 0))
 
 
 def bundle_of() -> str:
-    given = pathlib.Path(TOP, "crates/tests_cases/data/ring64_grow.bundle").read_text()
+    given = pathlib.Path(TOP, "crates/tests_program/data/ring64_grow.bundle").read_text()
     return ask(["goal"], given)[0]
 
 

@@ -174,7 +174,7 @@ def named() -> Iterator[str]:
             [v % 3 for v in range(15)],
         )
     )[2]
-    with open(os.path.join(TOP, "crates", "tests_cases", "data", "ring64_grow.bundle")) as it:
+    with open(os.path.join(TOP, "crates", "tests_program", "data", "ring64_grow.bundle")) as it:
         two = it.read()
     for text, moves, rounds in ((three, 36, 6), (two, 26, 4)):
         words = made(["show"], made(["goal"], text))

@@ -845,7 +845,7 @@ def formats() -> None:
         rows = re.findall(r"^\| (\d+) \| (\w+) \| ([^|]+) \|", it.read(), re.MULTILINE)
     # 70 is of a history with two values, and of a drive with none.
     names = {(int(number), values == "none"): name for number, name, values in rows}
-    with open(f"{TOP}/crates/tests_cases/args") as it:
+    with open(f"{TOP}/crates/tests_program/args") as it:
         words = it.read().split()
     kinds = {
         word: words.index(word)
@@ -876,7 +876,7 @@ def formats() -> None:
 
 def as_json(word: str, case: str, names: Mapping[tuple[int, bool], str]) -> None:
     """The answer on a case as an object, beside its line."""
-    given = f"{TOP}/crates/tests_cases/data/{case}.bundle"
+    given = f"{TOP}/crates/tests_program/data/{case}.bundle"
     text, errors, status = run(word, given)
     number, *values = [int(field) for field in text.split(b"\n")[0].split()[1:]] or [0]
     owed = (
@@ -1043,17 +1043,17 @@ def large_history(folder: str, share: list[str], front: bytes) -> None:
 
 
 def cases_of(word: str) -> list[str]:
-    """The bundles of the cases of a command, as they stand in the words of tests_cases."""
-    with open(f"{TOP}/crates/tests_cases/args") as it:
+    """The bundles of the cases of a command, as they stand in the words of tests_program."""
+    with open(f"{TOP}/crates/tests_program/args") as it:
         words = it.read().split()
     start = words.index(word) + 1
     bundles = {
         name[: -len(".bundle")]
-        for name in os.listdir(f"{TOP}/crates/tests_cases/data")
+        for name in os.listdir(f"{TOP}/crates/tests_program/data")
         if name.endswith(".bundle")
     }
     end = next((at for at in range(start, len(words)) if words[at] not in bundles), len(words))
-    return [f"{TOP}/crates/tests_cases/data/{case}.bundle" for case in words[start:end]]
+    return [f"{TOP}/crates/tests_program/data/{case}.bundle" for case in words[start:end]]
 
 
 def said_as_json(what: str, found: bytes, line: bytes) -> dict[str, Any]:
@@ -1146,7 +1146,7 @@ def state_show(given: str) -> None:
 
 
 def state_goal(name: str) -> None:
-    given = f"{TOP}/crates/tests_cases/data/{name}.bundle"
+    given = f"{TOP}/crates/tests_program/data/{name}.bundle"
     text, errors, status = run("goal", "--exit-code", given)
     found = run("goal", "--exit-code", "--format", "json", given)
     owes(f"goal of {name} as JSON", found, lambda it: it.endswith(b"\n"), b"", status)
@@ -1206,7 +1206,7 @@ def colors() -> None:
         ("show", "plan_replace"),
         ("show", "down64"),
     ):
-        given = f"{TOP}/crates/tests_cases/data/{name}.bundle"
+        given = f"{TOP}/crates/tests_program/data/{name}.bundle"
         plain, errors, status = run(word, given)
         owes(
             f"{word} of {name} without colours",

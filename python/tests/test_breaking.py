@@ -18,7 +18,7 @@ from ringplan.breaks.machine import Frame, shows
 from ringplan.texts import Script, read_plan, read_texts
 
 TOP = pathlib.Path(__file__).parents[2]
-CASES = TOP / "crates/tests_cases/data"
+CASES = TOP / "crates/tests_program/data"
 LOST = (
     "broken: an acknowledged put of k0 is not at slots 1 and 2 of partition 0, and a get may read"
     " only these"

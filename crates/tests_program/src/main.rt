@@ -12,8 +12,14 @@
 //! The words of `people.rt` ask for output for people.
 #![tactic(auto)]
 
+#[cfg(test)]
+mod ends;
 mod histories;
+#[cfg(test)]
+mod memory;
 mod people;
+#[cfg(test)]
+mod program;
 
 use crate::histories::{is_replayed, others};
 use crate::people::{show_report, words_of};
