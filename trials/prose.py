@@ -56,11 +56,11 @@ BOUNDS = {
 # rule at most; how many words the comments of .rt files have; and how many doc comments have over
 # LONG. These counts can only fall.
 TEXTS = {
-    "comments of .rt": [0, 6, 2, 1, 0, 1, 12, 10, 0],
-    "comments of .antt": [13, 26, 10, 0, 0, 9, 25, 34, 0],
-    "printed words": [0, 0, 3, 0, 0, 0, 11, 4, 0],
+    "comments of .rt": [0, 1, 1, 0, 0, 0, 5, 2, 0],
+    "comments of .antt": [0, 0, 0, 0, 0, 0, 0, 0, 0],
+    "printed words": [0, 0, 3, 0, 0, 0, 5, 1, 0],
 }
-COMMENTS, LONG, MOST_LONG = 51500, 30, 17
+COMMENTS, LONG, MOST_LONG = 41500, 30, 10
 # One clause a sentence: how often all pages together may have these.
 CLAUSES, MOST_CLAUSES = r"\b(?:of|by) which\b|\basks? nothing of\b|\bsays of\b", 20
 
