@@ -3,7 +3,7 @@
 trials/growths.py, once `rt ci` or `rt run` has built crates/ringplan and crates/tests_growths. It
 needs a C compiler, for what it preloads. Without one it says so and ends with 0.
 
-Of each case of `tests_program` the program prints what it prints with memory and all its threads, or
+Of each case of `tests_program` the program prints what it prints with memory and all threads, or
 `no 60` with status 3; the checks are also done by three workers. Of a drive by several workers, in
 which the threads' turns are not the same in two runs, the first line alone is compared. The stores
 of `tests_growths`, which run through all kinds of event, print the same, for an event that was

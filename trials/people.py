@@ -439,7 +439,8 @@ most, memory = large()
 print(f"large plans: 18 runs of at most {most:.2f} s and {memory} MB")
 bars, pictures = 0, 0
 for path in sorted(
-    glob.glob(f"{TOP}/examples/*.bundle") + glob.glob(f"{TOP}/crates/tests_program/data/*64*.bundle")
+    glob.glob(f"{TOP}/examples/*.bundle")
+    + glob.glob(f"{TOP}/crates/tests_program/data/*64*.bundle")
 ):
     with open(path) as it:
         text = it.read()
