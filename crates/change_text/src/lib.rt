@@ -22,6 +22,6 @@ pub use change::Change;
 pub use layout::{Entry, Fact, Layout};
 pub use layout_reading::read_layout;
 pub use options::{Options, RackRule, Unreadable};
-pub use reading::{read_change, read_change_section};
+pub use reading::read_change;
 pub use wanted::{Wanted, read_wanted};
 pub use writing::write_change;

@@ -25,6 +25,5 @@ pub use input::{CHUNK, MOST_ENTRIES, read_some};
 pub use known::are_known;
 pub use lines::{entry_line, keep_entry};
 pub use reader::{Reader, Stage};
-pub use reading::{read_history, read_history_section};
-pub use said::{SaidReply, SmallRow};
+pub use reading::read_history;
 pub use writing::{push_entry, push_history};

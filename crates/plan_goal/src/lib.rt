@@ -29,8 +29,7 @@ mod sparing;
 mod unread;
 mod windows;
 
-pub use aim::{Aim, Unfit, is_unread, unread_partitions, why_unfit};
-pub use alike::is_like;
+pub use aim::{Aim, Unfit, why_unfit};
 pub use cert::{cert_bundle, found_bundle, push_excess};
 pub use dead::Dead;
 pub use goal::{dead_by, goal_bundle, goal_of, led_bundle, nodes_of, wish_bundle};
