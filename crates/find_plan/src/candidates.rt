@@ -96,8 +96,8 @@ impl Candidates {
         Some(self.places.item(start.saturating_add(finger)) as usize)
     }
 
-    /// Returns the slot's next candidate. Turns alternate: a former owner's slot, which regains its own, and a slot
-    /// that a member got by a move.
+    /// Returns the next slot to exchange owners with. Turns alternate between slots of former owners, who regain their
+    /// own slots, and slots that members got by moves.
     pub fn next(&mut self, seats: &Seats, place: usize, turn: u32) -> Option<usize> {
         let ways = small(self.gone.len()).saturating_add(1);
         let round = quotient(turn, ways);

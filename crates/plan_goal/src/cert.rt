@@ -91,7 +91,7 @@ pub fn found_bundle(alloc: Global, bytes: &[u8]) -> Result<Vec<u8>, Refusal>
     Ok(text)
 }
 
-/// For `TooManyChains`, adds that no certificate has fewer chains, if so.
+/// For `TooManyChains`: adds a line if no certificate can do with fewer chains.
 pub fn push_excess(
     alloc: Global,
     out: &mut Words,

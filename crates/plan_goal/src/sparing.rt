@@ -93,7 +93,8 @@ fn is_step_spared(dead: &Dead, ring: &Ring, present: &Present, step: &Step) -> b
     }
 }
 
-/// Whether no step joins, reads, gives a slot to, drops data of or retires these nodes. Costs a pass over the plan.
+/// Whether no step needs these nodes: none joins, retires or copies from one, gives one a slot, or drops data of one.
+/// Costs a pass over the plan.
 pub fn spares(alloc: Global, ring: &Ring, plan: &Plan, dead: &[NodeId]) -> Result<bool, Refusal>
     requires { Suits ring.now plan.now }
     ensures ok { IfOk result (λ b. IsTrue b → spares ring.now plan.now dead.now ≡ true) }

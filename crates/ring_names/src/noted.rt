@@ -145,7 +145,7 @@ fn put(table: &mut [Noted], place: usize, noted: Noted) -> bool
     false
 }
 
-/// Notes the bytes' number if a place near their checksum's is free.
+/// Notes the number of these bytes, if a place is free near the place for their checksum.
 pub fn note(table: &mut [Noted], bytes: &[u8], number: usize) -> bool
     ensures noted { result ≡ true → IsNoted table.new bytes.now number }
     ensures same { result ≡ false → table.new ≡ table.old }

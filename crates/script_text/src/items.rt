@@ -137,7 +137,7 @@ pub fn hint(ring: &Ring, fields: &mut Fields) -> Result<((u32, u32), NodeId), Re
     both(place, node)
 }
 
-/// Takes a declared node and a slot.
+/// Reads a declared node and a slot from the fields.
 #[tactic(auto, unfolding(crate::specs::Reading::handoff_at))]
 pub fn handoff(ring: &Ring, fields: &mut Fields) -> Result<(NodeId, (u32, u32)), Refusal>
     ensures { Does (handoff_at ring.now) fields.old result fields.new }

@@ -166,7 +166,7 @@ impl<'a> ValueWord<'a> {
     }
 }
 
-/// A put's gets, still in the text.
+/// The numbers of the gets that a put names, not yet read from the text.
 #[derive(Drop)]
 pub struct SeenRow<'a> {
     row: NumberRow<'a>,

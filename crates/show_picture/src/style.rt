@@ -1,6 +1,6 @@
 //! Looks on light and dark pages.
 
-/// The ground.
+/// The page's background.
 pub const PAGE: &[u8] = b"page";
 
 /// Given slots.
