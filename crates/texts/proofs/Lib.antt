@@ -1,4 +1,4 @@
-pub mod Numbers
+pub mod NumberLaws
 pub mod Shorts
 pub mod Cuts
 pub mod Items
@@ -15,11 +15,11 @@ pub mod FrameLaws
 pub mod Measured
 pub mod Firsts
 pub mod Untils
-pub mod Words
+pub mod WordLaws
 pub mod InFront
 pub mod Faults
 pub mod Halves
-pub mod Parts
+pub mod PartLaws
 pub mod Forms
 pub mod MoreForms
 pub mod Places

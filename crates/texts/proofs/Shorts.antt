@@ -6,7 +6,7 @@ use Rattle.std.proofs.lemmas.Bool.{and_parts}
 use Rattle.std.proofs.lemmas.Bool.Decides.{nat_tests}
 use Rattle.std.proofs.lemmas.List.{length-take, take_more}
 use Rattle.texts.specs.Number.{value_from, capped}
-use Rattle.texts.proofs.Numbers.{value-push}
+use Rattle.texts.proofs.NumberLaws.{value-push}
 
 -- the greatest value of k digits behind those of n
 most : ℕ → ℕ → ℕ

@@ -1,7 +1,7 @@
 use Rattle.std.proofs.Common.{◌≡◌, ℕ, ◌+◌, ◌-◌, ◌*◌, ◌<◌, List, length, get_or, take, min, refl, ◌∙◌, arith}
 use Rattle.std.proofs.lemmas.List.{take_more}
 use Rattle.texts.specs.Number.{value_from}
-use Rattle.texts.proofs.Numbers.{value-push}
+use Rattle.texts.proofs.NumberLaws.{value-push}
 use Rattle.change_text.proofs.number.value_of.Goals as goal
 
 capped-step : (a d : ℕ) → min (10 * min a 281474976710656 + d) 281474976710656 ≡ min (10 * a + d) 281474976710656

@@ -1,5 +1,5 @@
 use Rattle.std.proofs.Common.{arith}
-use Rattle.texts.proofs.Parts.{late-first, late-second, on-after}
+use Rattle.texts.proofs.PartLaws.{late-first, late-second, on-after}
 use Rattle.ring_table.specs.Reading.{ring_at}
 use Rattle.change_text.specs.Reading.{change_at}
 use Rattle.change_text.specs.Wanted.{wanted_of, wanted_at}

@@ -1,6 +1,6 @@
 use Rattle.std.proofs.Common.{[], arith}
 use Rattle.plan_cert.specs.Front.{front_at}
-use Rattle.texts.proofs.Parts.{late-first, late-second, bad-second, good-second, handed-on, on-after}
+use Rattle.texts.proofs.PartLaws.{late-first, late-second, bad-second, good-second, handed-on, on-after}
 use Rattle.history_text.specs.Reading.{history_at}
 use Rattle.history_text.specs.Replays.{parts_of, replay_of, replay_at}
 use Rattle.history_text.proofs.HistoryLates.{history-on}

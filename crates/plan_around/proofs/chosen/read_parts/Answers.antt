@@ -1,5 +1,5 @@
 use Rattle.std.proofs.Common.{refl}
-use Rattle.texts.proofs.Parts.{handed-on}
+use Rattle.texts.proofs.PartLaws.{handed-on}
 use Rattle.plan_around.specs.Chosen.{halted_at, halted_of}
 use Rattle.plan_around.proofs.chosen.read_parts.Goals as goal
 

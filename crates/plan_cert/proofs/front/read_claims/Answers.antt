@@ -3,7 +3,7 @@ use Rattle.plan_text.proofs.PlanLates.{past-plan}
 use Rattle.plan_cert.specs.Reading.{cert_at}
 use Rattle.plan_cert.proofs.CertLates.{cert-on}
 use Rattle.plan_cert.specs.Front.{claims_of, claims_at}
-use Rattle.texts.proofs.Parts.{late-first, late-second, on-monotone}
+use Rattle.texts.proofs.PartLaws.{late-first, late-second, on-monotone}
 use Rattle.plan_cert.proofs.front.read_claims.Goals as goal
 
 pub returns-in_err-plan-clause-late : goal.returns-in_err-plan-clause-late

@@ -2,7 +2,7 @@ use Rattle.std.proofs.Common.{arith}
 use Rattle.ring_table.specs.Reading.{ring_at}
 use Rattle.plan_cert.specs.Front.{claims_at, front_of, front_at}
 use Rattle.plan_cert.proofs.FrontRead.{claims-on, past-claims}
-use Rattle.texts.proofs.Parts.{late-first, late-second, on-after}
+use Rattle.texts.proofs.PartLaws.{late-first, late-second, on-after}
 use Rattle.plan_cert.proofs.front.read_front_section.Goals as goal
 
 pub returns-in_err-ring-clause-late : goal.returns-in_err-ring-clause-late

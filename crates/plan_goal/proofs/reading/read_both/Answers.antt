@@ -1,5 +1,5 @@
 use Rattle.std.proofs.Common.{arith}
-use Rattle.texts.proofs.Parts.{late-first, late-second, on-after}
+use Rattle.texts.proofs.PartLaws.{late-first, late-second, on-after}
 use Rattle.ring_table.specs.Reading.{ring_at}
 use Rattle.ring_table.proofs.RingLates.{ring-on}
 use Rattle.plan_goal.specs.Goals.{goal_of, goal_at}

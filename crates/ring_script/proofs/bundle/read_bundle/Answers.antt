@@ -2,7 +2,7 @@ use Rattle.std.proofs.Common.{sym}
 use Rattle.texts.proofs.Lates.{late-whole, four-lines}
 use Rattle.texts.specs.Left.{whole_text}
 use Rattle.ring_script.specs.Bundles.{bundle_at}
-use Rattle.texts.proofs.Parts.{over-late}
+use Rattle.texts.proofs.PartLaws.{over-late}
 use Rattle.ring_script.proofs.bundle.read_bundle.Goals as goal
 
 pub returns-in_err-bundle-clause-late : goal.returns-in_err-bundle-clause-late

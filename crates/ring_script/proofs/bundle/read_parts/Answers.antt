@@ -1,6 +1,6 @@
 use Rattle.std.proofs.Common.{arith}
 use Rattle.plan_cert.specs.Front.{front_at}
-use Rattle.texts.proofs.Parts.{late-first, late-second, bad-second, handed, on-after}
+use Rattle.texts.proofs.PartLaws.{late-first, late-second, bad-second, handed, on-after}
 use Rattle.ring_script.specs.Bundles.{events_of, bundle_of, bundle_at}
 use Rattle.ring_script.proofs.Bundled.{events-on}
 use Rattle.ring_script.proofs.bundle.read_parts.Goals as goal

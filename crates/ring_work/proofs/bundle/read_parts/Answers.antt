@@ -1,5 +1,5 @@
 use Rattle.plan_cert.specs.Front.{front_at}
-use Rattle.texts.proofs.Parts.{late-first, late-second, bad-second, handed}
+use Rattle.texts.proofs.PartLaws.{late-first, late-second, bad-second, handed}
 use Rattle.ring_work.specs.Drives.{scripts_at, bundle_of, drive_at}
 use Rattle.ring_work.proofs.ScriptsRead.{scripts-on}
 use Rattle.ring_work.proofs.bundle.read_parts.Goals as goal

@@ -2,7 +2,7 @@ use Rattle.std.proofs.Common.{sym, ◌∙◌, arith}
 use Rattle.texts.proofs.Lates.{late-part}
 use Rattle.ring_work.specs.Drives.{Scripts, scripts_from}
 use Rattle.ring_work.proofs.ScriptsRead.{from-step, from-fault, from-next, next-past}
-use Rattle.texts.proofs.Parts.{handed-on}
+use Rattle.texts.proofs.PartLaws.{handed-on}
 use Rattle.ring_work.proofs.scripts.read_more.Goals as goal
 
 pub returns-in_err-read_next-clause-read : goal.returns-in_err-read_next-clause-read

@@ -3,7 +3,7 @@ use Rattle.texts.proofs.Lates.{late-part, late-here}
 use Rattle.ring_work.specs.Drives.{Scripts, next_at}
 use Rattle.ring_work.proofs.ScriptsRead.{in-next, past-next}
 use Rattle.ring_work.proofs.scripts.read_next.Goals as goal
-use Rattle.texts.proofs.Parts.{on-after}
+use Rattle.texts.proofs.PartLaws.{on-after}
 
 pub returns-in_err-script-clause-late : goal.returns-in_err-script-clause-late
 returns-in_err-script-clause-late c =

@@ -1,5 +1,5 @@
 use Rattle.std.proofs.Common.{◌<◌, length, ◌∙◌, arith}
-use Rattle.texts.proofs.Numbers.{value-step}
+use Rattle.texts.proofs.NumberLaws.{value-step}
 use Rattle.texts.proofs.number.capped_value.Goals as goal
 
 pub loop-at-preserved : goal.loop-at-preserved

@@ -4,7 +4,7 @@ use Rattle.std.specs.Str.{all_ascii_digits}
 use Rattle.texts.proofs.Cuts.{cut_at, none_at}
 use Rattle.texts.proofs.Firsts.{take_whole}
 use Rattle.texts.proofs.InFront.{none_in_front, odd_in_front, digit_is_no_space}
-use Rattle.texts.proofs.Numbers.{digits-step}
+use Rattle.texts.proofs.NumberLaws.{digits-step}
 use Rattle.texts.proofs.Shorts.{short-step}
 use Rattle.texts.proofs.number.number_in_front.Goals as goal
 

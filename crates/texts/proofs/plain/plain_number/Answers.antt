@@ -1,5 +1,5 @@
 use Rattle.std.proofs.Common.{◌<◌, length, sym, ◌∙◌, arith}
-use Rattle.texts.proofs.Numbers.{digits-step}
+use Rattle.texts.proofs.NumberLaws.{digits-step}
 use Rattle.texts.proofs.Shorts.{short-step}
 use Rattle.texts.proofs.Plains.{front-small, number-front}
 use Rattle.texts.proofs.plain.plain_number.Goals as goal

@@ -1,5 +1,5 @@
 use Rattle.std.proofs.Common.{sym, ◌∙◌}
-use Rattle.texts.proofs.Words.{other_word, word_behind, word_whole}
+use Rattle.texts.proofs.WordLaws.{other_word, word_behind, word_whole}
 use Rattle.texts.proofs.cursor.Cursor.takes.Goals as goal
 use Rattle.texts.proofs.cursor.Cursor.takes.Goals.{then-word-bytes, else-word-bytes}
 
