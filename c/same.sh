@@ -105,6 +105,8 @@ if command -v go > /dev/null; then
     by_go=$scratch/llvm/embed
 fi
 jobs="check plan play migrate replay"
+people=$(sed -n 's/^RINGPLAN_COMMAND(\(.*\))$/\1/p' "$here/ringplan.h")
+[ -n "$people" ]
 SECONDS=0 number=0
 for bundle in "$top"/crates/tests_program/data/*.bundle "$top"/examples/*.bundle; do
     for job in $jobs; do
@@ -114,7 +116,9 @@ for bundle in "$top"/crates/tests_program/data/*.bundle "$top"/examples/*.bundle
     [[ $bundle = "$top"/examples/* || $((number % 6)) = 0 ]] || continue
     node=$(sed -n '/^node /{s/^node \([^ ]*\).*/\1/p;q}' "$bundle")
     node=${node:-n}
-    compare goal
+    for word in $people; do
+        compare "$word"
+    done
     compare goal --dead "$node" --exit-code
     compare goal --racks-behind .
     compare goal --racks-behind none
@@ -123,17 +127,12 @@ for bundle in "$top"/crates/tests_program/data/*.bundle "$top"/examples/*.bundle
     compare around --dead "$node" --back
     compare show --color always --all
     compare show --format json --racks-behind .
-    compare draw
     compare draw --map
     compare why --color always
     compare why --format json
-    compare steps
     compare steps --moves
     compare windows --rounds 2
     compare windows --rounds 1 --only 1
-    compare windows
-    compare after
-    compare cert
     compare cert --help
 done
 

@@ -6,6 +6,7 @@ from __future__ import annotations
 
 import concurrent.futures
 import pathlib
+import re
 import subprocess
 from collections.abc import Callable
 
@@ -23,22 +24,16 @@ CALLS = {
     "replay": library.replay,
     "migrate": library.migrate,
 }
-OTHERS: dict[str, tuple[Callable[..., Answer], list[list[str]]]] = {
-    "goal": (
-        library.goal,
-        [[], ["--dead", "b"], ["--racks-behind", "none"], ["--exit-code"], ["--none"]],
-    ),
-    "around": (library.around, [["--dead", "b"], ["--dead", "c", "--back"], []]),
-    "why": (library.why, [[], ["--color", "always"], ["--format", "json"]]),
-    "show": (
-        library.show,
-        [[], ["--all"], ["--racks-behind", "."], ["--format", "json"], ["--help"]],
-    ),
-    "draw": (library.draw, [[], ["--map"]]),
-    "steps": (library.steps, [[], ["--moves"]]),
-    "cert": (library.cert, [[]]),
-    "windows": (library.windows, [[], ["--rounds", "1"]]),
-    "after": (library.after, [[]]),
+# Every command of the header, and options that are tried beside none.
+OTHERS = re.findall(r"^RINGPLAN_COMMAND\((\w+)\)$", (TOP / "c/ringplan.h").read_text(), re.M)
+OPTIONS: dict[str, list[list[str]]] = {
+    "goal": [["--dead", "b"], ["--racks-behind", "none"], ["--exit-code"], ["--none"]],
+    "around": [["--dead", "b"], ["--dead", "c", "--back"]],
+    "why": [["--color", "always"], ["--format", "json"]],
+    "show": [["--all"], ["--racks-behind", "."], ["--format", "json"], ["--help"]],
+    "draw": [["--map"]],
+    "steps": [["--moves"]],
+    "windows": [["--rounds", "1"]],
 }
 
 
@@ -74,7 +69,8 @@ def test_calls_answer_as_the_program_does(command: str, way: str) -> None:
 
 @pytest.mark.parametrize("command", OTHERS)
 def test_commands_with_options_answer_as_the_program_does(command: str, way: str) -> None:
-    call, choices = OTHERS[command]
+    call = getattr(library, command)
+    choices: list[list[str]] = [[], *OPTIONS.get(command, [])]
     for path in EXAMPLES if way == "library" else EXAMPLES[::8]:
         for options in choices:
             status, text, errors = wanted(command, path.read_bytes(), *options)
