@@ -11,7 +11,7 @@ use ring_names::Refusal;
 use std::alloc::Global;
 use texts::{Fields, both, finish};
 
-#[tactic(auto, unfolding(crate::specs::Reading::rack_at))]
+#[tactic(auto, unfolding(crate::specs::LayoutReading::rack_at))]
 fn rack_line(alloc: Global, mut fields: Fields) -> Result<Fact, Refusal>
     ensures { Gives result (rack_at fields.entry.number fields.entry.fields) }
 {
@@ -26,7 +26,7 @@ fn rack_line(alloc: Global, mut fields: Fields) -> Result<Fact, Refusal>
     }
 }
 
-#[tactic(auto, unfolding(crate::specs::Reading::weight_at))]
+#[tactic(auto, unfolding(crate::specs::LayoutReading::weight_at))]
 fn weight_line(alloc: Global, mut fields: Fields) -> Result<Fact, Refusal>
     ensures { Gives result (weight_at fields.entry.number fields.entry.fields) }
 {
@@ -41,7 +41,7 @@ fn weight_line(alloc: Global, mut fields: Fields) -> Result<Fact, Refusal>
     }
 }
 
-#[tactic(auto, unfolding(crate::specs::Reading::alias_line_at))]
+#[tactic(auto, unfolding(crate::specs::LayoutReading::alias_line_at))]
 fn alias_line(alloc: Global, mut fields: Fields) -> Result<Fact, Refusal>
     ensures { Gives result (alias_line_at fields.entry.number fields.entry.fields) }
 {
@@ -56,7 +56,7 @@ fn alias_line(alloc: Global, mut fields: Fields) -> Result<Fact, Refusal>
     }
 }
 
-#[tactic(auto, unfolding(crate::specs::Reading::size_at))]
+#[tactic(auto, unfolding(crate::specs::LayoutReading::size_at))]
 fn size_line(mut fields: Fields) -> Result<Fact, Refusal>
     ensures { result ≡ size_at fields.entry.number fields.entry.fields }
 {
@@ -66,7 +66,7 @@ fn size_line(mut fields: Fields) -> Result<Fact, Refusal>
     Ok(Fact::Size { partition, size })
 }
 
-#[tactic(auto, unfolding(crate::specs::Reading::dead_at))]
+#[tactic(auto, unfolding(crate::specs::LayoutReading::dead_at))]
 fn dead_line(alloc: Global, mut fields: Fields) -> Result<Fact, Refusal>
     ensures { Gives result (dead_at fields.entry.number fields.entry.fields) }
 {

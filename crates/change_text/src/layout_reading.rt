@@ -23,7 +23,7 @@ fn read_entries(alloc: Global, draft: &mut Draft, lines: &mut Lines) -> Result<(
     Ok(())
 }
 
-#[tactic(auto, unfolding(crate::specs::Reading::layout_at))]
+#[tactic(auto, unfolding(crate::specs::LayoutReading::layout_at))]
 fn read_parts(alloc: Global, lines: &mut Lines) -> Result<Layout, Refusal>
     ensures { Reads result lines.new (layout_at lines.old) }
 {

@@ -48,12 +48,12 @@ abbrev pub Meets : Parts → World → Type 0
 Meets a w = Tells (ring_of a) (plan_of a) (kept_of a) w
 
 -- what is kept is of the ring's size, and only keys that have numbers are stored or kept
-pub record AreSized (ring : RingValue) (keys : KeyTable) (stores : Stores) (hints : Hints) : Type 0 where
+pub record AreSized (ring : RingValue) (table : KeyTable) (stores : Stores) (hints : Hints) : Type 0 where
   pub space : shared_space stores ≡ ring.q
-  pub keys : keys.q ≡ ring.q
-  pub numbered : AreNumbered keys.keys
-  pub stored : (x : ℕ) (s : Slot) → ArePlaced keys (held_at stores x s)
-  pub hinted : (x : ℕ) (s : Slot) → ArePlaced keys (hinted_at hints x s)
+  pub keys : table.q ≡ ring.q
+  pub numbered : AreNumbered table.keys
+  pub stored : (x : ℕ) (s : Slot) → ArePlaced table (held_at stores x s)
+  pub hinted : (x : ℕ) (s : Slot) → ArePlaced table (hinted_at hints x s)
 
 abbrev pub IsSized : Parts → Type 0
 IsSized a = AreSized (ring_of a) a.keys a.stores a.hints
