@@ -19,7 +19,7 @@ use Rattle.store_parts.specs.KeyTable.{KeyTable}
 use Rattle.store_parts.specs.declared.parts.Parts.{Parts}
 use Rattle.store_parts.specs.Kept.{Kept, Tells}
 use Rattle.store_parts.specs.Numbers.{by_keys, ArePlaced}
-use Rattle.store_parts.specs.Parts.{Meets, IsSized, IsSound, ring_of, plan_of, kept_of}
+use Rattle.store_parts.specs.Parts.{AreSized, Meets, IsSized, IsSound, ring_of, plan_of, kept_of}
 use Rattle.store_parts.specs.PutsMeet.{AreNumbered}
 use Rattle.store_parts.proofs.Numbers.{held_still, placed_still}
 use Rattle.store_parts.proofs.PutsKeys.{numbered_named}
@@ -54,11 +54,12 @@ named_still a keys key sound same lies w m =
     (subst (λ (h : ℕ → Slot → List ℕ → List Version). Tells (ring_of a) (plan_of a) (record (kept_of a) { keys = more.keys; stored = h; hinted = by_keys a.keys (hinted_at a.hints) }) w) (held_on a.keys key (held_at a.stores) sound.sized.numbered sound.sized.stored) named))
 
 -- and its parts are of the ring's size still
-pub sized_still : (a b : Parts) (key : List ℕ) → IsSized a → ring_of b ≡ ring_of a → b.stores ≡ a.stores → b.hints ≡ a.hints → b.keys ≡ record a.keys { keys = with_name a.keys.keys key } → IsSized b
-sized_still a b key s approved stores hints keys = record {
-  space = ap shared_space stores ∙ s.space ∙ ap (λ (r : RingValue). r.q) (sym approved);
-  keys = ap (λ (t : KeyTable). t.q) keys ∙ s.keys ∙ ap (λ (r : RingValue). r.q) (sym approved);
-  numbered = subst (λ (u : KeyTable). AreNumbered u.keys) (sym keys) (numbered_named a.keys.keys key s.numbered);
-  stored = λ x t. subst (λ (u : KeyTable). ArePlaced u (held_at b.stores x t)) (sym keys) (subst (λ (z : Stores). ArePlaced (record a.keys { keys = with_name a.keys.keys key }) (held_at z x t)) (sym stores) (placed_still a.keys key (held_at a.stores x t) (s.stored x t)));
-  hinted = λ x t. subst (λ (u : KeyTable). ArePlaced u (hinted_at b.hints x t)) (sym keys) (subst (λ (z : Hints). ArePlaced (record a.keys { keys = with_name a.keys.keys key }) (hinted_at z x t)) (sym hints) (placed_still a.keys key (hinted_at a.hints x t) (s.hinted x t)));
+pub sized_still : (a : Parts) (ring : RingValue) (table : KeyTable) (stores : Stores) (hints : Hints) (key : List ℕ) → IsSized a → ring ≡ ring_of a → stores ≡ a.stores → hints ≡ a.hints → table ≡ record a.keys { keys = with_name a.keys.keys key }
+    → AreSized ring table stores hints
+sized_still a ring table stores hints key s same stored hinted named = record {
+  space = ap shared_space stored ∙ s.space ∙ ap (λ (r : RingValue). r.q) (sym same);
+  keys = ap (λ (t : KeyTable). t.q) named ∙ s.keys ∙ ap (λ (r : RingValue). r.q) (sym same);
+  numbered = subst (λ (u : KeyTable). AreNumbered u.keys) (sym named) (numbered_named a.keys.keys key s.numbered);
+  stored = λ x t. subst (λ (u : KeyTable). ArePlaced u (held_at stores x t)) (sym named) (subst (λ (z : Stores). ArePlaced (record a.keys { keys = with_name a.keys.keys key }) (held_at z x t)) (sym stored) (placed_still a.keys key (held_at a.stores x t) (s.stored x t)));
+  hinted = λ x t. subst (λ (u : KeyTable). ArePlaced u (hinted_at hints x t)) (sym named) (subst (λ (z : Hints). ArePlaced (record a.keys { keys = with_name a.keys.keys key }) (hinted_at z x t)) (sym hinted) (placed_still a.keys key (hinted_at a.hints x t) (s.hinted x t)));
 }

@@ -30,7 +30,7 @@ returns-clause-ok c w m =
     )
 
 pub returns-in_err-push-clause-follows : goal.returns-in_err-push-clause-follows
-returns-in_err-push-clause-follows c = record { approved = refl; sized = sized_still c.args.parts.now _ c.as_slice.result.now c.requires.sound.sized refl refl refl (c.in_ok-key_number.ensures).keys }
+returns-in_err-push-clause-follows c = record { approved = refl; sized = sized_still c.args.parts.now _ _ _ _ c.as_slice.result.now c.requires.sound.sized refl refl refl (c.in_ok-key_number.ensures).keys }
 
 pub returns-clause-follows : goal.returns-clause-follows
-returns-clause-follows c = record { approved = refl; sized = sized_still c.args.parts.now _ c.as_slice.result.now c.requires.sound.sized refl refl refl (c.in_ok-key_number.ensures).keys }
+returns-clause-follows c = record { approved = refl; sized = sized_still c.args.parts.now _ _ _ _ c.as_slice.result.now c.requires.sound.sized refl refl refl (c.in_ok-key_number.ensures).keys }
