@@ -27,17 +27,17 @@ pub struct AroundTask<'a> {
     pub alloc: Global,
     pub ring: &'a Ring,
     pub plan: &'a Plan,
-    /// Its chains show shared allowances.
+    /// A certificate whose chains show shared allowances.
     pub cert: &'a Cert,
     /// A run of the plan.
     pub history: &'a [Entry],
-    /// How much remains.
+    /// How much of the plan remains.
     pub extent: Extent,
     /// Slots that keep their owners.
     pub left: &'a [Slot],
     /// Nodes dead from now on.
     pub dead: &'a [NodeId],
-    /// Slots whose mirrors hold puts that owners lack: their copies must not start over.
+    /// Slots whose mirrors hold puts that the owners lack. Their copies must not start over.
     pub ahead: &'a [Slot],
     /// The nodes' racks, if known.
     pub racks: Option<&'a Labels>,
@@ -47,24 +47,24 @@ pub struct AroundTask<'a> {
     pub shape: Shape,
 }
 
-/// How far a search goes: less after each refused plan.
+/// How much a search keeps: less after each refused plan.
 #[derive(Clone, Copy, Debug, PartialEq, Eq)]
 pub enum Reach {
     /// Keeps all possible moves.
     Far,
-    /// Like `Far`, but only begun moves in partitions with a dead node or a staying slot.
+    /// Like `Far`, but begins no moves in partitions with a dead node or a staying slot.
     Near,
     /// Keeps only moves whose copies have all chunks.
     Full,
 }
 
-/// The new plan, and the old steps' fates.
+/// The new plan, and what became of old steps.
 #[derive(Drop)]
 pub struct Around {
     pub plan: Plan,
     /// By new step, its old number.
     pub olds: Vec<u32>,
-    /// By old step, its new number. None if it has not begun or its entries go.
+    /// By old step, its new number. None if the step has not begun or its entries go.
     pub numbers: Vec<Option<u32>>,
     pub is_same: bool,
     /// What becomes of slots and nodes, one line each.
@@ -94,15 +94,15 @@ pub(crate) struct Search<'a> {
     pub(crate) awaited: Vec<bool>,
     /// New dependencies.
     pub(crate) more: Needs,
-    /// By copy, its new sources.
+    /// By copy, the slots it newly reads.
     pub(crate) listings: BTreeMap<u32, CopyListing>,
-    /// By node, copies newly read from it; then its final slots.
+    /// By node, copies newly read from it; then slots finally owned.
     pub(crate) load: Vec<u32>,
     pub(crate) owned: Vec<u32>,
-    /// By node, 1 plus its last busy partition. Then 1 plus the last partition searched.
+    /// By node, 1 plus the last partition that it serves. Then 1 plus the last partition searched.
     pub(crate) busy: Vec<u32>,
     pub(crate) looked_at: u32,
-    /// By node, the last slot that it cannot take, by place plus 1. It keeps another slot's hint.
+    /// By node, 1 plus the place of the last slot that it cannot take, because it keeps another slot's hint.
     pub(crate) keeping: Vec<u32>,
     pub(crate) is_changed: bool,
     pub(crate) sayings: BTreeMap<Slot, Saying>,
@@ -204,7 +204,7 @@ impl<'a> Search<'a> {
     }
 }
 
-/// Finds another plan. The history, without undone and restarted steps, is its run.
+/// Finds another plan. The history, without undone and restarted steps, is a run of this plan.
 ///
 /// If nothing changes, returns the old plan. Named slots stay; no remaining step involves a dead node.
 ///

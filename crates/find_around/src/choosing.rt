@@ -1,4 +1,4 @@
-//! Steps in the chosen plan.
+//! Finds old steps in a chosen plan.
 
 use crate::around::AroundTask;
 use crate::entries::BegunSteps;
@@ -9,12 +9,12 @@ use std::alloc::Global;
 use std::collections::{BTreeMap, BTreeSet};
 use texts::{at, is_set, set};
 
-/// The steps' numbers in both plans.
+/// The numbers of steps in both plans.
 #[derive(Drop)]
 pub struct Kept {
-    /// By step of the chosen plan, its number in the task's.
+    /// By step of the chosen plan, its number in the task's plan.
     pub olds: Vec<u32>,
-    /// By step of the task's plan, its number in the chosen one. None if it has not begun or its entries go.
+    /// By step of the task's plan, its number in the chosen plan. None if the step has not begun or its entries go.
     pub numbers: Vec<Option<u32>>,
 }
 
@@ -101,7 +101,7 @@ fn slots_ahead(task: &AroundTask) -> Result<BTreeSet<Slot>, Refusal> {
     Ok(ahead)
 }
 
-// Drops numbers of mirrors ahead of owners, if their begun copies are new in the chosen plan.
+// Mirrors ahead of owners get no number, if their begun copies are new in the chosen plan.
 fn take_back(
     task: &AroundTask,
     chosen: &Plan,
@@ -160,7 +160,7 @@ impl Kept {
         false
     }
 
-    // Drops numbers and entries of unfinished copies that must wait.
+    // Unfinished copies that must wait get no number and no entries.
     fn forget_waiting(&mut self, task: &AroundTask, chosen: &Plan, done: &[bool]) {
         for step in 0..task.plan.len() {
             let is_copy = matches!(task.plan.step(step), Step::Copy(_, _));
@@ -190,7 +190,7 @@ impl Kept {
 #[derive(Drop)]
 struct Keeping {
     left: ByKey,
-    // By slot, whether its latest mirror is numbered.
+    // By slot, whether its latest mirror has a number.
     mirrors: BTreeMap<Slot, bool>,
     kept: Kept,
 }
@@ -222,8 +222,8 @@ impl Keeping {
 /// Maps begun steps to the first free equal steps of `chosen`. Costs a pass over both plans and the history, and
 /// sorting.
 ///
-/// Unfinished copies that must wait get no number. If mirrors may be undone, neither do mirrors ahead of owners with
-/// changed copies.
+/// Unfinished copies that must wait get no number. If mirrors may be undone, a mirror ahead of its owner gets none if
+/// its copy changed.
 pub fn find_kept(task: &AroundTask, chosen: &Plan) -> Result<Kept, Refusal> {
     let BegunSteps { begun, done, .. } = BegunSteps::of(task)?;
     let mut it = Keeping {

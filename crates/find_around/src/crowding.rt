@@ -133,7 +133,7 @@ impl Search<'_> {
         None
     }
 
-    // Leaves out moves to the owner before its next kept switch.
+    // Leaves out moves to the slot's owner before its next kept switch.
     fn make_way_for(&mut self, it: &PlannedMove, mirror: u32) -> Result<(), Refusal> {
         let until = self.next_switch(it);
         let (partition, node) = (it.slot.partition, it.source);

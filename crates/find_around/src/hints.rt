@@ -10,7 +10,7 @@ use texts::{at, set, small};
 pub(crate) struct HintTable {
     // ascending
     all: Vec<(Slot, u32)>,
-    // by partition, the place of its first hint; then their count
+    // by partition, the place of its first hint; last their count
     firsts: Vec<u32>,
 }
 

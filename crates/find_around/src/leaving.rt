@@ -18,7 +18,7 @@ fn has_done(progress: &Progress, step: Option<u32>) -> bool {
     }
 }
 
-// The slot's first move with a switch to come, or ending as a mirror that can be undone.
+// The slot's first move whose switch is to come, or whose final mirror can be undone.
 fn first_open(moves: &Moves, progress: &Progress, slot: Slot) -> Option<usize> {
     let mut next = moves.first(slot);
     for turn in 0..moves.len() {
@@ -34,7 +34,7 @@ fn first_open(moves: &Moves, progress: &Progress, slot: Slot) -> Option<usize> {
     None
 }
 
-/// Returns slots asked to stay that stay anyway. No remaining step moves them, and no node mirrors them.
+/// Returns the named slots that stay anyway: no remaining step moves them, and no node mirrors them.
 ///
 /// Costs a pass over plan and history.
 pub fn find_unmoved(task: &AroundTask) -> Result<Vec<Slot>, Refusal> {
@@ -63,7 +63,7 @@ impl Search<'_> {
         self.make_way()
     }
 
-    // A move with all chunks is finished instead.
+    // If all chunks are copied, finishes the move instead.
     fn leave_slot(&mut self, slot: Slot) -> Result<(), Refusal> {
         let place = first_open(&self.moves, &self.progress, slot);
         let Some(it) = self.moves.at(place) else {

@@ -1,4 +1,4 @@
-//! Dependencies of the new plan.
+//! Finds the new plan's dependencies.
 
 use crate::around::Search;
 use crate::moving::PlannedMove;
@@ -11,7 +11,7 @@ use ring_table::{Allowance, Side};
 use std::alloc::Global;
 use texts::{at, is_set, raise, set, small};
 
-// The most left-out steps to pass through.
+// The most looks at left-out steps.
 const LOOKS: u32 = 100_000_000;
 
 // The chains' last copies, by transfer group. A node has one or two groups.

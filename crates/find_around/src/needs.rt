@@ -1,4 +1,4 @@
-//! Dependencies, by step.
+//! Each step's dependencies.
 
 use ring_names::Refusal;
 use std::alloc::Global;
@@ -21,7 +21,7 @@ impl Needs {
         Ok(Needs { lists, count: 0 })
     }
 
-    /// Adds a dependency. Fails with `NoPlan` if too many for any plan.
+    /// Adds a dependency. Fails with `NoPlan` if no plan may have so many.
     pub(crate) fn add(&mut self, step: u32, other: u32) -> Result<(), Refusal> {
         if self.count >= MOST {
             return Err(Refusal::NoPlan);

@@ -4,10 +4,10 @@ use crate::around::Search;
 use crate::moving::{PlannedMove, first_owner};
 use ring_names::Slot;
 
-/// The line after all steps.
+/// A line after all steps.
 pub(crate) const END: u32 = u32::MAX;
 
-/// How a copy is ordered with a listed slot's switches.
+/// When a copy comes among a listed slot's switches.
 #[derive(Clone, Copy, Debug, PartialEq, Eq)]
 pub(crate) enum Way {
     /// As in the old plan.
@@ -17,7 +17,7 @@ pub(crate) enum Way {
 }
 
 impl Search<'_> {
-    /// The owner after done steps and those before the line; 0 means now.
+    /// The owner after done steps and those before the line. Line 0 means now.
     pub(crate) fn owner_at(&self, slot: Slot, line: u32) -> u32 {
         let mut owner = first_owner(self.task.ring, slot);
         let mut next = self.moves.first(slot);
@@ -63,7 +63,7 @@ impl Search<'_> {
         false
     }
 
-    /// How, and from which owner, a copy can read the slot.
+    /// When a copy can read the slot, and from which owner.
     pub(crate) fn readable(&self, slot: Slot, line: u32) -> Option<(Way, u32)> {
         if self.has_dead_hint(slot) {
             return None;
@@ -97,7 +97,7 @@ impl Search<'_> {
         count
     }
 
-    /// Whether another slot's hint bars the node: that slot's owner is dead.
+    /// Whether the node keeps a hint for another slot whose owner is dead.
     pub(crate) fn is_barred(&self, slot: Slot, node: u32) -> bool {
         for hint in self.hints.of_partition(slot.partition) {
             if hint.1 == node && hint.0 != slot && self.is_dead(self.owner_at(hint.0, 0)) {

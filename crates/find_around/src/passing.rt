@@ -7,7 +7,7 @@ use ring_names::{Refusal, Slot};
 use texts::is_set;
 
 impl Search<'_> {
-    /// Marks steps after a switch that the move's copy now precedes.
+    /// Marks the switches that the move's copy must now precede, and all steps after them.
     pub(crate) fn passed_by(&self, step: u32) -> Result<Vec<bool>, Refusal> {
         let mut passed = Vec::new(self.task.alloc);
         let Some(it) = self.moves.at(self.moves.of_step(step)) else {

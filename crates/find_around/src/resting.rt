@@ -9,7 +9,7 @@ use ringplan_request::Extent;
 use texts::{is_set, put, small};
 
 impl Search<'_> {
-    /// Lets no more moves begin in resting partitions.
+    /// Leaves out moves in resting partitions that have not begun.
     pub(crate) fn rest(&mut self) -> Result<(), Refusal> {
         self.mark_resting();
         if self.task.extent == Extent::Begun {

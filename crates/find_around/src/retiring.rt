@@ -25,7 +25,7 @@ impl Search<'_> {
         }
     }
 
-    /// Leaves out retirements of nodes with a slot or a dead owner's hint.
+    /// Leaves out retirements of nodes that keep a slot, or a hint for a dead owner.
     pub(crate) fn keep_holders(&mut self) -> Result<(), Refusal> {
         let mut held = vec![in self.task.alloc; None; self.task.ring.nodes().len()]?;
         self.find_held(held.as_mut_slice());
@@ -60,7 +60,7 @@ impl Search<'_> {
         }
     }
 
-    // Finds, by node, a slot that it finally serves or does not drop.
+    // Finds, for each node, a slot that it finally serves or does not drop.
     fn find_held(&self, held: &mut [Option<Slot>]) {
         for partition in 0..self.task.ring.q() {
             for index in 0..self.task.ring.n() {
@@ -69,7 +69,7 @@ impl Search<'_> {
         }
     }
 
-    // Only the drop of a node's last move ends its hold.
+    // A node holds the slot until its last move's drop.
     fn find_held_of(&self, held: &mut [Option<Slot>], slot: Slot) {
         hold(held, first_owner(self.task.ring, slot), slot);
         let mut next = self.moves.first(slot);

@@ -1,4 +1,4 @@
-//! The fate of moves.
+//! Decides which moves go on.
 
 use crate::around::{Reach, Search};
 use crate::moving::{PlannedMove, first_owner};
@@ -91,7 +91,7 @@ impl Search<'_> {
         }
     }
 
-    // `owner` is the slot's owner by then.
+    // `owner` is the slot's owner before the move.
     fn settle_move(&mut self, place: usize, it: PlannedMove, owner: u32) -> Result<Fate, Refusal> {
         self.moves.lead(place, owner, it.target);
         if owner != it.source && !self.has_done(it.drop) {
@@ -163,7 +163,7 @@ impl Search<'_> {
         Ok(true)
     }
 
-    /// Sends the move to `other`.
+    /// Leads the move to `other`.
     pub(crate) fn redirect(
         &mut self,
         place: usize,
@@ -247,7 +247,7 @@ impl Search<'_> {
         }
     }
 
-    // Restarts a move whose mirror is ahead of the owner, since its copy gets new sources.
+    // Restarts a move whose mirror is ahead of the owner, since its copy reads other slots.
     fn begin_again(&mut self, it: &PlannedMove, place: usize) -> Result<(), Refusal> {
         if self.task.back == Back::Never || self.is_awaited(it) {
             self.stick(it)?;

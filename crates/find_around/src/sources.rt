@@ -1,4 +1,4 @@
-//! Sources for copies with a dead owner.
+//! Sources for copies whose owner is dead.
 
 use crate::around::Search;
 use crate::moving::PlannedMove;
@@ -111,7 +111,7 @@ impl Search<'_> {
         Ok(())
     }
 
-    /// Gives the copy R other slots to read, if there are R.
+    /// Lets the copy read R other slots, if there are R.
     pub(crate) fn relist(&mut self, it: &PlannedMove, copy: u32) -> Result<bool, Refusal> {
         let found = self.candidates(it, copy)?;
         let reads = self.task.ring.r() as usize;

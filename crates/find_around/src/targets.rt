@@ -1,4 +1,4 @@
-//! Targets instead of dead ones.
+//! Other targets for moves to dead nodes.
 
 use crate::around::Search;
 use crate::moving::{PlannedMove, first_owner};
@@ -48,7 +48,7 @@ impl Search<'_> {
             && at(self.keeping.as_slice(), node as usize) != small(place_of(slot)).saturating_add(1)
     }
 
-    /// Counts these owners in the node's rack.
+    /// Counts the owners in the node's rack.
     pub(crate) fn count_kin(&self, node: u32, owners: &[u32]) -> u32 {
         let Some(racks) = self.task.racks else {
             return 0;
@@ -75,7 +75,7 @@ impl Search<'_> {
         owners
     }
 
-    /// Returns the best other target: fewest of the partition's slots in its rack, then fewest slots.
+    /// Returns the best other target: with fewest of the partition's slots in its rack, then with fewest slots.
     ///
     /// None if the owner may stay and is as good.
     pub(crate) fn other_target(&mut self, it: &PlannedMove, owner: u32) -> Option<u32> {

@@ -1,10 +1,10 @@
-//! Reports.
+//! Reports on slots and nodes.
 
 use crate::around::{Reach, Search};
 use ring_names::{Refusal, Slot};
 use ringplan_request::Shape;
 
-/// A slot's fate, if not as planned. `say_outcome` has the words.
+/// What becomes of a slot, if not as planned. `say_outcome` has the words.
 #[derive(Clone, Copy, Debug, PartialEq, Eq)]
 pub(crate) enum SlotOutcome {
     /// Goes to the first node instead of the second.
@@ -25,7 +25,7 @@ pub(crate) enum SlotOutcome {
     AtDead(u32),
 }
 
-/// A slot's undone mirror, and its latest outcome.
+/// The node of a slot's undone mirror, and the slot's latest outcome.
 #[derive(Clone, Copy, Debug)]
 pub(crate) struct Saying {
     pub(crate) taken: Option<u32>,
@@ -175,7 +175,7 @@ impl Search<'_> {
         }
     }
 
-    /// The final report, also for a dead owner.
+    /// The slot's final report. Tells also of a dead owner.
     pub(crate) fn last_saying(&self, slot: Slot) -> Saying {
         let Saying { taken, outcome } = self.saying_of(slot);
         let owner = self.last_owner(slot);

@@ -11,7 +11,7 @@ use std::alloc::Global;
 #[derive(Clone, Copy, Debug)]
 pub struct Excess {
     pub side: Side,
-    /// How many of its copies may run at once.
+    /// How many of its copies some order opens at once.
     pub fewest: u32,
     /// The most that may be open.
     pub most: u32,

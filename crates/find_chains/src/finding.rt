@@ -27,8 +27,8 @@ pub struct FoundCert {
 impl FoundCert {
     /// Returns what to refuse if the checker refuses the certificate.
     ///
-    /// `TooManyChains` names only a node known to need them. If the search was given up and none is known, it becomes
-    /// `NoPlan`.
+    /// `TooManyChains` names only a node known to need too many. If the search was given up and no such node is known,
+    /// it becomes `NoPlan`.
     pub fn refusal(&self, refusal: Refusal) -> Refusal {
         if !self.is_given_up || !matches!(refusal, Refusal::TooManyChains(_)) {
             return refusal;
@@ -42,10 +42,10 @@ impl FoundCert {
 
 /// Finds a certificate for the checker to judge: needed paths, and chains of each node's copies.
 ///
-/// Chains are a first fit along direct dependencies. If too many, they are runs of a slot's steps, then the fewest
-/// possible. This search ends after 100,000,000 looks for all nodes.
+/// Chains are a first fit along direct dependencies. If too many, they are runs of a slot's steps. At last they are the
+/// fewest, within 100,000,000 looks for all nodes.
 ///
-/// Paths are shortest. Those over 1,024 steps, or not found in 100,000,000 looks, are left out. A certificate too large
+/// Paths are shortest. A path over 1,024 steps, or not found in 100,000,000 looks, is left out. A certificate too large
 /// for its text is left empty.
 ///
 /// If steps depend directly on what they need, this costs about as much as reading the plan.

@@ -1,4 +1,4 @@
-//! The work left.
+//! How much work is left.
 
 /// The looks left at steps, dependencies and the like.
 #[derive(Clone, Copy, Debug)]

@@ -41,7 +41,7 @@ impl Matching {
         })
     }
 
-    /// Lets the copy follow an earlier one, maybe by relinking others.
+    /// Lets the copy follow an earlier copy. This may change other links.
     pub(crate) fn link(&mut self, before: &EarlierCopies, copy: usize) -> Result<(), Refusal> {
         self.spent = 0;
         self.queue.clear();

@@ -69,7 +69,7 @@ impl<'a> ClauseNeeds<'a> {
         paths.need(last.saturating_sub(1), number)
     }
 
-    // A mirror follows its node's join and switches away from the partition's other slots.
+    // A mirror follows its node's join, and switches of the partition's other slots away from it.
     fn mirror(
         &self,
         paths: &mut Paths,
@@ -146,7 +146,7 @@ impl<'a> ClauseNeeds<'a> {
         Ok(())
     }
 
-    // A retirement follows the node's join and drops.
+    // A retirement comes after the node's join and drops.
     fn retire(&self, paths: &mut Paths, node: NodeId, number: u32) -> Result<(), Refusal> {
         self.join(paths, node, number)?;
         let mut next = self.stays.latest_of(node.0);

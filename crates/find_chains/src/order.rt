@@ -27,7 +27,7 @@ pub struct Order<'a> {
     runs: Vec<u32>,
 }
 
-// What precedes a copy in a chain: a direct dependency, or the run's last.
+// What precedes a copy in a chain: a direct dependency, or the run's last copy.
 #[derive(Clone, Copy)]
 enum LinkRule {
     Direct,
@@ -55,10 +55,10 @@ impl<'a> Order<'a> {
         Ok(links.map(|links| links.count()))
     }
 
-    /// Returns a chain for each run of a slot's copies, if at most `enough`.
+    /// Returns a chain for each run of a slot's copies, if these are at most `enough`.
     ///
-    /// Otherwise the fewest, by matching copies with later ones (Fulkerson 1956). None if looks do not suffice. Chains
-    /// are ordered by first copy.
+    /// Otherwise the fewest chains, by matching copies with later ones (Fulkerson 1956). None if looks do not suffice.
+    /// Chains are ordered by first copy.
     pub fn chains(
         &mut self,
         alloc: Global,

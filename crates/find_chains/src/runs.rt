@@ -7,7 +7,7 @@ use ring_names::{Refusal, Slot};
 use std::alloc::Global;
 use texts::{at, set};
 
-/// By step, its run's first step. Costs two binary searches a step.
+/// By step, the first step of its run. Costs two binary searches a step.
 ///
 /// In a run, each step depends directly on the slot's previous step.
 pub(crate) fn runs_of(alloc: Global, plan: &Plan) -> Result<Vec<u32>, Refusal> {

@@ -18,13 +18,13 @@ pub struct Stay {
     pub left: Option<u32>,
     /// The node's first drop at the slot after that.
     pub dropped: Option<u32>,
-    /// By place, the node's previous stay there.
+    /// The place of the node's previous stay at this slot.
     pub same_before: Option<usize>,
-    /// By place, the node's previous stay anywhere.
+    /// The place of the node's previous stay.
     pub node_before: Option<usize>,
 }
 
-/// All stays: first owners' by slot, then the mirrors'.
+/// All stays: of first owners by slot, then of mirrors.
 ///
 /// A step costs a look-up among its slot's mirrors so far.
 #[derive(Drop)]
@@ -142,7 +142,7 @@ impl Stays {
         }
     }
 
-    // Drops one stay. Returns the previous one, unless this one was dropped already: then all before were.
+    // Drops one stay. Returns the previous stay, unless this one was dropped already: then all before were.
     fn drop_one(&mut self, place: usize, number: u32) -> Option<usize> {
         let stay = self.all.get_mut(place)?;
         if stay.dropped.is_some() {
@@ -162,7 +162,7 @@ impl Stays {
         self.all.get(place?).copied()
     }
 
-    /// The place of the node's latest stay there.
+    /// The place of the node's latest stay at the slot.
     pub fn latest_at(&self, slot: Slot, node: u32) -> Option<usize> {
         let latest = self.latest.get(&(slot, node)).copied();
         latest.or(self.first_at(slot, node))
@@ -182,7 +182,7 @@ impl Stays {
         place(at(self.by_node.as_slice(), node as usize))
     }
 
-    /// The mirror's stay, by place.
+    /// The place of the mirror's stay.
     pub fn mirror_at(&self, slot: Slot) -> Option<usize> {
         place(at(self.mirrors.as_slice(), place_of(slot)))
     }

@@ -5,7 +5,7 @@ use ring_table::{Allowance, Ring};
 use std::alloc::Global;
 use texts::{at, lower, raise};
 
-/// Each node's copies from it and to it. If joint, the first count has both.
+/// Counts copies from each node and to it. A joint allowance counts both in the first number.
 #[derive(Drop)]
 pub struct Copies {
     // by count, the allowance; 0 if unused
@@ -83,12 +83,12 @@ impl Copies {
         }
     }
 
-    /// The allowance's use with one more copy to the node, in 64ths.
+    /// How full the allowance is with one more copy to the node, in 64ths.
     pub fn taking(&self, node: u32) -> u32 {
         self.crowd(self.taker(node))
     }
 
-    /// The allowance's use with one more copy from the node, in 64ths.
+    /// How full the allowance is with one more copy from the node, in 64ths.
     pub fn giving(&self, node: u32) -> u32 {
         self.crowd(self.giver(node))
     }

@@ -4,10 +4,10 @@ use ring_names::Refusal;
 use std::alloc::Global;
 use texts::{at, raise, set, small, swap};
 
-/// Numbers in groups: count all, make room, then put each.
+/// Numbers in groups. Count all numbers, make room, then put each.
 #[derive(Drop)]
 pub struct Grouped {
-    // each group's start, and the last one's end
+    // each group's start, then the last group's end
     starts: Vec<u32>,
     // each group's end so far
     ends: Vec<u32>,
@@ -30,7 +30,7 @@ impl Grouped {
         Ok(())
     }
 
-    /// Counts a number of the group.
+    /// Notes one more number of the group.
     pub fn count(&mut self, group: usize) {
         raise(&mut self.starts, group.saturating_add(1));
     }

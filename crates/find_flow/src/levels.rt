@@ -1,4 +1,4 @@
-//! Levels of joining members: a slot more needs no further move (0), needs one (1), or is impossible (2).
+//! Levels of joining members: one slot more needs no further move (0), one further move (1), or is impossible (2).
 
 use crate::meeting::SearchAim;
 use crate::members::Role;
@@ -44,7 +44,7 @@ fn find_level(
     Ok(())
 }
 
-/// Finds all joining members' levels.
+/// Finds each joining member's level.
 pub fn find_levels(alloc: Global, seats: &Seats, search: &mut PathSearch) -> Result<(), Refusal> {
     let mut levels = vec![in alloc; 0u32; seats.members.count() as usize]?;
     for node in 0..seats.members.count() {

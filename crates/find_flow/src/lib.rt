@@ -1,4 +1,4 @@
-//! Hands slots on along paths to find owners. Only that it returns is proved.
+//! Finds owners: hands slots on along paths of nodes. Only termination is proved.
 #![tactic(auto)]
 
 mod copies;

@@ -1,8 +1,8 @@
 //! The members that a search meets.
 //!
-//! A search goes backwards, from a member that needs a slot to members that could hand one over. A hand-over is free if
-//! both nodes would own a slot of the partition by a move, or both owned one before. A path stays within one level. An
-//! unmoved slot is on level 1, another on its owner's level.
+//! A search goes backwards, from a member that needs a slot to members that could hand one over. A hand-over adds no
+//! move if both nodes would own a slot of the partition by a move, or both owned one before. A path stays within one
+//! level. An unmoved slot is on level 1, another on its owner's level.
 
 use crate::members::Role;
 use crate::seats::Seats;
@@ -10,7 +10,7 @@ use ring_names::Refusal;
 use std::alloc::Global;
 use texts::{NONE, at, set, small};
 
-// The looks of all searches at slots and partitions.
+// The most looks of all searches at slots and partitions.
 const LOOKS: u32 = 80_000_000;
 
 /// A search's purpose.
@@ -22,7 +22,7 @@ pub enum SearchAim {
     Balance,
 }
 
-/// A slot's receiver and partition.
+/// Who receives a slot, and its partition.
 #[derive(Clone, Copy)]
 pub struct Link {
     pub to: u32,
@@ -33,9 +33,9 @@ pub struct Link {
 #[derive(Drop)]
 pub struct Meeting {
     aim: SearchAim,
-    /// The member in need.
+    /// The member that needs a slot.
     pub first: u32,
-    /// The first giver met.
+    /// The first member met that can give.
     pub found: Option<u32>,
     /// All members met, in order.
     pub met: Vec<u32>,
@@ -64,7 +64,7 @@ impl Meeting {
         }
     }
 
-    /// Sets joining nodes' level; others have 0. Freezes none.
+    /// Sets all joining nodes' level, and 0 for others. Freezes no node.
     pub fn set_levels(&mut self, alloc: Global, seats: &Seats, level: u32) -> Result<(), Refusal> {
         let count = seats.members.count() as usize;
         self.levels = vec![in alloc; 0u32; count]?;
@@ -103,7 +103,7 @@ impl Meeting {
         self.level(node)
     }
 
-    /// Whether no search passes the node.
+    /// Whether searches avoid the node.
     pub fn is_frozen(&self, node: u32) -> bool {
         at(&self.frozen, node as usize) != 0
     }
@@ -128,7 +128,7 @@ impl Meeting {
         Ok(())
     }
 
-    /// Spends looks.
+    /// Counts looks as spent.
     pub fn spend(&mut self, looks: u32) {
         self.looks = self.looks.saturating_sub(looks);
     }
@@ -158,7 +158,7 @@ impl Meeting {
             && seats.give_price(node) > seats.take_price(self.first)
     }
 
-    /// Meets a new member that can give a slot.
+    /// Meets a member, if new, that could hand over a slot.
     pub fn meet(&mut self, seats: &Seats, node: u32, link: Link) -> Result<(), Refusal> {
         let place = node as usize;
         let is_known = node == self.first || at(&self.to, place) != NONE;
@@ -193,7 +193,7 @@ impl Meeting {
         Ok(())
     }
 
-    /// The node's receiver and partition.
+    /// Who receives the node's slot, and its partition.
     pub fn link(&self, node: u32) -> Link {
         Link {
             to: at(&self.to, node as usize),

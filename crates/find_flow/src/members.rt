@@ -47,7 +47,7 @@ impl Members {
     }
 
     /// Sets the roles. Fails with `NoPlan` if a joining node is a member or undeclared, a leaving node is not a member,
-    /// or too few remain.
+    /// or too few members remain.
     pub fn begin(
         &mut self,
         alloc: Global,
@@ -117,7 +117,7 @@ impl Members {
         at(&self.weights, node as usize)
     }
 
-    /// A joining node's due slots; 0 for others.
+    /// How many slots a joining node should get; 0 for others.
     pub fn part(&self, node: u32) -> u32 {
         at(&self.parts, node as usize)
     }

@@ -1,4 +1,4 @@
-//! Mends owners along paths: joining members get their parts with the fewest moves, then the balance is optimized.
+//! Changes owners along paths: joining members get their parts with the fewest moves, then the balance is optimized.
 //!
 //! This is a least-cost flow: moves cost, and the balance is a convex cost of each member. A cheapest path keeps the
 //! cost minimal. When no path is left, the balance is optimal.
@@ -30,7 +30,7 @@ fn raise(
     Ok(())
 }
 
-/// Gives joining members their parts by the level's paths. Level 0 needs no further move, level 1 one.
+/// Gives joining members their parts. A path on level 0 adds no move, a path on level 1 adds one.
 pub fn raise_all(
     alloc: Global,
     seats: &mut Seats,

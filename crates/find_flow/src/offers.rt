@@ -7,7 +7,7 @@ use ring_names::Refusal;
 use std::alloc::Global;
 use texts::{at, set, small, swap};
 
-/// One level's slots, by rack and by partition. A search uses each once: later visits would meet no new member.
+/// One level's slots, by rack and by partition. A search uses each slot once: later it would meet no new member.
 #[derive(Drop)]
 pub struct Offers {
     level: u32,
@@ -15,16 +15,16 @@ pub struct Offers {
     is_known: bool,
     // slots, but not frozen owners'
     places: Vec<u32>,
-    // these slots by rack; a rack's group ends before the used ones
+    // these slots by rack; a rack's group ends before its used slots
     by_rack: Grouped,
-    // their partitions, unused ones first
+    // these slots' partitions, unused partitions first
     partitions: Vec<u32>,
     unused: usize,
     // by rack, 1 if its partitions were searched
     done: Vec<u32>,
     // racks whose slots or partitions were searched
     touched: Vec<u32>,
-    // racks, and unused partitions with room for them in which the asking node has a slot
+    // racks with an unused partition that has room for them, but the asking node has or had a slot there
     late: Vec<(u32, u32)>,
 }
 
@@ -44,7 +44,7 @@ impl Offers {
         }
     }
 
-    /// Notes that seats or levels change.
+    /// Notes that owners or levels change.
     pub fn forget(&mut self) {
         self.is_known = false;
     }
@@ -102,7 +102,7 @@ impl Offers {
         Ok(())
     }
 
-    /// Prepares the lists.
+    /// Makes the lists, if old.
     pub fn open(
         &mut self,
         alloc: Global,
@@ -177,7 +177,7 @@ impl Offers {
         Ok(())
     }
 
-    // Meets owners, if the partition has room for the node's rack. Returns whether it is used up.
+    // Meets the partition's owners, if the node's rack has room. Returns whether the partition is used up.
     fn use_partition(
         &mut self,
         seats: &Seats,

@@ -1,13 +1,13 @@
 //! Racks, and how many slots of a partition each may have.
 //!
-//! An even spread has the fewest pairs in one rack: `level` slots in each, or one for each member if these are fewer.
-//! Some racks have one slot more.
+//! In an even spread the fewest pairs share a rack: each rack has `level` slots, or one for each member if it has fewer
+//! members. Some racks have one slot more.
 
 use ring_names::Refusal;
 use std::alloc::Global;
 use texts::{at, raise, set, small};
 
-/// All nodes' racks, numbered from 0.
+/// Each node's rack, numbered from 0.
 #[derive(Drop)]
 pub struct Racks {
     of: Vec<u32>,
@@ -15,15 +15,15 @@ pub struct Racks {
     pub order: Vec<u32>,
     // by node, its place there
     turns: Vec<u32>,
-    // each rack's first place, and the last one's end
+    // each rack's first place, then the last rack's end
     firsts: Vec<u32>,
     // by rack, its final members
     counts: Vec<u32>,
-    /// The racks with final members. If the level is not 0, at most as many as a partition's slots.
+    /// The racks with final members. If the level is not 0, a partition has at least as many slots.
     pub with_members: Vec<u32>,
     /// A partition's fewest slots in a rack with enough members.
     pub level: u32,
-    /// How many racks have one more.
+    /// How many racks have one slot more.
     pub above: u32,
 }
 
@@ -89,7 +89,7 @@ impl Racks {
         sum
     }
 
-    /// Finds the level and the racks with members, once all are added.
+    /// Finds the level and the racks with members, after all were added.
     pub fn set_level(&mut self, slots: u32) -> Result<(), Refusal> {
         for rack in 0..self.len() {
             if at(&self.counts, rack) > 0 {
@@ -115,7 +115,7 @@ impl Racks {
         at(&self.of, node as usize) as usize
     }
 
-    /// The node's place by racks.
+    /// The node's place in rack order.
     pub fn turn(&self, node: u32) -> u32 {
         at(&self.turns, node as usize)
     }
@@ -126,12 +126,12 @@ impl Racks {
         (first, at(&self.firsts, rack.saturating_add(1)))
     }
 
-    /// A partition's fewest final slots in the rack.
+    /// The fewest final slots of a partition in the rack.
     pub fn least(&self, rack: usize) -> u32 {
         at(&self.counts, rack).min(self.level)
     }
 
-    /// A partition's most final slots in the rack.
+    /// The most final slots of a partition in the rack.
     pub fn most(&self, rack: usize) -> u32 {
         at(&self.counts, rack).min(self.level.saturating_add(1))
     }

@@ -1,4 +1,4 @@
-//! Searches for paths.
+//! Searches for paths of members.
 
 use crate::meeting::{Link, Meeting, SearchAim};
 use crate::members::Role;
@@ -31,7 +31,7 @@ impl PathSearch {
         Ok(())
     }
 
-    /// Notes that seats or levels change.
+    /// Notes that owners or levels change.
     pub fn forget(&mut self) {
         for level in 0..self.offers.len() {
             if let Some(offers) = self.offers.get_mut(level) {
@@ -57,7 +57,7 @@ impl PathSearch {
         Ok(())
     }
 
-    // Meets members that could move another slot, so that the node keeps one that it gave.
+    // Meets members that could move their slot instead, so that the node keeps one that it gave.
     fn meet_back(&mut self, seats: &Seats, node: u32) -> Result<(), Refusal> {
         if seats.members.role(node) != Role::Stays {
             return Ok(());
@@ -98,7 +98,7 @@ impl PathSearch {
         self.meeting.begin(first, aim)
     }
 
-    /// Returns a member with a path to the first, if looks suffice.
+    /// Returns a member from which a path leads to the first, if looks suffice.
     pub fn find(
         &mut self,
         alloc: Global,

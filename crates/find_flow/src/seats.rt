@@ -9,7 +9,7 @@ use ring_table::Ring;
 use std::alloc::Global;
 use texts::{NONE, at, lower, raise, set, small, swap};
 
-/// Each slot's owner. Places go by partition, then by index.
+/// Each slot's owner. Places count by partition, then by index.
 #[derive(Drop)]
 pub struct Seats<'a> {
     pub members: &'a Members,
@@ -20,7 +20,7 @@ pub struct Seats<'a> {
     first: Vec<u32>,
     // by place, the owner or `NONE`
     now: Vec<u32>,
-    // each node's former places
+    // each node's places before
     owned: Grouped,
     // by node, its current slots
     load: Vec<u32>,
@@ -311,7 +311,7 @@ impl<'a> Seats<'a> {
         at(&self.load, node as usize)
     }
 
-    /// The balance's cost of one more slot, in parts of 2^32. Equal only if the exact quotients are.
+    /// The balance's cost of one more slot, in parts of 2^32. Two are equal only if the exact quotients are.
     pub fn take_price(&self, node: u32) -> u64 {
         let twice = u64::from(self.load(node)).saturating_mul(2);
         price(twice.saturating_add(1), self.members.weight(node))
@@ -323,12 +323,12 @@ impl<'a> Seats<'a> {
         price(twice.saturating_sub(1), self.members.weight(node))
     }
 
-    /// The allowance's use with one more copy to the node.
+    /// How full the allowance is with one more copy to the node.
     pub fn taking(&self, node: u32) -> u32 {
         self.copies.taking(node)
     }
 
-    /// The allowance's use with one more copy from the node.
+    /// How full the allowance is with one more copy from the node.
     pub fn giving(&self, node: u32) -> u32 {
         self.copies.giving(node)
     }

@@ -1,4 +1,4 @@
-//! Stored sizes.
+//! How much each node stores.
 
 use crate::members::{Members, Role};
 use ring_names::Refusal;
@@ -18,7 +18,7 @@ pub struct NodeVolumes {
     are_asked: bool,
     // by partition, in units of a power of two
     sizes: Vec<u32>,
-    // the most that rounding adds to one slot of each partition
+    // the most that rounding adds to one slot of every partition together
     slack: u64,
     // by node, in parts
     loads: Vec<u64>,
@@ -116,7 +116,7 @@ impl NodeVolumes {
         }
     }
 
-    /// Sets the sizes, before any owners. If one exceeds 32 bits, all are rounded up to a greater unit.
+    /// Sets the sizes, before any owners. If a size exceeds 32 bits, all are rounded up to a greater unit.
     pub fn fill(
         &mut self,
         alloc: Global,
@@ -185,10 +185,10 @@ impl NodeVolumes {
         all
     }
 
-    /// Sets each member's due size.
+    /// Sets how much each member should store.
     ///
-    /// Joining members get their shares, with at most one slot of each partition. Staying ones are levelled by weight:
-    /// they give what joiners lack, or take what leavers leave besides.
+    /// Joining members get their shares, with at most one slot of each partition. Staying members are levelled by
+    /// weight: they give what joiners lack, or take what leavers leave besides.
     pub fn aim(&mut self, members: &Members, slots: usize) {
         if !self.are_asked {
             return;
@@ -240,7 +240,7 @@ impl NodeVolumes {
         word(&self.aims, node as usize).saturating_sub(word(&self.loads, node as usize))
     }
 
-    /// The node's excess by weight. The smallest value lacks most.
+    /// The node's excess by weight. The smallest number means the greatest lack.
     pub fn fullness(&self, node: u32, weight: u32) -> u64 {
         let over = self.over(node).saturating_mul(64);
         let by = match over.checked_div(i64::from(weight)) {

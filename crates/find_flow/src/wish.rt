@@ -1,4 +1,4 @@
-//! Wishes.
+//! Wished changes.
 
 use ring_names::NodeId;
 
@@ -9,11 +9,11 @@ pub struct WishedChange<'a> {
     pub joins: &'a [NodeId],
     /// The members that leave.
     pub leaves: &'a [NodeId],
-    /// By node, its weight from 1 to 1,000: 0 means 1, more means 1,000. Further nodes have 1.
+    /// By node, its weight from 1 to 1,000; 0 counts as 1, more as 1,000. Unlisted nodes have 1.
     pub weights: &'a [u32],
-    /// By node, any number for its rack. Further nodes have own racks.
+    /// By node, any number for its rack. Unlisted nodes have own racks.
     pub racks: &'a [u32],
-    /// By partition, its size below 2^48, for even sizes. Further ones have 1.
+    /// By partition, its size below 2^48, to even out sizes. Unlisted partitions have 1.
     pub sizes: Option<&'a [u64]>,
 }
 

@@ -1,4 +1,4 @@
-//! Loads of partitions.
+//! How crowded partitions are.
 
 use crate::pairs::{Half, PairCounts};
 use find_flow::{Role, Seats};
@@ -6,7 +6,7 @@ use ring_names::Refusal;
 use std::alloc::Global;
 use texts::{at, lower, raise, set, small};
 
-/// A swap's cost, the most important first. Negative is a gain.
+/// A swap's cost, the most important part first. Negative is a gain.
 #[derive(Clone, Copy, PartialEq, Eq, PartialOrd, Ord, Drop)]
 pub struct Cost {
     // by partition, 64 for each joining node after the first, and 1 for each pair of them; two partitions have at most
@@ -18,7 +18,7 @@ pub struct Cost {
     shares: i64,
 }
 
-/// Above any swap with fewer joining nodes after the first, or as many and fewer pairs.
+/// Above any swap with fewer joining nodes after the first, or with as many and fewer pairs.
 pub const FEWER_JOINERS: Cost = Cost {
     joiners: -1,
     moves: 100,
@@ -81,7 +81,7 @@ fn change(counts: &mut [u32], place: usize, more: i64) {
     set(counts, place, u32::try_from(count).unwrap_or(0));
 }
 
-/// Partitions' loads, and pairs of nodes that share them.
+/// How crowded partitions are, and which nodes share them.
 #[derive(Drop)]
 pub struct Crowds {
     joiners: Vec<u32>,
@@ -180,9 +180,9 @@ impl Crowds {
             .saturating_sub(self.tied(seats, now))
     }
 
-    /// Returns a swap's cost, if below the limit and allowed.
+    /// Returns an allowed swap's cost, if below the limit.
     ///
-    /// `one`'s owner may have `other`; the caller checked the reverse.
+    /// Checks that `one`'s owner may have `other`; the caller checked the reverse.
     ///
     /// The partitions must have the same size. No move may be added, nor a copy that can read only its owner: that may
     /// give little at once.

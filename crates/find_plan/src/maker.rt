@@ -21,10 +21,7 @@ fn numbered(alloc: Global, nodes: &[NodeId]) -> Result<Vec<u32>, Refusal> {
 /// Plans to join and remove these members, with a certificate.
 ///
 /// Moves only leaving nodes' slots, and as many more as give each joining node its share, rounded down. Equal inputs
-/// give equal plans.
-///
-/// Fails with `OutOfMemory`, or with `NoPlan` if a joining node is a member, a leaving node is not, or fewer members
-/// than slots remain.
+/// give equal plans. Fails as `wished` does.
 pub fn make<'a>(
     alloc: Global,
     ring: &Ring,

@@ -17,7 +17,7 @@ pub struct Half {
 /// By pair of nodes, how many partitions they share. At most 2 MB, for 1,024 nodes.
 #[derive(Drop)]
 pub struct PairCounts {
-    // by the greater node, its counts with smaller ones
+    // by node, its counts with smaller nodes
     counts: Vec<u32>,
 }
 
@@ -63,7 +63,7 @@ impl PairCounts {
         i64::from(at(&self.counts, place_of(one, other)))
     }
 
-    /// Half a swap's growth of the sum of squares.
+    /// How much half a swap adds to the sum of squares.
     pub fn growth(&self, seats: &Seats, half: Half) -> i64 {
         let start = seats.place(half.partition, 0);
         let mut growth = 0i64;

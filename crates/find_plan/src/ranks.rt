@@ -5,19 +5,19 @@ use ring_names::Refusal;
 use std::alloc::Global;
 use texts::{NONE, small};
 
-/// A member's rank, the least first.
+/// A member's rank. The least comes first.
 #[derive(Clone, Copy, PartialEq, Eq, PartialOrd, Ord, Drop)]
 pub struct Rank {
-    /// First, joining members below their part.
+    /// Joining members below their part come first.
     is_sated: bool,
-    /// Then few slots by weight.
+    /// Then members with few slots by weight.
     price: u64,
-    /// Then much allowance left, then small numbers.
+    /// Then members with much allowance left, then small numbers.
     crowd: u32,
     node: u32,
 }
 
-/// Comes after all members.
+/// A rank after all members.
 pub const NOBODY: Rank = Rank {
     is_sated: true,
     price: 18_446_744_073_709_551_615,
@@ -25,7 +25,7 @@ pub const NOBODY: Rank = Rank {
     node: NONE,
 };
 
-/// Returns the earlier one.
+/// Returns the rank that comes first.
 pub fn sooner(one: Rank, other: Rank) -> Rank {
     if other < one { other } else { one }
 }
@@ -46,20 +46,20 @@ pub enum Who {
     All,
     /// Joining members below their part.
     Wanting,
-    /// All, the greatest lack of stored share by weight first.
+    /// All, those that lack most of their stored share by weight first.
     Emptiest,
-    /// All, the fewest slots by weight first.
+    /// All, those with fewest slots by weight first.
     Fewest,
     /// Joining members below their stored share, the neediest first.
     Lacking,
-    /// Staying members, the greatest excess over stored share by weight first.
+    /// Staying members, those most above their stored share by weight first.
     Fullest,
 }
 
 // A member's greatest price.
 const DEAREST: u64 = 18_446_744_073_709_551_614;
 
-/// A tournament tree over all nodes in rack order. Each knot has the first of its children.
+/// A tournament tree over all nodes in rack order. Each knot has the first rank of its children.
 #[derive(Drop)]
 pub struct Ranks {
     who: Who,
@@ -206,7 +206,7 @@ impl Ranks {
         Ok(())
     }
 
-    /// The first of all.
+    /// The first member.
     pub fn head(&self) -> Option<u32> {
         self.at(1).node()
     }
@@ -216,7 +216,7 @@ impl Ranks {
         self.at(1) == NOBODY
     }
 
-    /// The number of leaves, at least that of nodes.
+    /// The number of leaves: at least one for each node.
     pub fn len(&self) -> u32 {
         small(self.knots.len()).saturating_sub(self.size)
     }

@@ -197,12 +197,13 @@ fn ranked(seats: &Seats, node: u32) -> Giver {
 
 /// Gives slots to members by partitions' sizes:
 ///
-/// 1. Leavers' slots, the largest first, go to members that lack most by weight, after racks. Slots without keys go to
-///    members with few slots.
+/// 1. Leavers' slots, the largest first, go to members that lack most by weight, as racks allow. Slots without keys go
+///    to members with few slots.
 ///
-/// 2. Slots above owners' levels, the largest first, go to joining members that lack most, at least the slot.
+/// 2. Slots above owners' levels, the largest first, go to joining members that lack most, if they lack at least the
+///    slot.
 ///
-/// 3. If a joining member still lacks something, those that store most by weight give, even below their levels.
+/// 3. If a joining member still lacks something, members that store most by weight give, even below their levels.
 ///
 /// 4. Swaps for slots of near size bring members closer to their shares.
 pub fn take_by_size(alloc: Global, seats: &mut Seats) -> Result<(), Refusal> {

@@ -140,8 +140,8 @@ impl Spread {
 ///
 /// Moves, loads and pairs in one rack do not grow, nor do copies with fewer than `reads` other staying slots.
 ///
-/// Partitions get fewer joining owners, then fewer moving slots, after the first; then nodes share partitions more
-/// evenly.
+/// Partitions get fewer joining owners after the first, then fewer moving slots after the first. Then nodes share
+/// partitions more evenly.
 ///
 /// Good, not always optimal: joining nodes take some 32 looks for each of the ring's slots, the rest at most 16.
 pub fn spread_moves(alloc: Global, reads: u32, seats: &mut Seats) -> Result<(), Refusal> {

@@ -90,7 +90,7 @@ impl Takers {
         Ok(self.first())
     }
 
-    /// Returns the first member that may take this rack's slot. No more slots may share a rack.
+    /// Returns the first member that may take this rack's slot, so that no more slots share a rack.
     pub fn heir(
         &mut self,
         seats: &Seats,

@@ -4,7 +4,7 @@ use find_flow::Seats;
 use std::cmp::Reverse;
 use texts::NONE;
 
-// The order of moving slots, the greatest first: racks above their most, then owners with many slots by weight.
+// Which slot to free first, the greatest: in racks above their most, then of owners with many slots by weight.
 #[derive(Clone, Copy, PartialEq, Eq, PartialOrd, Ord, Drop)]
 struct Urgency {
     is_above: bool,

@@ -13,7 +13,7 @@ use ring_names::Refusal;
 use std::alloc::Global;
 use texts::{at, parts, set, small};
 
-// A seat's missing copy.
+// Stands for no copy.
 const NONE: u32 = 4_294_967_295;
 
 #[derive(Clone, Copy)]
@@ -33,7 +33,7 @@ struct Seated {
 #[derive(Drop)]
 pub struct Colours {
     pub rounds: usize,
-    // each group's first seat, and the last one's end
+    // each group's first seat, then the last group's end
     firsts: Vec<u32>,
     // each seat's copy in each round
     table: Vec<u32>,
@@ -78,7 +78,7 @@ impl Colours {
         self.free.fill(groups.len(), self.rounds)
     }
 
-    /// Seats as many copies as possible.
+    /// Gives rounds to as many copies as possible.
     pub fn colour_all(
         &mut self,
         alloc: Global,

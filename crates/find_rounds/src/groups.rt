@@ -5,7 +5,7 @@ use ring_table::{Allowance, NodeSide, Ring, Side};
 use std::alloc::Global;
 use texts::{at, set};
 
-/// Two groups for each node: copies from it and to it. If one number counts both, the first has all.
+/// Two groups for each node: copies from it, and copies to it. A joint allowance has all copies in the first group.
 #[derive(Drop)]
 pub struct Groups {
     // each group's most open transfers; 0 if unused or barred

@@ -1,4 +1,4 @@
-//! Plans new owners.
+//! Plans moves to new owners.
 
 use crate::groups::Groups;
 use crate::layout::Layout;
@@ -18,7 +18,7 @@ use texts::small;
 pub struct Handover<'a> {
     pub alloc: Global,
     pub ring: &'a Ring,
-    /// By partition, as many different owners as before, in any order.
+    /// By partition, its owners in any order: as many as before, all different.
     pub rows: &'a [Listed<NodeId>],
     pub turnover: Turnover<'a>,
     pub dead: &'a [NodeId],

@@ -1,4 +1,4 @@
-//! Rounds in turn: a copy takes the first round, from its groups' last ones on, in which all are free.
+//! Rounds in turn: a copy takes the first round in which all its groups are free, and none before their last rounds.
 
 use crate::groups::Groups;
 use ring_names::Refusal;
@@ -13,7 +13,7 @@ pub struct Later {
 }
 
 impl Later {
-    /// Starts with groups free from the round on.
+    /// Starts with all groups free from this round on.
     pub fn of(alloc: Global, groups: usize, round: u32) -> Result<Later, Refusal> {
         Ok(Later {
             last: vec![in alloc; round; groups]?,
@@ -37,7 +37,7 @@ impl Later {
         raise(&mut self.taken, group);
     }
 
-    /// The round of the groups' next copy.
+    /// The round of the next copy with these groups.
     pub fn round(&mut self, groups: &Groups, parties: &[u32]) -> u32 {
         let mut round = 0u32;
         for group in parties {

@@ -1,7 +1,7 @@
 //! Copies that read listed slots, not the owner.
 //!
-//! A leaving node gives all its slots at its own pace. A copy from R staying slots loads their owners a little each
-//! instead. This needs R + 1 parties instead of 2, so it must save at least half of the rounds.
+//! A leaving node gives all its slots at its own pace. If a copy reads R staying slots instead, each of their owners
+//! gives a little. This needs R + 1 parties instead of 2, so it must save at least half of the rounds.
 
 use crate::groups::Groups;
 use crate::moving::SlotMove;
@@ -10,7 +10,7 @@ use crate::task::Task;
 use ring_names::{Refusal, Rows};
 use texts::{at, lower, parts, raise, small};
 
-// The slots that each copy lists, by index. None for the owner.
+// The slots that each copy lists, by index. No slots mean the owner.
 #[derive(Drop)]
 struct Listing {
     // by move, ascending
@@ -32,7 +32,7 @@ fn most(groups: &Groups, group: usize, rounds: u32) -> u32 {
 }
 
 impl Listing {
-    // What the slot's owner has left of the rounds, in 64ths.
+    // What the slot's owner can still give in these rounds, in 64ths.
     fn left(&self, task: &Task, place: usize, rounds: u32) -> Option<u32> {
         let (layout, groups) = (task.layout, task.groups);
         let group = groups.giver(layout.owner(place));
@@ -72,7 +72,7 @@ impl Listing {
         }
     }
 
-    // Lists R slots for a copy of an overloaded owner, or none if there are fewer.
+    // Lists R slots for a copy whose owner is overloaded, or no slot if there are fewer.
     fn list(&mut self, task: &Task, step: &SlotMove, rounds: u32) -> Result<(), Refusal> {
         self.row.clear();
         let giver = task.groups.giver(step.from);
@@ -165,7 +165,7 @@ fn try_rounds(task: &Task, owner: OwnerKind, rounds: u32) -> Result<Option<Rows>
     Ok(if is_enough { Some(listing.slots) } else { None })
 }
 
-// Slots for the fewest rounds, up to `most`. Halves a range of 32 bits.
+// Finds slots for the fewest rounds, up to `most`. Halves a range of 32 bits.
 fn search(task: &Task, owner: OwnerKind, most: u32) -> Result<Option<Rows>, Refusal> {
     let (mut low, mut high) = (1u32, most);
     let mut found = None;
@@ -185,9 +185,9 @@ fn search(task: &Task, owner: OwnerKind, most: u32) -> Result<Option<Rows>, Refu
     Ok(found)
 }
 
-/// Returns R listed slots for each copy with a barred owner, staying ones first, for the fewest rounds.
+/// Returns R slots to list for each copy whose owner is barred: staying slots first, for the fewest rounds.
 ///
-/// None if a partition has too few with live owners.
+/// None if a partition has too few slots with live owners.
 pub fn around(task: &Task) -> Result<Option<Rows>, Refusal> {
     // Enough rounds for one copy at a time.
     let most = small(task.moves.len()).saturating_mul(8).saturating_add(1);
@@ -203,12 +203,12 @@ pub fn fewest(groups: &Groups, counts: &[u32]) -> u32 {
     most
 }
 
-/// Whether the rounds are worth more parties.
+/// Whether listed slots save enough rounds.
 pub fn is_worth(rounds: u32, from_owners: u32) -> bool {
     rounds.saturating_mul(2) <= from_owners && rounds.saturating_add(4) <= from_owners
 }
 
-/// Returns each copy's listed slots for the fewest rounds. None for the owner.
+/// Returns each copy's listed slots for the fewest rounds. No slots mean the owner.
 pub fn sources(task: &Task) -> Result<Option<Rows>, Refusal> {
     let groups = task.groups;
     let from_owners = fewest(groups, &counts(task.alloc, groups, task.moves)?);

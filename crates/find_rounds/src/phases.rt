@@ -19,7 +19,7 @@ fn by_place(task: &Task) -> Result<Vec<u32>, Refusal> {
     Ok(numbers)
 }
 
-/// By copy, the moves of its listed slots. Their copies come later.
+/// By copy, the moves of its listed slots, whose copies come later.
 pub fn followers(task: &Task, listed: &Rows) -> Result<Rows, Refusal> {
     let (layout, numbers) = (task.layout, by_place(task)?);
     let mut behind = Rows::new(task.alloc);

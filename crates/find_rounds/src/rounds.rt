@@ -26,7 +26,7 @@ pub fn counts(alloc: Global, groups: &Groups, moves: &[SlotMove]) -> Result<Vec<
 #[derive(Drop)]
 pub struct Schedule {
     pub parties: Rows,
-    /// By copy, its listed slots, ascending. None for the owner.
+    /// By copy, its listed slots, ascending. No slots mean the owner.
     pub listed: Rows,
     rounds: Vec<u32>,
 }
@@ -133,8 +133,8 @@ impl Schedule {
         Ok(())
     }
 
-    // Lets copies read around barred groups. A listed slot moves later: after all other copies, or after those that
-    // list it if that takes fewer rounds.
+    // Lets copies avoid barred groups. A listed slot moves later: after all other copies or, if that takes fewer
+    // rounds, after those that list it.
     fn read_around(&mut self, task: &Task) -> Result<(), Refusal> {
         let Some(listed) = around(task)? else {
             return Err(Refusal::NoPlan);
@@ -149,8 +149,8 @@ impl Schedule {
         Ok(())
     }
 
-    /// Gives moves rounds within allowances. Barred owners' copies list R slots. Fails with `NoPlan` if a partition
-    /// lacks them.
+    /// Gives moves rounds within allowances. A copy whose owner is barred lists R slots. Fails with `NoPlan` if there
+    /// are fewer.
     pub fn fill(&mut self, task: &Task) -> Result<(), Refusal> {
         if task.groups.has_barred() {
             return self.read_around(task);

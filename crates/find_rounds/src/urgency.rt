@@ -1,4 +1,4 @@
-//! Rounds by urgency: groups with most left come first. Copies can have any number of parties.
+//! Rounds by urgency: groups with most copies left come first. Copies can have any number of parties.
 //!
 //! A copy waits in its neediest group's queue. Groups are served by need, until their allowance is used or some copies
 //! in turn found another group full. So a round looks at few copies in vain.

@@ -97,7 +97,7 @@ fn has_listed(plan: &Plan, progress: &Progress, history: &[Entry]) -> bool {
     })
 }
 
-/// Returns slots whose mirrors got puts from listed slots that their owners lacked.
+/// Returns slots whose mirrors got puts from listed slots while owners lacked these puts.
 ///
 /// Only unfinished copies count. An owner that was down counts as lacking. Costs one pass over the history, and a
 /// replay if there are such copies.

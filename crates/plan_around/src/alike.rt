@@ -1,4 +1,4 @@
-//! Compares stores.
+//! Compares two stores.
 
 ghost use Rattle.std.specs.Prelude.{◌≡◌, ℕ, ◌<◌, true, IfOk, IsTrue, Some};
 ghost use Rattle.plan_text.specs.Valid.{is_ring_slot};
@@ -108,7 +108,7 @@ fn is_stored_alike(a: &World, b: &World, node: NodeId, put: u32, index: u32) -> 
     is_same(mine, theirs)
 }
 
-// Whether both mirrors agree on the put. The slot's last step in the second plan is to come.
+// Whether both mirrors agree on the put, or the slot's last step in the second plan is done.
 fn is_mirrored_alike(a: &World, b: &World, plan: &Plan, put: u32, index: u32) -> bool
     requires same { ring_of b.now ≡ ring_of a.now }
     requires plan { plan_of b.now ≡ plan.now }
@@ -173,7 +173,7 @@ fn mark_alike(
     true
 }
 
-// The order must have each put.
+// `order` must have each put.
 fn are_puts_alike(
     alloc: Global,
     ring: &Ring,
@@ -199,7 +199,7 @@ fn are_puts_alike(
     Ok(are_marked(marks.as_slice(), puts))
 }
 
-/// Whether both stores are alike. The second follows this ring and plan; `order` has each put.
+/// Whether both stores are alike. The second store follows this ring and plan; `order` has each put.
 ///
 /// Costs a few look-ups for each slot, and for each put and slot of its partition.
 pub(crate) fn are_alike(

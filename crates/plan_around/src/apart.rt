@@ -1,4 +1,4 @@
-//! Checks steps for dead nodes.
+//! Checks that steps need no dead nodes.
 
 ghost use Rattle.std.specs.Prelude.{◌≡◌, ◌||◌, true, IsTrue, IfOk, IfErr};
 ghost use Rattle.ring_names.specs.declared.refusal.Refusal.TheVariants.{OutOfMemory};

@@ -1,4 +1,4 @@
-//! Goes on around dead nodes.
+//! Continues a plan around dead nodes.
 
 ghost use Rattle.std.specs.Prelude.{◌≡◌, ◌≤◌, IfOk, OnOk, length};
 ghost use Rattle.history_text.specs.Replays.{IsReplay};
@@ -308,14 +308,11 @@ fn asked_for<'a>(
 /// Named slots stay with their owners, or go to mirrors to which a copy gave all chunks. Other mirrors are undone only
 /// if the detour allows it.
 ///
-/// Uses the plan of a second bundle, without a history, if one follows. Adds to `words` what becomes of slots and
-/// nodes, or at `NoPlan` why.
+/// If a second bundle follows, without a history, uses its plan. Adds to `words` what becomes of slots and nodes, or
+/// the reason for `NoPlan`.
 ///
-/// Fails with the texts' first fault. Fails with `UnknownNode(0)` for an undeclared name, or for a member without a
-/// rack if racks are known.
-///
-/// Fails with `TooLarge` and the layout's line for an unknown partition. Fails as the checker does, or as `replay` if
-/// the history is not a run.
+/// Fails with the texts' first fault, or as `ask_layout`, `nodes_of`, `racks_of` and the checker do; as `replay` if the
+/// history is not a run.
 ///
 /// Fails with `NoPlan` if no remaining step moves a named slot, or if the history cannot go on.
 ///

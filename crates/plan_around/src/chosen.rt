@@ -1,4 +1,4 @@
-//! Reads a stopped plan, and a chosen one.
+//! Reads a stopped plan, and a chosen plan.
 
 ghost use Rattle.std.specs.Prelude.{◌≡◌, IfOk, IfSome, Ok};
 ghost use Rattle.texts.specs.Judging.{map_ok};
@@ -14,7 +14,7 @@ use ring_table::{Ring, read_ring_section};
 use std::alloc::Global;
 use texts::Lines;
 
-/// A previous ring's plan, its certificate, and the ring it names.
+/// A plan for the stopped plan's ring, its certificate, and the ring written before it.
 #[derive(Drop)]
 pub(crate) struct Chosen {
     pub(crate) ring: Ring,

@@ -1,4 +1,4 @@
-//! Where plans end.
+//! What plans end with.
 
 ghost use Rattle.std.specs.Prelude.{◌≡◌, ◌⊎◌, ℕ, ◌<◌, ◌||◌, true, false, length, Some, slice_get, IsTrue, IfOk};
 ghost use Rattle.std.specs.List.{list_any};

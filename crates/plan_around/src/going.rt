@@ -51,7 +51,7 @@ pub(crate) fn accepted(
     }
 }
 
-// Whether the store ends like the one before, and the rest involves no dead node.
+// Whether both stores are alike, and the rest involves no dead node.
 fn runs_on(
     alloc: Global,
     approved: &Approved,
@@ -158,7 +158,7 @@ fn tells_past(
     is_same_past(alloc, &plans, it.history, &Told { entries, counts })
 }
 
-// Fails with `NoPlan` if the histories do not match.
+// Fails with `NoPlan` if the histories differ.
 fn past<'a>(alloc: Global, it: &Going, new: &'a Approved) -> Result<Retold<'a>, Refusal>
     ensures past { IfOk result (λ v. IsSamePast (back_with it.now.left.now it.now.back) it.now.old.now.plan new.now.plan it.now.history.now v.led.entries.items) }
     ensures led { IfOk result (λ v. IsLed new.now.ring new.now.plan v.led) }
@@ -194,12 +194,12 @@ fn ask_ends(alloc: Global, it: &Going, before: &World, new: &Approved) -> Result
     Err(Refusal::NoPlan)
 }
 
-/// Returns the text that goes on by the plan.
+/// Returns the bundle that goes on by the plan.
 ///
 /// The checker must accept the plan, and the stores be alike.
 ///
-/// Fails with `NoPlan` if plan or certificate are not the ring's, or if the plan ends elsewhere or involves a dead
-/// node. The same if histories or stores differ.
+/// Fails with `NoPlan` if plan or certificate do not suit the ring, or the plan ends elsewhere or involves a dead node.
+/// The same if histories or stores differ.
 ///
 /// Otherwise fails as the checker or the new store does.
 pub(crate) fn go_on(

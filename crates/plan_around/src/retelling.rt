@@ -1,6 +1,6 @@
-//! Runs the history by another plan, whose store gives the replies.
+//! Runs a history by another plan. That plan's store gives the replies.
 //!
-//! An omitted chunk becomes writes of what it gave, since its listed slots hold the same by both plans.
+//! If a chunk is omitted, writes give what it gave, since its listed slots hold the same by both plans.
 
 ghost use Rattle.std.specs.Prelude.{IfOk, OnOk};
 ghost use Rattle.plan_around.specs.Led.{GoesFarther, IsLed};
@@ -145,7 +145,7 @@ impl Retelling<'_, '_> {
 
 /// Runs the old history by the new plan. Fails as the new store does.
 ///
-/// An omitted chunk becomes writes, if the slot is still mirrored and its owner has all puts.
+/// Writes replace an omitted chunk, if the slot is still mirrored and its owner has all puts.
 ///
 /// Costs one run, and for each omitted chunk a look-up for each put of its keys.
 pub(crate) fn retell<'a>(

@@ -1,4 +1,4 @@
-//! Queries on a store.
+//! Asks a store.
 
 ghost use Rattle.std.specs.Prelude.{◌≡◌, true, IfOk, IsTrue, Some};
 ghost use Rattle.plan_text.specs.Valid.{is_ring_slot};
@@ -77,9 +77,9 @@ impl Mirrored {
         Slot { partition, index }
     }
 
-    /// Whether writing the put changes at most the mirror.
+    /// Whether a write of the put changes at most the mirror.
     ///
-    /// Then the owner has it or a successor, and both nodes are up.
+    /// Then the owner has the put or a successor, and both nodes are up.
     pub(crate) fn can_write(&self, store: &World, put: u32) -> bool {
         let index = self.slot.index;
         has_put(store, self.owner, put, index) && store.allows(&Event::Write(put, index)).is_ok()

@@ -23,12 +23,12 @@ pub struct Aim<'a> {
     pub dead: &'a [NodeId],
 }
 
-/// Why no plan can lead there.
+/// Why no plan can reach the goal.
 #[derive(Clone, Copy, Debug, PartialEq, Eq)]
 pub enum Unfit {
-    /// The rings differ in partitions, slots, quorums or losses.
+    /// The rings have other partitions, slots, quorums or losses.
     Space,
-    /// The node has another name or allowance, or is in only one ring.
+    /// The node has another name or allowance, or only one ring has it.
     Node(u32),
     /// A dead node should join.
     DeadJoiner(u32),

@@ -69,7 +69,7 @@ fn certified(alloc: Global, front: Front) -> Result<Vec<u8>, Refusal>
     }
 }
 
-/// Adds a certificate to a bundle's ring and plan, and returns all.
+/// Returns a bundle's ring and plan with a new certificate.
 ///
 /// Its chains are the fewest that the plan's order allows.
 ///

@@ -48,7 +48,7 @@ impl<'a> StepWindows<'a> {
         }
     }
 
-    // Puts groups no earlier than those that they await. Returns whether one moved.
+    // Moves groups to windows of the groups that they await, if later. Returns whether one moved.
     fn pass(&mut self) -> bool {
         let plan = self.plan;
         let mut is_raised = false;
@@ -140,7 +140,7 @@ fn pieces(alloc: Global, windows: &StepWindows) -> Result<Pieces, Refusal> {
 
 /// Cuts the plan into windows of `width` rounds.
 ///
-/// A move's steps stay together, with its drop. A step keeps only dependencies in its own window; earlier steps are
+/// A move's steps stay together, with its drop. A step keeps only dependencies in its own window: earlier windows are
 /// done.
 pub fn cut(
     alloc: Global,

@@ -7,7 +7,7 @@ ghost use Rattle.plan_text.specs.Changes.{numbers};
 use crate::sparing::is_among;
 use ring_names::NodeId;
 
-// As many flags as a ring may have nodes: they need no memory.
+// As many flags as a ring may have nodes. They need no memory.
 const FLAGS: usize = 1_024;
 
 /// Dead nodes, and a flag for each possible node.
@@ -19,7 +19,7 @@ pub struct Dead<'a> {
 }
 
 impl<'a> Dead<'a> {
-    /// Makes the flags. Costs a look at each node for each flag.
+    /// Makes the flags. For each flag, looks at each dead node.
     pub fn of(nodes: &'a [NodeId]) -> Dead<'a>
         ensures { result.nodes.now ≡ nodes.now }
     {

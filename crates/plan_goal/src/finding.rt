@@ -17,7 +17,7 @@ fn find_by<'a>(aim: &'a Aim<'a>, turnover: Turnover<'a>) -> Result<(Plan, Cert),
     handover.plan()
 }
 
-/// Finds a plan that leads there, and its certificate.
+/// Finds a plan to the goal ring, and its certificate.
 pub fn find(aim: &Aim) -> Result<(Plan, Cert), Refusal> {
     let (joins, retires) = (joins(aim)?, retires(aim)?);
     let turnover = Turnover {

@@ -56,7 +56,7 @@ fn copy_names(alloc: Global, names: &[Vec<u8>]) -> Result<Vec<Vec<u8>>, Refusal>
     Ok(copies)
 }
 
-/// The dead nodes' names: the command line's, then the layout's.
+/// Names of dead nodes: the command line's, then the layout's.
 pub fn dead_by(alloc: Global, options: &Options) -> Result<Vec<Vec<u8>>, Refusal>
     ensures { IfOk result (λ names. map (λ name. name.items) names.items ≡ dead_names options.now) }
 {
@@ -70,7 +70,7 @@ pub fn dead_by(alloc: Global, options: &Options) -> Result<Vec<Vec<u8>>, Refusal
 
 /// Reads two rings, and finds a plan from the first to the second, around dead nodes.
 ///
-/// Fails with the rings' first fault, then with `UnknownNode(0)` for an undeclared name, then as `reach` does.
+/// Fails with the rings' first fault, then as `nodes_of`, then as `reach`.
 pub fn goal_bundle(
     alloc: Global,
     bytes: &[u8],
@@ -218,16 +218,13 @@ fn ask_sized(
     Err(Refusal::NoPlan)
 }
 
-/// Reads a ring and a change, and finds a plan, around dead nodes, which leave.
+/// Reads a ring and a change, and finds a plan around dead nodes. These leave.
 ///
 /// Chooses owners by weight, with racks apart. With sizes, a slot moves only from a leaver or, if it has keys, to a
 /// joiner not above its share.
 ///
-/// Fails with the texts' first fault. Fails with `UnknownNode(0)` for an undeclared name, or for a member without a
-/// rack if racks are known.
-///
-/// Fails with `TooLarge` and the layout's line for an unknown partition, with `NoPlan` if too few members remain, and
-/// as `reach` does.
+/// Fails with the texts' first fault, or as `ask_layout`, `nodes_of`, `racks_of` and `reach`; with `NoPlan` if too few
+/// members remain.
 pub fn wish_bundle(alloc: Global, bytes: &[u8], options: &Options) -> Result<Proposed, Refusal>
     ensures reached { IfOk result (IsWishReached bytes.now options.now) }
 {

@@ -7,7 +7,7 @@ use ring_table::Ring;
 use std::alloc::Global;
 use texts::at;
 
-/// The steps' groups, and their number.
+/// Each step's group, and the number of groups.
 #[derive(Drop)]
 pub struct Groups {
     pub of_steps: Vec<u32>,

@@ -14,7 +14,7 @@ use ring_names::Refusal;
 use ring_table::Ring;
 use std::alloc::Global;
 
-/// A returned ring, and the reason.
+/// A ring, and why its plan is refused.
 #[derive(Drop)]
 pub struct Rejected {
     pub ring: Ring,
@@ -29,10 +29,10 @@ fn makes(ring: &Ring, change: &Change, plan: &Plan, cert: &Cert) -> bool
         && plan.fulfils(change.joins.as_slice(), change.leaves.as_slice())
 }
 
-/// Proposes the plan if it makes the change and the checker accepts it. Otherwise returns ring and refusal.
+/// Proposes the plan if it makes the change and the checker accepts it. Otherwise returns the ring and a refusal.
 ///
-/// That is `NoPlan` if plan or certificate do not suit the ring, or the plan does not make the change; then the
-/// checker's.
+/// The refusal is `NoPlan` if plan or certificate do not suit the ring, or the plan does not make the change; otherwise
+/// the checker's.
 pub fn judge(
     alloc: Global,
     ring: Ring,

@@ -44,7 +44,7 @@ fn is_member_after(aim: &Aim, plan: &Plan, node: NodeId) -> bool
     (aim.ring.is_member(node) || plan.is_joined(node)) && !plan.is_retired(node)
 }
 
-// Whether the node should be a member: it is wanted, or a dead member.
+// Whether the node should be a member: if it is wanted, or a dead member.
 fn is_member_wanted(aim: &Aim, node: NodeId) -> bool
     ensures { result ≡ member_wanted aim.now.ring.now aim.now.wanted.now aim.now.dead.now node.0 }
 {

@@ -18,7 +18,7 @@ pub(crate) struct Place {
 #[derive(Drop)]
 pub(crate) struct Pieces {
     pub plans: Vec<Plan>,
-    /// By step of the whole plan.
+    /// By step of the whole plan, its place.
     pub places: Vec<Place>,
     /// By window, its steps in the whole plan.
     pub steps: Vec<Vec<u32>>,

@@ -1,4 +1,4 @@
-//! The proposal itself.
+//! Proposes a plan for a change.
 
 ghost use Rattle.std.specs.Prelude.{◌≡◌, ◌⊎◌, [], IfOk, IfErr};
 ghost use Rattle.ring_names.specs.declared.refusal.Refusal.TheVariants.{NoPlan, OutOfMemory};
@@ -35,10 +35,10 @@ fn propose_made(alloc: Global, ring: Ring, change: &Change) -> Result<Proposed, 
     }
 }
 
-/// Proposes a plan that makes the change, with its certificate. If the planner has none and no node leaves, nodes only
-/// join.
+/// Proposes a plan that makes the change, with its certificate. If the planner finds none and no node leaves, nodes
+/// only join.
 ///
-/// Fails with `NoPlan` if the planner finds none, then as the checker.
+/// Otherwise fails with `NoPlan` if the planner finds none, then as the checker.
 pub fn propose(alloc: Global, ring: Ring, change: &Change) -> Result<Proposed, Refusal>
     requires { IsChange ring change.now }
     ensures ring { IfOk result (λ p. p.approved.ring ≡ ring) }

@@ -11,7 +11,7 @@ use texts::{Labels, Words, at, is_set, put, raise, set, small, suffix};
 #[derive(Clone, Copy, Debug, PartialEq, Eq)]
 pub enum Known {
     Named,
-    /// From a name, after the last such byte.
+    /// From nodes' names: what follows the last such byte.
     Behind(u8),
     /// Unknown after a search.
     Unknown,

@@ -69,7 +69,7 @@ fn checked(alloc: Global, ring: Ring, plan: Plan, cert: Cert) -> Result<Proposed
 
 /// Finds a plan from the ring to the wanted one, with a certificate that the checker accepts.
 ///
-/// Compares a partition's slots as a set: only slots that must move do.
+/// Compares a partition's slots as a set, so that only slots move that must.
 ///
 /// A dead node gives and takes nothing: its slots are read from R others, and it neither drops nor retires.
 ///

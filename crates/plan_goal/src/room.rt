@@ -1,4 +1,4 @@
-//! A bound on windows' bytes, known before they are made.
+//! A lower bound on the bytes of windows, before they are made.
 //!
 //! Each window begins with a ring's text. The rings differ only in owners and members (`ring_after`), and an `in` is a
 //! byte shorter than an `out`. So a window has at least the first ring's bytes, less one for each node, with the
@@ -10,7 +10,7 @@ use ring_table::{Node, Ring};
 /// The most bytes of a plan's windows.
 pub const MAX_WINDOWS: usize = 67_108_864;
 
-/// The bytes so far, the windows left, and each one's fewest bytes.
+/// The bytes so far, the windows left, and a window's fewest bytes.
 #[derive(Clone, Copy, Debug)]
 pub struct Room {
     made: usize,

@@ -28,7 +28,7 @@ fn is_end(text: &[u8], start: usize, end: usize) -> bool {
     start <= end && end <= text.len() && &text[start..end] == b"end\n".as_slice()
 }
 
-/// Counts the first sections' bytes, or all if there are fewer.
+/// Counts the bytes of the first sections, or of all if fewer.
 pub fn front(text: &[u8], sections: u32) -> usize
     ensures { result ≤ length text.now }
 {

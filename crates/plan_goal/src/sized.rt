@@ -1,4 +1,4 @@
-//! Checks the promises for partitions with sizes.
+//! Checks what a plan with partitions' sizes promises.
 
 ghost use Rattle.std.specs.Prelude.{◌≡◌, ◌*◌, ◌&&◌, nat_le, true, length, slice_index, replicate, IfOk, IfSome, OnOk, IsTrue};
 ghost use Rattle.plan_goal.specs.Sized.{IsSized, all_stored, all_weights, has_sizes, is_flagged, is_size, is_taker, loads_below, may_go, may_row, may_rows, row_at, sizes_by, sum_below, takes, weight_in, weights_by, with_row, with_size, with_slot, with_weight};

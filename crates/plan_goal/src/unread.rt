@@ -92,10 +92,9 @@ fn without_unread(
     wanted.with(alloc, rows.as_slice(), members.as_slice())
 }
 
-/// Returns the wanted ring. If unread partitions are left, their slots stay.
+/// Returns the wanted ring. If unread partitions are left, their slots stay, and owners stay members.
 ///
-/// A partition is unread if a dead node should hand on a slot and fewer owners live than a read asks. Owners stay
-/// members.
+/// A partition is unread if a dead node should hand on a slot and fewer owners are alive than a read asks.
 pub fn wanted_by(
     alloc: Global,
     unreadable: Unreadable,

@@ -1,4 +1,4 @@
-//! Windows of a plan, each a bundle over the previous one's ring.
+//! Windows of a plan. Each is a bundle over the ring after the previous one.
 
 ghost use Rattle.std.specs.Prelude.{◌≡◌, ℕ, List, [], ◌∷◌, ◌++◌, Option, IfOk, IsTrue};
 ghost use Rattle.ring_table.specs.Spelling.{ring_text};
@@ -54,9 +54,9 @@ pub fn is_same_ring(alloc: Global, one: &Ring, other: &Ring) -> Result<bool, Ref
 
 #[derive(Drop)]
 enum Asked {
-    // All, in order.
+    // All windows, in order.
     All(Vec<u8>),
-    // None yet: so many windows precede the wanted window.
+    // Before the wanted window, which so many windows precede.
     After(u32),
     // The wanted window.
     Found(Vec<u8>),
@@ -139,7 +139,7 @@ fn all_windows(
 ///
 /// Fails as the checker does for a window, or with `NoPlan` if there is no such window.
 ///
-/// Fails with `TooLarge(0)` above `MAX_WINDOWS` bytes: before making windows, if numbers and lengths show this.
+/// Fails with `TooLarge(0)` above `MAX_WINDOWS` bytes, before making windows if numbers and lengths show this.
 pub fn cut_plan(
     alloc: Global,
     approved: &Approved,

@@ -32,10 +32,10 @@ fn copies(step: &Step) -> u32
     }
 }
 
-/// Returns each step's round: the most copies on a path of dependencies up to and including it. Costs a look at each
+/// Returns each step's round: the most copies on a path of dependencies that ends with it. Costs a look at each
 /// dependency.
 ///
-/// A round's copies may run side by side, and each waits for a copy of the round before.
+/// A round's copies may run side by side. Each waits for a copy of the round before.
 pub fn rounds(alloc: Global, plan: &Plan) -> Result<Vec<u32>, Refusal>
     ensures ok { IfOk result (λ found. AreRounds plan.now found.items) }
     ensures memory { IfErr result (λ e. e ≡ OutOfMemory) }

@@ -1,4 +1,4 @@
-//! The hints left by a history.
+//! The hints that remain after a history.
 
 use plan_runs::{Entry, Event, Reply};
 use ring_names::{NodeId, Refusal, Slot};
@@ -55,7 +55,7 @@ impl Kept {
         Ok(())
     }
 
-    /// Returns for how many slots the nodes keep hints, summed, and which of them keep some.
+    /// Returns the sum of slots for which these nodes keep hints, and the nodes that keep some.
     pub fn of_nodes(&self, alloc: Global, nodes: &[u32]) -> Result<(u32, Vec<u32>), Refusal> {
         let mut count = 0u32;
         let mut keepers = Vec::new(alloc);

@@ -33,7 +33,7 @@ struct Head<'a> {
     steps: &'a [u32],
 }
 
-// The members before the move's slot.
+// The object's members before the move's slot.
 fn write_front(line: &mut Writer, head: &Head, from: NodeId) -> Result<(), Refusal>
     ensures ok { OnOk result (GoesOn line.old line.new (begin_object ∷ key (codes "after")
         ∷ (json_tokens (outline (array (items_of (map number_data head.now.after.now))))
@@ -64,10 +64,11 @@ fn write_object(line: &mut Writer, head: &Head, movement: &Move) -> Result<(), R
 
 /// Writes the plan's moves as lines of JSON, in mirror order, for executors that do one after another.
 ///
-/// Each line has the number, the slot, the owner until the switch, the mirror, the steps, and those to be done before.
+/// Each line has the number, the slot, the owner until the switch, the mirror, the steps, and the steps to be done
+/// before.
 ///
-/// A move's steps are the slot's, from its mirror up to the next. Once the earlier ones are done, they can be done in a
-/// row.
+/// A move's steps are the slot's steps from its mirror up to the next mirror. Once the steps before them are done, they
+/// can be done in a row.
 ///
 /// Joins, retirements and steps before a slot's first mirror are in no move.
 ///

@@ -25,7 +25,7 @@ use ring_names::{NodeId, Refusal, Slot};
 use ring_table::Ring;
 use std::alloc::AllocError;
 
-/// A step's number, the steps before it, and the ring.
+/// A step's number, the steps to be done before it, and the ring.
 #[derive(Clone, Copy)]
 pub(crate) struct Head<'a> {
     pub ring: &'a Ring,
@@ -45,7 +45,7 @@ fn write_front(line: &mut Writer, head: &Head, kind: &str) -> Result<(), AllocEr
     line.string(kind)
 }
 
-// The slot of a step without listed slots, and its number.
+// A step's slot and number, if it lists no slots.
 fn write_place(line: &mut Writer, head: &Head, slot: Slot) -> Result<(), AllocError>
     ensures { OnOk result (GoesOn line.old line.new (key (codes "partition") ∷ number (decimal slot.partition)
         ∷ key (codes "slot") ∷ number (decimal slot.index) ∷ key (codes "step") ∷ number (decimal head.now.step) ∷ [])) }

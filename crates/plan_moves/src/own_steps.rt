@@ -26,7 +26,7 @@ fn later(steps: &[u32], number: u32) -> &[u32]
     }
 }
 
-/// Returns the move's steps, ascending: its mirror, and the slot's later steps up to the next.
+/// Returns the move's steps, ascending: its mirror, and the slot's later steps up to the next mirror.
 ///
 /// Costs a binary search in the slot's steps, and a look at each own step.
 pub(crate) fn move_steps(

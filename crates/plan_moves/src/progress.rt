@@ -87,7 +87,7 @@ impl Progress {
         is_set(self.is_down.as_slice(), node)
     }
 
-    /// Returns the copy's copied chunks, of 16.
+    /// Returns how many of the copy's 16 chunks are copied.
     pub fn chunks(&self, step: u32) -> u32 {
         at(self.chunks.as_slice(), step as usize).min(16)
     }

@@ -18,8 +18,7 @@ use std::alloc::Global;
 ///
 /// Costs one pass over the plan.
 ///
-/// A copy's line has its mirror, the owners of the slots read, just before it, and listed slots' indexes in the plan's
-/// order.
+/// A copy's line has its mirror, the present owners of the slots read, and listed slots' indexes in the plan's order.
 pub fn write_steps(alloc: Global, ring: &Ring, plan: &Plan) -> Result<Vec<u8>, Refusal>
     requires { Suits ring.now plan.now }
     ensures text { IfOk result (λ v. v.items ≡ steps_text ring.now plan.now) }

@@ -40,7 +40,7 @@ fn in_order(alloc: Global, numbers: &BTreeSet<u32>) -> Result<Vec<u32>, AllocErr
     numbers.iter().copied().collect(alloc)
 }
 
-/// Returns the direct dependencies of a move's steps, without these, ascending.
+/// Returns the direct dependencies of a move's steps on other steps, ascending.
 ///
 /// Costs a look at each dependency with a binary search in the own steps, and an insertion for each found.
 pub(crate) fn move_after(alloc: Global, plan: &Plan, own: &[u32]) -> Result<Vec<u32>, Refusal>

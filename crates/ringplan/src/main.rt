@@ -22,7 +22,7 @@ fn main(rt: HostRuntime) -> ExitCode {
     ExitCode::from(status)
 }
 
-// Colours need a terminal as standard output, and no or an empty NO_COLOR (no-color.org).
+// Colours need a terminal as standard output, and an empty NO_COLOR or none (no-color.org).
 fn screen(rt: &HostRuntime) -> Screen {
     let mut first = [0u8; 1];
     let is_forbidden = match rt.var("NO_COLOR", &mut first) {

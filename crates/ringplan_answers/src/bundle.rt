@@ -1,5 +1,4 @@
-//! Jobs with a bundle. Each fails with the texts' first fault, then, if it checks, as the checker does. `OutOfMemory`
-//! comes only after the ring's first four lines.
+//! Jobs with a bundle. Each fails with the texts' first fault, then, if it checks, as the checker does.
 
 ghost use Rattle.std.specs.Prelude.{◌≡◌, ◌++◌, ◌∷◌, [], IfOk, IfErr, OnOk, codes};
 ghost use Rattle.ring_names.specs.declared.refusal.Refusal.TheVariants.{OutOfMemory};
@@ -53,7 +52,7 @@ fn check_plan(alloc: Global, ring: Ring, plan: Plan, cert: &Cert, ends: bool) ->
     }
 }
 
-/// Checks a bundle: `Ok` exactly if the checker accepts, so that the plan keeps its promises.
+/// Checks a bundle. `Ok` exactly if the checker accepts: then the plan keeps its promises.
 pub fn check_bundle(alloc: Global, bytes: &[u8]) -> Result<(), Refusal>
     ensures read { Gives result (verdict bytes.now) }
     // The headline.

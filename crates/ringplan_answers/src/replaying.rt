@@ -45,9 +45,8 @@ fn replay_checked(alloc: Global, bundle: ReplayBundle, ends: bool) -> Result<Vec
 
 /// Replays a history, if the checker accepts the plan and the history is its run: `yes`, the final owners, `end`.
 ///
-/// Fails with the texts' first fault, then as the checker does, then with `Mismatch` of the first impossible entry.
-///
-/// `OutOfMemory` comes only after the ring's first four lines, at any entry.
+/// Fails with the texts' first fault, then as the checker does, then with `Mismatch` of the first impossible entry; at
+/// any entry with `OutOfMemory`.
 pub fn replay_bundle(alloc: Global, bytes: &[u8]) -> Result<Vec<u8>, Refusal>
     ensures replays { MakesIf Replaying bytes.now (texts_of result) }
     ensures late { IfErr result (λ e. e ≡ OutOfMemory → NoFaultBefore 5 (whole_text replay_at bytes.now)) }

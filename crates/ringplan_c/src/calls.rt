@@ -1,4 +1,5 @@
-//! The calls. `c/ringplan.h` shows them as C sees them, and says what a caller owes.
+//! The calls. `c/ringplan.h` shows them as C sees them, and says what a caller owes. A refused job prints the refusal's
+//! line.
 
 ghost use Rattle.std.specs.Prelude.{◌≡◌};
 ghost use Rattle.ringplan_c.specs.Calls.{Comes, Replies};
@@ -56,7 +57,7 @@ pub extern "C" fn ringplan_check(
     reply(alloc, Job::Check, input, output, length)
 }
 
-/// `ringplan plan`: a change's plan and certificate, or a refusal's line.
+/// `ringplan plan`: a change's plan and certificate.
 #[unsafe(no_mangle)]
 pub extern "C" fn ringplan_plan(
     alloc: Global,
@@ -69,7 +70,7 @@ pub extern "C" fn ringplan_plan(
     reply(alloc, Job::Plan, input, output, length)
 }
 
-/// `ringplan play`: the answers to a script's events, or a refusal's line.
+/// `ringplan play`: the answers to a script's events.
 #[unsafe(no_mangle)]
 pub extern "C" fn ringplan_play(
     alloc: Global,
@@ -82,7 +83,7 @@ pub extern "C" fn ringplan_play(
     reply(alloc, Job::Play, input, output, length)
 }
 
-/// `ringplan migrate`: the texts with the ring in its next format, or a refusal's line.
+/// `ringplan migrate`: the texts with the ring in its next format.
 #[unsafe(no_mangle)]
 pub extern "C" fn ringplan_migrate(
     alloc: Global,
@@ -95,7 +96,7 @@ pub extern "C" fn ringplan_migrate(
     reply(alloc, Job::Migrate, input, output, length)
 }
 
-/// `ringplan replay`: `yes` and the owners after a history that is a run, or a refusal's line.
+/// `ringplan replay`: `yes` and the owners after a history that is a run.
 #[unsafe(no_mangle)]
 pub extern "C" fn ringplan_replay(
     alloc: Global,

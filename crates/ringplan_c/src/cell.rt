@@ -10,7 +10,7 @@ use std::alloc::Global;
 use std::marker::Model;
 use std::ptr::null_mut;
 
-/// A pointer to a judge, or null. Dropping it frees nothing: `Handle::take` returns the judge first.
+/// A pointer to a judge, or null. A drop frees nothing, so `Handle::take` first returns the judge.
 #[repr(C)]
 #[derive(Drop)]
 pub struct Cell {

@@ -5,8 +5,8 @@ ghost use Rattle.ringplan_c.specs.Room.{Fills};
 // The status if the room is too small.
 const MORE_ROOM: u8 = 4;
 
-/// Puts a text at the room's front, tells its length and returns its status. A room that is too small stays, with
-/// status 4.
+/// Puts a text at the room's front, tells its length and returns its status. If it does not fit, puts nothing and
+/// returns 4.
 pub fn fill(text: &[u8], status: u8, room: &mut [u8], length: &mut usize) -> u8
     ensures { Fills text.now status room.old room.new length.new result }
 {

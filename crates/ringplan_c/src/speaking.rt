@@ -131,7 +131,7 @@ fn answer(alloc: Global, command: &[u8], options: &[u8], input: &[u8]) -> Result
     })
 }
 
-/// Does a command for people as `ringplan COMMAND OPTION..` does. A byte 0 follows each option, perhaps but the last.
+/// Does a command for people as `ringplan COMMAND OPTION..` does. A byte 0 follows each option; the last may lack it.
 #[unsafe(no_mangle)]
 pub extern "C" fn ringplan_call(
     alloc: Global,

@@ -38,7 +38,7 @@ fn refuse(alloc: Global, refusal: Refusal, output: &mut [u8], length: &mut usize
     }
 }
 
-/// Begins a judge by a bundle, in the empty handle. Its text is empty, or a refusal's line as in `ringplan_check`.
+/// Begins a judge by a bundle, in the empty handle. The text is empty, or a refusal's line as in `ringplan_check`.
 #[unsafe(no_mangle)]
 pub extern "C" fn ringplan_watch_new(
     alloc: Global,
@@ -59,7 +59,8 @@ pub extern "C" fn ringplan_watch_new(
     }
 }
 
-/// Gives the judge its history's next bytes. Its text is empty, or the refusal's line, from then on.
+/// Gives the judge its history's next bytes. The text is empty until an entry is refused, then always the refusal's
+/// line.
 #[unsafe(no_mangle)]
 pub extern "C" fn ringplan_watch_take(
     alloc: Global,
@@ -92,7 +93,7 @@ pub extern "C" fn ringplan_watch_count(alloc: Global, handle: &mut Handle) -> u3
     count
 }
 
-/// Answers as a replay of the history so far. The judge may take more.
+/// Answers as a replay of the history so far does. The judge may take more bytes.
 #[unsafe(no_mangle)]
 pub extern "C" fn ringplan_watch_end(
     alloc: Global,
@@ -112,7 +113,7 @@ pub extern "C" fn ringplan_watch_end(
     }
 }
 
-/// Frees the judge, if any. The handle is empty then.
+/// Frees the judge, if any. Then the handle is empty.
 #[unsafe(no_mangle)]
 pub extern "C" fn ringplan_watch_free(alloc: Global, handle: &mut Handle)
     ensures { IsEmpty handle.new }

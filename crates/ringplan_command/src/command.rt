@@ -1,4 +1,4 @@
-//! The command line.
+//! Reads the command line.
 
 ghost use Rattle.std.specs.Prelude.{◌≡◌, List, ◌⊎◌, ◌↔◌, ◌∷◌, [], IfOk, IsTrue, codes, drop, map};
 ghost use Rattle.clap.specs.Words.{Row, first_of, found_of, rows_of, subcommand_rows_of};
@@ -45,9 +45,9 @@ pub enum Request {
     State(Job),
     /// Checks with 1 to 64 workers, and answers in JSON.
     StateBy(u32),
-    /// Cuts a history, of any length, to a part.
+    /// Cuts a history of any length to a part.
     Part(PartWish),
-    /// Judges a history while it is read, by the named bundle. Prints progress after every so many entries, unless 0.
+    /// Judges a history by the named bundle while reading it. Prints progress after every so many entries; never for 0.
     Watch(u32),
     /// Runs a plan with 1 to 64 workers and the scripts' clients.
     Drive(u32, Form),
@@ -306,7 +306,7 @@ fn guide_line(alloc: Global, matches: &ArgMatches, guide: Guide) -> Result<Reque
     write_guide(alloc, options, guide)
 }
 
-/// An answer's form, text by default.
+/// How an answer is written, text by default.
 #[derive(Clone, Copy)]
 pub(crate) enum Format {
     Text,

@@ -41,7 +41,7 @@ impl Files {
     }
 }
 
-// None if all are `-`.
+// None if all inputs are `-`.
 fn inputs_of(alloc: Global, options: &ArgMatches) -> Result<Vec<String>, AllocError>
     ensures { IfOk result (λ inputs. map string_bytes inputs.items
         ≡ but_dashes (unwrap_or (all_of (codes "file") (rows_of (found_of options.now))) [])) }

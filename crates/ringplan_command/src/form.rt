@@ -4,6 +4,6 @@
 #[derive(Clone, Copy, Debug, PartialEq, Eq)]
 pub enum Form {
     History,
-    /// A line of JSON: history, each step's finisher, number of workers.
+    /// A line of JSON: history, who finished each step, number of workers.
     Report,
 }

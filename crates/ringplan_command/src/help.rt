@@ -181,9 +181,9 @@ pub const NO_WORDS: &[u8; 123] =
 pub(crate) const NO_SHELL: &[u8; 95] =
     b"error: invalid value for '<SHELL>': not bash, zsh or fish\n\nFor more information, try '--help'.\n";
 
-/// Former words and their successors.
+/// Former words, and what replaced them.
 ///
-/// How the error begins, its command for an option, and the successor's line.
+/// How the error begins, its command if the word is an option, and the line to print.
 pub(crate) const SUCCESSORS: &[(&str, &str, &str); 6] = &[
     (
         "error: unrecognized subcommand 'judge'",

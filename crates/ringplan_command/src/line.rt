@@ -258,7 +258,7 @@ fn around_line(alloc: Global, matches: &ArgMatches) -> Result<Request, AllocErro
     around_of(alloc, matches, options)
 }
 
-// Refuses a line that changes nothing: no dead node, no layout that may name one, no staying slot, and no `--rest`.
+// Refuses a line that changes nothing: without a dead node, a layout that may name one, a staying slot, and `--rest`.
 fn around_of(alloc: Global, matches: &ArgMatches, options: Options) -> Result<Request, AllocError>
     requires known { MeansKnown (rows_of (found_of matches.now)) options }
     requires left { AreSlots (left_texts (rows_of (found_of matches.now))) options.left.items }

@@ -156,7 +156,7 @@ fn ring_left(alloc: Global, found: &Study, bytes: &[u8]) -> Result<Vec<u8>, Refu
 
 /// Writes the ring that the plan leaves or its history has reached.
 ///
-/// An open move is `WrongStage` at its mirror's step, because a ring cannot say it. Other refusals are those of
+/// Fails with `WrongStage` at the mirror's step of an open move, because a ring cannot say it. Otherwise fails as
 /// `studied`.
 pub fn after_bundle(alloc: Global, bytes: &[u8]) -> Result<Vec<u8>, Refusal>
     ensures after { IfOk result (λ text. IsLeftNow bytes.now text.items ⊎ IsLeftBy bytes.now text.items) }
@@ -171,8 +171,8 @@ pub fn after_bundle(alloc: Global, bytes: &[u8]) -> Result<Vec<u8>, Refusal>
     }
 }
 
-/// Adds why `after_bundle` refuses with `WrongStage`: the open moves, with the steps to do if there is a history;
-/// otherwise the plan's fault.
+/// Adds why `after_bundle` refuses with `WrongStage`: open moves, with the steps to do if there is a history; without
+/// open moves, the plan's fault.
 pub fn push_open(alloc: Global, out: &mut Words, bytes: &[u8], step: u32) -> Result<(), Refusal> {
     match studied(alloc, bytes, &Options::new(alloc)) {
         Ok(found) => {

@@ -27,7 +27,7 @@ fn cert_of_change(alloc: Global, bytes: &[u8]) -> Result<Vec<u8>, Refusal>
     cert_bundle(alloc, text.as_slice())
 }
 
-/// Does what `cert_bundle` does. Plans a change first.
+/// Does what `cert_bundle` does. For a change, makes a plan first.
 pub(crate) fn cert_of(alloc: Global, bytes: &[u8]) -> Result<Vec<u8>, Refusal>
     ensures certified { IfOk result (λ text. IsCertOf bytes.now text.items) }
 {
@@ -53,9 +53,7 @@ fn found_of(alloc: Global, bytes: &[u8]) -> Result<Option<Vec<u8>>, Refusal> {
     }
 }
 
-/// Adds why there is no certificate.
-///
-/// The search was given up, the checker refuses its result, or none was sought.
+/// Adds why there is no certificate: the search was given up, the checker refuses what it found, or none was sought.
 pub(crate) fn push_why_none(
     alloc: Global,
     out: &mut Words,

@@ -1,4 +1,4 @@
-//! Unreachable goal rings.
+//! Why goal rings are unreachable.
 
 use crate::history_words::unless_memory;
 use crate::why::{push_few, push_too_few, push_words_of};
@@ -236,7 +236,7 @@ fn wanted_with(
     Ok((wanted, dead))
 }
 
-/// Adds which dead nodes leave unasked.
+/// Adds which dead nodes leave though not asked to.
 pub fn push_dead_leavers(
     alloc: Global,
     out: &mut Words,

@@ -1,4 +1,4 @@
-//! Wrong histories.
+//! Why a history is wrong.
 
 ghost use Rattle.std.specs.Prelude.{◌≢◌, OnOk};
 ghost use Rattle.ring_names.specs.declared.refusal.Refusal.TheVariants.{OutOfMemory};

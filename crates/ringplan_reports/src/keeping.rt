@@ -1,4 +1,4 @@
-//! Promises of refused plans.
+//! Promises that a refused plan keeps.
 
 ghost use Rattle.std.specs.Prelude.{◌≡◌, ◌++◌, IfOk, OnOk};
 ghost use Rattle.plan_text.specs.Valid.{Suits};

@@ -41,7 +41,7 @@ fn is_at(refusal: &Refusal, number: u32) -> bool {
     }
 }
 
-/// Returns what is wrong with a layout, with a mend.
+/// Returns what is wrong with a layout, and a mend.
 pub fn layout_fault(alloc: Global, bytes: &[u8], refusal: &Refusal) -> Result<Vec<u8>, Refusal> {
     let mut said = Said::new(alloc);
     tell_layout(alloc, &mut said, bytes, refusal)?;

@@ -88,7 +88,7 @@ fn push_line(out: &mut Words, line: &[u8]) {
 
 /// Colours the words if `color` asks for it.
 ///
-/// Titles are bold, faults red, their lines cyan, mends and a yes green.
+/// Titles are bold, faults red, lines concerned cyan, mends and a yes green.
 pub(crate) fn painted(alloc: Global, words: Vec<u8>, color: Color) -> Result<Vec<u8>, Refusal> {
     if color != Color::Always {
         return Ok(words);

@@ -21,7 +21,7 @@ pub(crate) fn racking_of(
     racks_of(alloc, ring, members.as_slice(), options)
 }
 
-/// Adds which racks a change was planned by.
+/// Adds by which racks a change was planned.
 pub(crate) fn push_racks(
     alloc: Global,
     out: &mut Words,

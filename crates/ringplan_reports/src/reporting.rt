@@ -279,7 +279,7 @@ fn report_stated(
     Ok(silent(alloc, answer))
 }
 
-/// Returns a request's output. Refuses only with `OutOfMemory`.
+/// Returns what a request prints. Fails only with `OutOfMemory`.
 ///
 /// Standard output has what is made. After a refusal, standard error has its line and reason. `why` and statements
 /// print both on standard output.

@@ -30,9 +30,7 @@ pub(crate) struct Shown {
     pub present: PresentRing,
 }
 
-/// Returns each partition's size, if the layout has sizes.
-///
-/// An unknown partition is `TooLarge` with its line in the layout.
+/// Returns each partition's size, if the layout has sizes. Fails as `sizes_of`.
 pub(crate) fn sizes_by(
     alloc: Global,
     ring: &Ring,
@@ -45,7 +43,7 @@ pub(crate) fn sizes_by(
     Ok(Some(sizes))
 }
 
-/// Measures what moves and remains. Refuses as `sizes_by` does.
+/// Measures what moves and remains. Fails as `sizes_by`.
 pub(crate) fn volumes_of(
     alloc: Global,
     found: &Study,
@@ -61,7 +59,7 @@ pub(crate) fn volumes_of(
     Ok(Some(volumes))
 }
 
-/// The dead nodes. An undeclared name is `UnknownNode(0)`.
+/// The dead nodes. Fails as `nodes_of`.
 pub(crate) fn dead_of(
     alloc: Global,
     ring: &Ring,
@@ -105,7 +103,7 @@ pub(crate) fn racks_at_rest(
     racks_of(alloc, ring, members.as_slice(), options)
 }
 
-/// Collects the options' facts. Refuses unknown names and partitions.
+/// Collects what the options say. Refuses unknown names and partitions.
 pub(crate) fn facts_of(
     alloc: Global,
     ring: &Ring,
@@ -146,10 +144,9 @@ fn show_plain(
 
 /// Summarizes an accepted plan with progress and sizes, or a ring without a plan.
 ///
-/// Adds to the words which racks a change was planned by.
+/// Adds to the words by which racks a change was planned.
 ///
-/// Refuses as `studied`, the ring's reader and `sizes_by` do. An unknown name is `UnknownNode(0)`; so is a member
-/// without a rack if racks are known.
+/// Fails as `studied`, the ring's reader, `facts_of` and `racks_of`.
 pub fn show_bundle(
     alloc: Global,
     bytes: &[u8],

@@ -451,9 +451,9 @@ fn state_goal(alloc: Global, bytes: &[u8], options: &Options, exit: Exit) -> Res
 
 /// States what `why`, `show` or `goal` says as a line of JSON, with the same exit status.
 ///
-/// Refuses only with `OutOfMemory`.
+/// Fails only with `OutOfMemory`.
 ///
-/// A stated refusal has a check's members and `words`. `why` and `show` add faulty lines and a mend.
+/// A refusal has the members that a check states, and `words`. `why` and `show` add faulty lines and a mend.
 pub fn state_bundle(
     alloc: Global,
     statement: Statement,

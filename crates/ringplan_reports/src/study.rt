@@ -81,9 +81,9 @@ fn study_history(alloc: Global, bytes: &[u8]) -> Result<Study, Refusal>
     })
 }
 
-/// Reads and checks a bundle. Plans a change first.
+/// Reads and checks a bundle. For a change, makes a plan first.
 ///
-/// Refuses the texts' first fault, then as `wish_bundle` or the checker does; and a history that is not the plan's run.
+/// Fails with the texts' first fault, then as `wish_bundle` or the checker; and if a history is not the plan's run.
 pub fn studied(alloc: Global, bytes: &[u8], options: &Options) -> Result<Study, Refusal>
     ensures of { IfOk result (λ s. IsStudyOf bytes.now s.approved.ring s.approved.plan) }
     ensures history { IfOk result

@@ -1,4 +1,4 @@
-//! How differing puts came to a wrong reply.
+//! How puts came that differ in a wrong reply.
 
 use crate::after::{earlier, slot_of};
 use plan_runs::{Entry, Event, Key, Reply};
@@ -16,7 +16,7 @@ const ENTRIES: usize = 2;
 
 const STEPS: usize = 3;
 
-/// A history before a wrong reply, its first line, and its plan.
+/// The history before a wrong reply, its first line, and its plan.
 #[derive(Clone, Copy)]
 pub(crate) struct Trail<'a> {
     pub ring: &'a Ring,
@@ -32,7 +32,7 @@ struct Differing {
     is_missing: bool,
 }
 
-// A get's source: a slot and the key's chunk, or all its reads.
+// What a get reads: a slot and the key's chunk, or all its reads.
 #[derive(Clone, Copy)]
 enum Looked {
     Slot(Slot, u32),
@@ -122,7 +122,7 @@ impl<'a> Trail<'a> {
         }
     }
 
-    // Whether the entry brought the put to the get's source.
+    // Whether the entry brought the put where the get looked.
     fn brings(&self, entry: &Entry, source: Looked, put: u32) -> bool {
         match source {
             Looked::Reads(get) => is_find(entry, get, put),
@@ -217,7 +217,7 @@ impl<'a> Trail<'a> {
         }
     }
 
-    /// Shows the differing puts of a read, or of a get's end.
+    /// Shows the puts that differ in a read, or in a get's end.
     ///
     /// Each put has its line, and the entries that brought it. A read also has the slot's last entries.
     pub(crate) fn tell(

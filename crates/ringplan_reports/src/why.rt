@@ -1,4 +1,4 @@
-//! Refused bundles.
+//! Why bundles are refused.
 
 ghost use Rattle.std.specs.Prelude.{◌≡◌, ◌≢◌, ◌≤◌, ◌++◌, ◌∷◌, ℕ, List, [], Ok, Err, IfOk, IfNone, OnOk, codes};
 ghost use Rattle.ring_names.specs.declared.refusal.Refusal.TheVariants.{OutOfMemory};
@@ -184,7 +184,7 @@ fn members_left(wanted: &Wanted) -> u32 {
     members
 }
 
-/// Returns whether too few live members would be left, and reports it.
+/// Reports if too few live members would be left. Returns whether so.
 pub(crate) fn push_few(
     alloc: Global,
     out: &mut Words,
@@ -433,7 +433,7 @@ fn why_unread(
 
 /// Answers as the checker does, and says why.
 ///
-/// Line and status are the checker's. Words follow, with the lines concerned and a mend; only these may have colours.
+/// Line and status are the checker's. Words follow, with the lines concerned and a mend; only words may have colours.
 ///
 /// For a change, makes a plan first. For a history, says whether it is a run.
 pub fn why_bundle(alloc: Global, bytes: &[u8], color: Color) -> Result<Answer, Refusal>

@@ -1,4 +1,4 @@
-//! Requests for people.
+//! What people ask for.
 
 ghost use Rattle.std.specs.Prelude.{◌≡◌, ◌≢◌};
 
@@ -18,16 +18,16 @@ pub enum Screen {
 /// Whether a text for people has colours.
 #[derive(Clone, Copy, Debug, PartialEq, Eq)]
 pub enum Color {
-    /// If a known screen has them.
+    /// If the output is known to have them.
     Auto,
-    /// Wherever it goes.
+    /// On every output.
     Always,
-    /// Nowhere.
+    /// On no output.
     Never,
 }
 
 impl Color {
-    /// Resolves `Auto` by the screen.
+    /// Decides `Auto` by the screen.
     pub fn on(&self, screen: Screen) -> Color
         ensures { self.now ≢ Color.Auto → result ≡ self.now }
     {
@@ -43,7 +43,7 @@ impl Color {
 pub enum Shape {
     /// A screenful; the rest is summed.
     Short,
-    /// All.
+    /// Everything.
     Whole,
 }
 
@@ -82,18 +82,18 @@ pub enum Picture {
 /// How to cut a plan.
 #[derive(Clone, Copy, Debug)]
 pub struct Cut {
-    /// The rounds of copies in a window.
+    /// How many rounds of copies a window has.
     pub rounds: u32,
-    /// The wanted window, from 1, or None for all.
+    /// The wanted window, counted from 1. None for all.
     pub only: Option<u32>,
 }
 
 /// What a printed plan's exit status says.
 #[derive(Clone, Copy, Debug, PartialEq, Eq)]
 pub enum Exit {
-    /// That there is one: 0.
+    /// That a plan is printed: 0.
     Printed,
-    /// Whether it has steps: 4 if so, otherwise 0.
+    /// Whether it has steps: 4 for yes, 0 for no.
     Steps,
 }
 
@@ -106,7 +106,7 @@ pub enum Extent {
     Begun,
 }
 
-/// How a new plan continues a stopped one.
+/// How to continue a stopped plan.
 #[derive(Clone, Copy, Debug)]
 pub struct Detour {
     /// Whether mirrors may be undone.
@@ -119,7 +119,7 @@ pub struct Detour {
 /// A statement as a JSON object.
 #[derive(Clone, Copy, Debug)]
 pub enum Statement {
-    /// Why it is refused, or what a yes says.
+    /// Why the bundle is refused, or what a yes says.
     Why,
     /// What the plan does to each node, and how far a history has come; for only a ring, its nodes. Ignores shape and
     /// colours: all is stated.
@@ -131,9 +131,9 @@ pub enum Statement {
 /// What can be made of a bundle.
 #[derive(Clone, Copy, Debug)]
 pub enum Making {
-    /// Why it is refused, or what a yes says.
+    /// Why the bundle is refused, or what a yes says.
     Why(Color),
-    /// Ring, plan and a found certificate, even if the bundle has one.
+    /// The ring, the plan and a new certificate, even if the bundle has one.
     Cert,
     /// The ring after the plan, or after its history.
     After,

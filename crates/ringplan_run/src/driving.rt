@@ -28,7 +28,7 @@ struct Named<'a> {
     writers: &'a Names,
 }
 
-// Writes `yes` and the history. The scripts declare its names, but the text needs the check again.
+// Writes `yes` and the history. The scripts declare its names, but writing checks this again.
 fn write_run(named: &Named, outcome: &Outcome) -> Result<Vec<u8>, Refusal>
     ensures text { IfOk result (λ v. v.items ≡ outcome_text named.now.approved.now.ring named.now.writers.now outcome.now.history.items outcome.now.finishers.items 0 Form.History) }
     ensures err { IfErr result IsFault }
@@ -111,13 +111,11 @@ fn drive_checked<RT: Threads + Wait + Sync>(
     }
 }
 
-/// Drives a bundle with 1 to 8 scripts. Returns the outcome's text.
-///
-/// The checker must accept the plan.
+/// Drives a bundle with 1 to 8 scripts, if the checker accepts its plan. Returns the outcome's text.
 ///
 /// Fails with the texts' first fault, then the checker's first refusal, then why the drive broke off.
 ///
-/// `OutOfMemory` comes only after the ring's first four lines, if memory or a thread was refused.
+/// `OutOfMemory` means that memory or a thread was refused.
 ///
 /// Waits for its threads. Does not free history and receipts, since the program ends then.
 pub fn drive_bundle<RT: Threads + Wait + Sync>(

@@ -63,7 +63,7 @@ fn layout_in<RT: AllocGlobal + Files + Eprint>(rt: &RT, name: &str) -> Result<La
     }
 }
 
-/// Adds the named layout, if any. On a fault says why, and returns the exit status.
+/// Reads the layout if the options name one. On a fault says why, and returns the exit status.
 pub(crate) fn with_layout<RT: AllocGlobal + Files + Eprint>(
     rt: &RT,
     options: Options,

@@ -1,4 +1,4 @@
-//! Parts of histories.
+//! Cuts histories to parts.
 
 ghost use Rattle.std.specs.Prelude.{◌≡◌, ℕ, List};
 ghost use Rattle.history_laws.specs.Choices.{IsChoice};
@@ -14,7 +14,7 @@ use ringplan_command::{MOST_PARTS, PartWish};
 use std::io::{Read, Write};
 use texts::Fields;
 
-// How many times more parts would be small enough, at least 2.
+// How many times as many parts are small enough, at least 2.
 fn times(many: u64, most: u64) -> u64 {
     (many.saturating_sub(1) / most.max(1))
         .saturating_add(1)

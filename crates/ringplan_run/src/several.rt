@@ -43,7 +43,7 @@ impl<'a, F: Read + Drop, R: Read + Drop> Read for Several<'a, F, R> {
     }
 }
 
-/// Opens files to read in order, with `-` for the input. Fails as `open` does.
+/// Opens files to read in order; `-` names the input. Fails as `open` does.
 pub(crate) fn open_all<'a, RT: AllocGlobal + Files + Eprint, R: Read + Drop>(
     rt: &RT,
     names: &[String],

@@ -61,7 +61,7 @@ fn label(sheet: &Sheet, shown: &ShownMove, takes: bool, room: u32) -> Words {
     partition
 }
 
-/// Whether such a bar fits each moving partition's number.
+/// Whether each moving partition's number fits into a bar so wide.
 pub fn have_room(sheet: &Sheet, wide: u32) -> bool {
     let mut most = 0u32;
     for shown in sheet.scene.shown.moves.as_slice() {
@@ -94,7 +94,7 @@ fn title(sheet: &Sheet, shown: &ShownMove) -> Words {
 
 /// Writes a copy's bar at one of its nodes.
 ///
-/// An open or remaining copy is bare. An open bar has a part for copied chunks.
+/// Bars of open and remaining copies are bare. An open copy's bar has a part for copied chunks.
 pub fn push_bar(sheet: &Sheet, out: &mut Words, area: Area, shown: &ShownMove, takes: bool) {
     let (fill, outline) = if takes {
         (TAKE, b"bare taker".as_slice())

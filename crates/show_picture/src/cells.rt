@@ -1,4 +1,4 @@
-//! A map's cells: slots of a row's partitions that a column's nodes own.
+//! A map's cells: slots, by rows of partitions and columns of owners.
 
 use crate::columns::Columns;
 use crate::sheet::Sheet;
@@ -28,7 +28,7 @@ pub const DUE: usize = 4;
 /// Each mark's slots, by cell.
 #[derive(Drop)]
 pub struct Cells {
-    /// A row's partitions.
+    /// How many partitions share a row.
     pub shared: u32,
     pub rows: usize,
     columns: usize,
@@ -142,7 +142,7 @@ fn owners_of<'a>(sheet: &Sheet<'a>, partition: u32, time: Time) -> &'a [NodeId] 
     }
 }
 
-/// Counts partitions by final slots of joiners, at most 7.
+/// Counts partitions by their final slots on joiners, at most 7.
 pub fn joined(sheet: &Sheet) -> [u32; 8] {
     let mut counts = [0u32; 8];
     for row in sheet.scene.last_rows.as_slice() {

@@ -6,18 +6,18 @@ use texts::{Labels, at, small};
 
 const MOST: usize = 60;
 
-/// A column of one node, or of several. Grouped by racks, all are in one rack.
+/// A column of one node, or of several. If racks group the nodes, a column's nodes share a rack.
 #[derive(Clone, Copy)]
 pub struct Column {
     /// Its first node.
     pub node: u32,
     pub count: u32,
-    /// 0 without racks.
+    /// Its rack; 0 without racks.
     pub rack: u32,
     pub is_joining: bool,
 }
 
-/// The columns, and those of nodes that are members before or after.
+/// Columns of the nodes that are members before or after.
 #[derive(Drop)]
 pub struct Columns<'a> {
     pub columns: Vec<Column>,
@@ -94,7 +94,8 @@ fn choose_sharing(placed: &[PlacedNode], has_racks: bool) -> Sharing {
 impl<'a> Columns<'a> {
     /// Makes a column for each of at most 60 nodes.
     ///
-    /// For more nodes a column has a rack, if racks are asked for and few enough, or several nodes. Joiners are apart.
+    /// Above that, a column has a rack's nodes if racks are asked for and few enough, otherwise several nodes. Joiners
+    /// are apart.
     pub fn of(sheet: &Sheet, racks: Option<&'a Labels>) -> Result<Columns<'a>, Refusal> {
         let mut placed = place_nodes(sheet, racks)?;
         let sharing = choose_sharing(placed.as_slice(), racks.is_some());

@@ -14,10 +14,10 @@ const LANES: u32 = 90;
 
 /// Draws a plan and a run's progress as SVG.
 ///
-/// Equal plans have equal bytes. Fails only with `OutOfMemory`.
+/// Equal plans give equal bytes. Fails only with `OutOfMemory`.
 ///
-/// Shows every copy up to 40 rounds and 90 lanes, if each bar fits its partition's number. Otherwise shows sums, in at
-/// most 60 columns and 31 rows.
+/// Shows every copy up to 40 rounds and 90 lanes, if each bar has room for its partition's number. Otherwise shows
+/// sums, in at most 60 columns and 31 rows.
 pub fn picture(sheet: &Sheet) -> Result<Vec<u8>, Refusal> {
     let nodes = in_order(sheet)?;
     if sheet.scene.round_count() > ROUNDS || nodes.len() > LANES as usize {

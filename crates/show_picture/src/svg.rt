@@ -39,7 +39,7 @@ pub struct Caption {
     pub about: Words,
 }
 
-/// Adds ` x="12"`.
+/// Adds an attribute, such as ` x="12"`.
 pub fn push_measure(out: &mut Words, name: &[u8], number: u32) {
     out.byte(b' ');
     out.text(name);

@@ -50,7 +50,7 @@ pub fn push_moves(out: &mut Words, scene: &Scene, one: &[u8], more: &[u8]) {
 
 /// The fewest slots that must move.
 ///
-/// These are all slots of leavers and dead nodes, or more, so that each joiner gets its share, rounded down.
+/// All slots of leavers and dead nodes must move, and as many more as give each joiner its share, rounded down.
 pub fn fewest_moves(ring: &Ring, scene: &Scene, present: &PresentRing) -> u32 {
     let total = ring.q().saturating_mul(ring.n());
     let share = match total.checked_div(count_living(ring, scene, present)) {

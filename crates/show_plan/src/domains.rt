@@ -1,4 +1,4 @@
-//! Slots and racks.
+//! Slots that share racks.
 
 use ring_names::{Listed, NodeId};
 use texts::Labels;

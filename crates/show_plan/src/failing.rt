@@ -1,4 +1,4 @@
-//! Further failures.
+//! What answers after failures.
 
 use crate::present::PresentRing;
 use ring_names::{Listed, NodeId, Refusal};
@@ -56,7 +56,7 @@ pub fn kept_by_one(
 /// How many partitions two answering nodes share.
 #[derive(Clone, Copy)]
 pub struct SharedCounts {
-    /// The most for a pair.
+    /// The most partitions that a pair shares.
     pub most: u32,
     /// The sum over all pairs.
     pub sum: u32,

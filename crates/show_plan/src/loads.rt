@@ -10,7 +10,7 @@ use ring_table::{Allowance, Ring, Side};
 use std::alloc::Global;
 use texts::{Words, at, raise};
 
-/// Numbers by node.
+/// Each node's slots and transfers.
 #[derive(Drop)]
 pub struct Loads {
     /// Slots before the first step.

@@ -98,7 +98,7 @@ pub fn push_names(out: &mut Words, names: NodeNames, nodes: &[u32], most: usize)
     }
 }
 
-/// Writes the number with a word for one or more.
+/// Writes the number, with the word for one or for more.
 pub fn push_many(out: &mut Words, number: u32, one: &[u8], more: &[u8]) {
     out.number(number);
     out.byte(b' ');

@@ -172,7 +172,7 @@ fn tell_sources(line: &mut Words, listed: u32) {
     line.text(b" listed slots of the partition in place of the owner");
 }
 
-// Of answering members, now and finally.
+// Spans of answering members, now and finally.
 fn spans_of(view: &Overview) -> (SlotSpan, SlotSpan) {
     let (mut now, mut then) = (SlotSpan::new(), SlotSpan::new());
     let loads = &view.scene.loads;

@@ -3,7 +3,7 @@
 use crate::writing::{WIDTH, columns, push_spaces};
 use texts::Words;
 
-/// A line that words fill. The rest goes to a new line.
+/// A line that words fill. Further words go to a new line.
 #[derive(Clone, Copy)]
 pub struct Flow {
     indent: usize,

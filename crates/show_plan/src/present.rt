@@ -13,9 +13,9 @@ use texts::{is_set, put};
 /// The ring after a history, or before the first step.
 #[derive(Drop)]
 pub struct PresentRing {
-    /// By partition.
+    /// The owners, by partition.
     pub rows: Vec<Listed<NodeId>>,
-    /// The slots of each node.
+    /// How many slots each node owns.
     pub owned: Vec<u32>,
     /// Dead or down nodes, ascending.
     pub silent: Vec<u32>,

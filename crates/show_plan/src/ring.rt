@@ -23,7 +23,7 @@ const INDENT: usize = 12;
 pub struct RingFacts {
     pub racks: Option<Labels>,
     pub aliases: Option<Labels>,
-    /// By partition.
+    /// Sizes by partition.
     pub sizes: Option<Vec<u64>>,
     pub dead: Vec<NodeId>,
 }

@@ -15,11 +15,11 @@ use texts::{at, place_of, raise};
 #[derive(Drop)]
 pub struct Scene {
     pub shown: AllShown,
-    /// By step.
+    /// Each step's round.
     pub rounds: Vec<u32>,
-    /// Each round's copies, from 1 on.
+    /// Each round's number of copies, from round 1.
     pub widths: Vec<u32>,
-    /// In step order.
+    /// The joining nodes, in step order.
     pub joins: Vec<u32>,
     pub leaves: Vec<u32>,
     /// The different moving slots.
@@ -59,7 +59,7 @@ impl Scene {
         texts::small(self.widths.len())
     }
 
-    /// The widest round's copies.
+    /// The widest round's number of copies.
     pub fn widest(&self) -> u32 {
         let mut most = 0u32;
         for width in self.widths.as_slice() {

@@ -21,7 +21,7 @@ pub struct ShownMove {
     pub round: u32,
     /// The round in which the mirror opens.
     pub opens: u32,
-    /// The row of nodes read.
+    /// The row that has the nodes read.
     pub reads: Option<usize>,
     /// Whether the copy reads listed slots, not the owner.
     pub is_listed: bool,

@@ -19,7 +19,7 @@ fn silent_by(alloc: Global, present: &PresentRing, is_dead: bool) -> Result<Vec<
     Ok(nodes)
 }
 
-/// Writes which nodes are dead or down, and how many partitions answer. Needs such a node.
+/// Writes which nodes are dead or down, and how many partitions answer. Needs a silent node.
 pub fn tell_silent(
     alloc: Global,
     names: NodeNames,

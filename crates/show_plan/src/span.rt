@@ -1,4 +1,4 @@
-//! Spans.
+//! Fewest and most slots.
 
 use texts::Words;
 

@@ -13,9 +13,9 @@ use texts::{set_word, word};
 /// How much remains after a history.
 #[derive(Clone, Copy, Debug)]
 pub struct Left {
-    /// The rest of unfinished copies, without copied chunks.
+    /// What unfinished copies still move, without copied chunks.
     pub moved: u64,
-    /// The most of that on one path of dependencies.
+    /// The most that copies on one path of dependencies still move.
     pub longest: u64,
 }
 
@@ -24,17 +24,18 @@ pub struct Left {
 pub struct Volumes {
     /// The sum of all moves.
     pub moved: u64,
-    /// By node. A copy of listed slots reads the whole partition from each owner.
+    /// What each node gives. A copy of listed slots reads the whole partition from each owner.
     pub gives: Vec<u64>,
-    /// By node.
+    /// What each node takes.
     pub takes: Vec<u64>,
     /// By round, from 1.
     pub rounds: Vec<u64>,
     /// A column's width for these numbers.
     pub rounds_width: usize,
-    /// The most that copies move on a path of dependencies. The plan cannot end before one transfer copies that much.
+    /// The most that copies move on a path of dependencies. The plan cannot end before one transfer has copied that
+    /// much.
     ///
-    /// Allowances give no better bound: they are chains of copies, which depend on each other.
+    /// Allowances give no better bound: their chains are copies that depend on each other.
     pub longest: u64,
     /// What remains after the history.
     pub left: Option<Left>,
@@ -81,7 +82,7 @@ impl Volumes {
         }
     }
 
-    /// The seconds until the plan can end, at `rate` a second for a transfer, from 1.
+    /// The fewest seconds until the plan ends, if a transfer moves `rate` a second, from 1.
     pub fn earliest_end(&self, rate: u32) -> u64 {
         let rate = u64::from(rate);
         let longest = match &self.left {

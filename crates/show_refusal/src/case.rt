@@ -143,7 +143,7 @@ impl<'a> Case<'a> {
         said.beside_with(self.step_line(number), b"step #", &[], &[number])
     }
 
-    /// Mends a step by another dependency.
+    /// Mends a step by one more dependency.
     pub fn wait(&self, said: &mut Said, number: u32, more: u32) {
         let line = self.step_line(number);
         said.put(line);

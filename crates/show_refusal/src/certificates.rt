@@ -108,7 +108,7 @@ fn misfit(case: Case, of: NodeSide, steps: &[u32]) -> Result<Option<u32>, Refusa
     Ok(None)
 }
 
-/// Reports a chain's foreign step, or two unordered steps.
+/// Reports a step foreign to the chain, or two unordered steps.
 pub fn chain_broken(case: Case, said: &mut Said, number: u32) -> Result<(), Refusal> {
     said.title_with(b"chain # is not in order", &[], &[number]);
     if number as usize >= case.cert.chains.len() {

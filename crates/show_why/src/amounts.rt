@@ -135,7 +135,7 @@ pub fn push_long(out: &mut Words, number: u64) {
     out.number(low);
 }
 
-/// Adds only digits.
+/// Adds only the word's digits.
 pub fn push_digits(out: &mut Words, word: &[u8]) {
     for byte in word {
         if byte.is_ascii_digit() {

@@ -11,7 +11,7 @@ fn last_field(text: &[u8]) -> &[u8] {
     field(text, count_fields(text).saturating_sub(1))
 }
 
-/// Reports a node named twice, or joining as a member.
+/// Reports a node that is named twice, or a member that joins.
 pub fn repeated(said: &mut Said, page: Page, number: u32) {
     let line = line_of(page, number);
     let name = field(line.text, 1);

@@ -399,7 +399,7 @@ fn tell_membership(
     Ok(true)
 }
 
-// Reports a chain that is split if its node is not, or the reverse.
+// Reports a split chain of a node that is not split, or the reverse.
 fn tell_side(line: Line, said: &mut Said) -> bool {
     let Some(node) = declared(line.page, field(line.text, 1)) else {
         return false;

@@ -1,4 +1,4 @@
-//! Lines.
+//! A line and its part.
 
 use crate::forms::{Part, part_of};
 use crate::page::{Page, field};

@@ -1,4 +1,4 @@
-//! Lines beyond the grammar.
+//! Lines of a wrong form.
 
 use crate::events::tell_event;
 use crate::fields::tell_fields;
@@ -224,7 +224,7 @@ fn is_change(alloc: Global, line: Line) -> Result<bool, Refusal> {
     Ok(!nearest.word.is_empty() || is_one && !has_steps)
 }
 
-/// Reports an unknown first word, and a near known word.
+/// Reports an unknown first word, and a similar known word.
 pub fn tell_unknown(alloc: Global, line: Line, said: &mut Said) -> Result<(), Refusal> {
     let word = line.word();
     let at = line.page.at(line.number, 0, 0);

@@ -105,7 +105,7 @@ fn nearest_name<'a>(
     Ok(nearest.word)
 }
 
-/// Reports an undeclared name, and a near declared name.
+/// Reports an undeclared name, and a similar declared name.
 pub fn unknown_node(
     alloc: Global,
     said: &mut Said,

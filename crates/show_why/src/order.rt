@@ -9,7 +9,7 @@ fn partitions(line: Line) -> u32 {
     number(field(line.page.text(2), 1)).unwrap_or(0)
 }
 
-/// Counts the lines `slots` before this.
+/// Counts the `slots` lines before this line.
 pub fn rows_before(line: Line) -> u32 {
     line.count(b"slots", line.number.saturating_sub(1))
 }
@@ -54,7 +54,7 @@ fn first_chain(line: Line) -> u32 {
     first
 }
 
-/// Whether such a line may stand here.
+/// Whether a line with this word may stand here.
 pub fn is_due(line: Line, word: &[u8]) -> bool {
     match line.part {
         Part::Ring => due_in_ring(line).contains(&word),
@@ -156,7 +156,7 @@ fn tell_count(line: Line, said: &mut Said) {
     mend_space(line, said)
 }
 
-/// Mends the line `space` to count the lines `slots`.
+/// Mends the line `space` by the number of lines `slots`.
 pub fn mend_space(line: Line, said: &mut Said) {
     if let Some(rows) = count_rows(line) {
         said.mend_with(b"# partitions, as there are lines `slots`", &[], &[rows]);

@@ -9,7 +9,7 @@ pub struct Page<'a> {
     pub bytes: &'a [u8],
 }
 
-/// A part: the lines `end` before it, and its first line.
+/// A part: how many lines `end` are before it, and its first line.
 #[derive(Clone, Copy, Debug)]
 pub struct Section {
     pub number: u32,

@@ -8,7 +8,7 @@ use texts::Words;
 #[derive(Clone, Copy)]
 struct LineMark {
     place: Place,
-    // Otherwise the line belongs to the fault.
+    // False if the line is only related.
     is_fault: bool,
     // Without words, nothing is marked.
     begin: usize,
@@ -151,7 +151,7 @@ impl Said {
         self.notes.fill(words, names, numbers);
     }
 
-    /// The bytes of all notes.
+    /// Counts the bytes of all notes.
     pub fn noted(&self) -> usize {
         self.notes.len()
     }
@@ -192,7 +192,7 @@ impl Said {
         Ok(lines)
     }
 
-    /// A line's number, and its replacement.
+    /// A changed line's number, and its new text.
     pub fn change(&self, place: usize) -> Option<(u32, &[u8])> {
         let change = self.changes.get(place)?;
         let new = cut_out(self.news.as_slice(), change.begin, change.end);
@@ -204,7 +204,7 @@ impl Said {
         self.changes.len()
     }
 
-    /// Begins a line's replacement. An empty one removes the line.
+    /// Begins a line's replacement. An empty replacement removes the line.
     pub fn put(&mut self, line: u32) {
         let end = self.news.len();
         let change = LineChange {
@@ -369,7 +369,7 @@ impl Said {
         None
     }
 
-    /// Writes `mend:`, its words, and new lines with old numbers.
+    /// Writes `mend:`, what it does, and new lines with old numbers.
     pub fn push_mend(&self, out: &mut Words) {
         out.fill(b"  mend: @\n", &[self.says.as_slice()], &[]);
         for change in self.changes.as_slice() {

@@ -94,7 +94,7 @@ pub fn listed(alloc: Global, set: &Versions) -> Result<Vec<Version>, Refusal> {
     Ok(out)
 }
 
-// Two concurrent versions stay; the third succeeds both for good.
+// Two concurrent versions stay. The third version succeeds both for good.
 fn merged<RT: Abort>(
     rt: &RT,
     alloc: Global,

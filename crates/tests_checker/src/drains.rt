@@ -22,7 +22,7 @@ fn push_all_nodes(text: &mut Vec<u8>) -> Result<(), AllocError> {
     push_nodes(text, b"node j", 0, JOINERS, &[b" 4 out\n"])
 }
 
-// Five slots are the leavers'; two are staying nodes', in turn.
+// Leavers own five slots, and staying nodes two, in turn.
 fn push_row(text: &mut Vec<u8>, row: u32) -> Result<(), AllocError> {
     push_numbered(text, b"slots ", row)?;
     push_owners(text, b" l", row, LEAVERS, LEAVERS)?;

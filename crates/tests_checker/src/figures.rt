@@ -149,7 +149,7 @@ fn count_copies(alloc: Global, ring: &Ring, plan: &Plan) -> Result<Copies, Refus
     Ok(copies)
 }
 
-/// The fewest rounds of the busiest node's copies, within its allowance.
+/// The fewest rounds for the busiest node's copies within its allowance.
 pub fn rounds(alloc: Global, ring: &Ring, plan: &Plan) -> Result<u32, Refusal>
     requires { Suits ring.now plan.now }
 {
@@ -204,7 +204,7 @@ fn owned_below(row: &[NodeId], leavers: u32) -> u32 {
 
 /// The fewest moves by which nodes below `leavers` leave and each joiner gets `share` slots.
 ///
-/// They are the leavers' slots, and joiners' further wants. A joiner gets at most one slot of a partition.
+/// All leavers' slots move, and as many more as joiners then lack. A joiner gets at most one slot of a partition.
 pub fn fewest_moves(ring: &Ring, leavers: u32, joiners: u32, share: u32) -> u32 {
     let mut left = 0u32;
     let mut kept = 0u32;

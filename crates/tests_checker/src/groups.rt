@@ -1,4 +1,4 @@
-//! Clocks of writers in different groups, which share entries by group.
+//! Clocks of writers in different groups. Writers of a group share entries.
 
 use crate::clocks::{entry, raised};
 use crate::same::{holds, same};

@@ -82,7 +82,7 @@ fn values_copied(rt: HostRuntime) -> Result<(), Fail> {
 
 const LETTERS: &[u8] = b"abcdefghijklmnopqrstuvwxyz";
 
-// Places by these keys' digests in RFC 1321: 0cc1.., 9001.., c3fc.., and d41d.. of the empty key.
+// Places of keys by their digests in RFC 1321: 0cc1.., 9001.., c3fc.., and d41d.. for the empty key.
 #[test]
 #[tactic(auto, unfolding(ring_names::specs::Space::is_space))]
 fn places(rt: HostRuntime) {

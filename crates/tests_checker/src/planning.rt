@@ -320,7 +320,7 @@ fn spreads<RT: AllocGlobal + Abort>(
     Ok(())
 }
 
-// No more copies in a row than allowances demand, or half as many again with listed slots.
+// Copies in a row are as few as allowances demand, or half as many again with listed slots.
 fn hurries<RT: AllocGlobal + Abort>(rt: &RT, ring: &Ring, plan: &Plan) -> Result<(), Fail>
     requires { Suits ring.now plan.now }
 {

@@ -1,4 +1,4 @@
-//! Texts are written as read, within limits.
+//! Texts are written as they were read, within limits.
 
 ghost use Rattle.std.specs.Prelude.{◌≡◌, []};
 

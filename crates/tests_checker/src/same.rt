@@ -1,4 +1,4 @@
-//! Assertions by call: `assert!` and `assert_eq!` are proved again at each place.
+//! Assertions as calls: `assert!` and `assert_eq!` are proved again at each place.
 
 use std::fmt::Debug;
 use std::process::Abort;

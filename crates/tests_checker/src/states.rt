@@ -1,4 +1,4 @@
-//! What a running store keeps of nodes, steps, slots, keys, puts and gets.
+//! What a running store keeps about nodes, steps, slots, keys, puts and gets.
 
 use crate::rings::{RING, ring_from};
 use crate::same::{holds, same};

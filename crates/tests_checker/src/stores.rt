@@ -238,7 +238,7 @@ fn kept_by<RT: Abort>(rt: &RT, hints: &Hints, count: usize) {
     same!(rt; found, count);
 }
 
-// What a node keeps reads the same in every way.
+// All ways to read what a node keeps agree.
 fn kept_for<RT: Abort>(rt: &RT, hints: &Hints, pair: KeptFor) {
     kept_by(rt, hints, 1);
     holds!(rt; hints.keeps(pair.keeper, pair.slot));

@@ -1,5 +1,5 @@
-//! Merges of hundreds of concurrent versions with large shared clocks: with themselves, newer ones and ancestors. A
-//! walk over all pairs, by writers' own counters, says what must stay.
+//! Merges hundreds of concurrent versions with large shared clocks: with themselves, newer ones and ancestors. A walk
+//! over all pairs, by writers' own counters, tells what must stay.
 
 use crate::clocks::{listed, raised, set_of};
 use ring_clock::Clock;
@@ -76,7 +76,7 @@ fn push_unseen(
     Ok(())
 }
 
-// The puts of both sets that no other has seen.
+// The puts of both sets that no other put has seen.
 fn unseen(alloc: Global, first: &[Version], second: &[Version]) -> Result<Vec<u32>, AllocError> {
     let mut puts = Vec::new(alloc);
     push_unseen(&mut puts, first, second)?;

@@ -1,4 +1,4 @@
-//! Wishes: their moves, partitions with two slots in one rack, and balance.
+//! Wished changes: how many slots move and share a rack, and the balance.
 
 use crate::ring_texts::{push_nodes, push_numbered, push_owners};
 use crate::rings::ring_from;
@@ -145,7 +145,7 @@ fn one_leaves_its_rack(rt: HostRuntime) -> Result<(), Fail> {
     comes_to(&rt, &wish, (16, 0), (16, 22))
 }
 
-// Joiners take the leavers' slots, each in its rack.
+// Joiners take leavers' slots, each joiner those in its rack.
 #[test]
 fn two_for_two(rt: HostRuntime) -> Result<(), Fail> {
     let wish = WishedChange {
@@ -156,7 +156,7 @@ fn two_for_two(rt: HostRuntime) -> Result<(), Fail> {
     comes_to(&rt, &wish, (32, 0), (16, 16))
 }
 
-// Half of the partitions have no keys: joiners take six slots each of the others, as their shares are 96 by 14. Only
+// Half of the partitions have no keys. Of the others joiners take six slots each, as their shares are 96 by 14. Only
 // their racks give.
 #[test]
 fn two_join_by_size(rt: HostRuntime) -> Result<(), Fail> {
@@ -172,21 +172,21 @@ fn two_join_by_size(rt: HostRuntime) -> Result<(), Fail> {
     comes_to(&rt, &wish, (12, 0), (6, 16))
 }
 
-// Each partition has two slots in one rack; a third one there moves.
+// Each partition has two slots in one rack. A third slot there moves.
 #[test]
 fn two_racks_shared(rt: HostRuntime) -> Result<(), Fail> {
     let wish = racked(&[0, 0, 0, 0, 0, 0, 1, 1, 1, 1, 1, 1]);
     comes_to(&rt, &wish, (64, 64), (16, 16))
 }
 
-// Racks are shared before: half of the partitions move two slots, the others one.
+// Racks are shared before. Half of the partitions move two slots, the others one.
 #[test]
 fn racks_mended(rt: HostRuntime) -> Result<(), Fail> {
     let wish = racked(&[0, 0, 0, 0, 1, 1, 1, 1, 2, 2, 2, 2]);
     comes_to(&rt, &wish, (96, 0), (16, 16))
 }
 
-// Weight 3 takes three times as much as 1.
+// Weight 3 takes three times as much as weight 1.
 #[test]
 fn weight_taken(rt: HostRuntime) -> Result<(), Fail> {
     let wish = WishedChange {
@@ -210,7 +210,7 @@ fn too_few_left(rt: HostRuntime) -> Result<(), Fail> {
     is_refused(&rt, &wish)
 }
 
-// A member cannot join, and others cannot leave.
+// A member cannot join, and a non-member cannot leave.
 #[test]
 fn wrong_nodes_refused(rt: HostRuntime) -> Result<(), Fail> {
     let joins = WishedChange {

@@ -21,7 +21,7 @@ pub fn push_answer(
     Ok(())
 }
 
-/// Adds a line if something changed although nothing should.
+/// Adds a line if something changed that should not.
 pub fn push_changed(out: &mut Vec<u8>, before: u64, behind: u64) -> Result<(), Refusal> {
     if before != behind {
         out.extend_from_slice(b"changed\n")?;

@@ -76,7 +76,7 @@ fn reply<'a, L: RunLedger, R: Wait>(
     Ok(receipt.reply)
 }
 
-// A mark of what the lock tells of the store.
+// A mark of what the locked store tells.
 fn mark_of<'a, L: RunLedger, R: Wait>(rt: &R, executor: &Executor<'a, L>, share: &Share<L>) -> u64 {
     let counts = mixed(mixed(NONE, share.count()), executor.left(rt) as u64);
     let mut mark = mixed(counts, step(executor.ready(rt, 0)));

@@ -23,10 +23,10 @@ const REPLAY: &[u8] =
 const DRIVE: &[u8] =
     b"ring 1\nspace 1\nquorum 1 1 1\nnode a 1 in\nslots 0 a\nend\nplan 1\nend\ncert 1\nend\nscript 1\nput w k x\nget k\nend\n";
 
-// More than any of these runs makes.
+// More calls than any of these runs makes.
 const MANY: usize = 4096;
 
-// The reads of a run that reads 16 bytes a call.
+// How many reads a run makes that reads 16 bytes a call.
 fn reads_of<RT: AllocGlobal + Files + Eprint + Threads + Wait + Sync + Abort>(
     rt: &RT,
     word: &str,
@@ -103,7 +103,7 @@ fn written<RT: AllocGlobal + Files + Eprint + Threads + Wait + Sync + Abort>(
     run(rt, Screen::Plain, &["ringplan", word], &mut input, output)
 }
 
-// The whole output if a write takes one byte. The last call is not a write.
+// The whole output if each write takes one byte. The last call flushes.
 fn output_of<RT: AllocGlobal + Files + Eprint + Threads + Wait + Sync + Abort>(
     rt: &RT,
     word: &str,
@@ -135,7 +135,7 @@ fn call_fails<RT: AllocGlobal + Files + Eprint + Threads + Wait + Sync + Abort>(
     broke_off(rt, ended, output.bytes.as_slice(), text, calls);
 }
 
-// Each write and the final flush fail in turn.
+// Lets each write and the final flush fail in turn.
 fn writes_fail<RT: AllocGlobal + Files + Eprint + Threads + Wait + Sync + Abort>(
     rt: &RT,
     word: &str,
@@ -185,7 +185,7 @@ fn each_write_fails(rt: HostRuntime) {
 
 const REST: &[u8] = b"ring 1\nspace 1\nquorum 1 1 1\nnode a 1 in\nslots 0 a\nend\nchange 1\nend\n";
 
-// A goal ends with the status that tells whether its plan has steps.
+// A goal's exit status tells whether its plan has steps.
 fn goal_ends<RT: AllocGlobal + Files + Eprint + Threads + Wait + Sync + Abort>(
     rt: &RT,
     bundle: &[u8],

@@ -1,5 +1,5 @@
-//! Replays of a play's history, also with a fault. A play of the same events shows what is due. Also replays a drive's
-//! printed history.
+//! Replays the history of a play, also with a fault. A play of the same events shows what is due. Also replays a
+//! drive's printed history.
 
 use ringplan_answers::{play_bundle, replay_bundle};
 use std::alloc::{AllocError, Global};
@@ -74,7 +74,7 @@ fn code(answer: &str) -> &str {
     }
 }
 
-// What the replay should print, by what the play printed of the events.
+// What the replay should print, given what the play printed for the events.
 fn expected(alloc: Global, output: &str, told: &[Told]) -> Result<Vec<u8>, AllocError> {
     let mut lines = output.lines().skip(1);
     for (place, told) in told.iter().enumerate() {
@@ -125,7 +125,7 @@ fn other(reply: &str) -> &'static str {
     if reply == "ok" { "put 0" } else { "ok" }
 }
 
-// The history with a change at the place: another reply, no entry, after the next, or again at the end.
+// The history with a change at the place: another reply, no entry, exchanged with the next, or again at the end.
 fn changed<'t>(
     alloc: Global,
     told: &[Told<'t>],
@@ -157,10 +157,10 @@ fn changed<'t>(
     Ok(changed)
 }
 
-/// Counts the histories that a replay answers wrongly. They are the play's, by this bundle and output, and that with
-/// one fault.
+/// Counts the histories that a replay answers wrongly: the play's history by this bundle and output, and that history
+/// with one fault.
 ///
-/// A fault is another reply, a missing entry, two exchanged, or one repeated at the end.
+/// A fault is another reply, a missing entry, two exchanged entries, or one entry repeated at the end.
 pub fn others(alloc: Global, bundle: &str, output: &str) -> Result<u32, AllocError> {
     let Some((front, events)) = bundle.split_once("script 1\n") else {
         return Ok(1);

@@ -1,4 +1,4 @@
-//! A reader and a writer over memory that can fail, or take few bytes at a time.
+//! A reader and a writer in memory that can fail, or take few bytes at a time.
 
 ghost use Rattle.std.specs.Prelude.{◌<◌, Some};
 

@@ -1,4 +1,4 @@
-//! Histories are written as read, and faulty lines are refused.
+//! Histories are written as they were read, and faulty lines are refused.
 
 use crate::answering::{LOSS, RING, approved};
 use history_text::{are_known, push_history, read_history, read_replay};

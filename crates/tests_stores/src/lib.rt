@@ -1,4 +1,4 @@
-//! Tests running stores and scripts beyond contracts: calls succeed with enough memory, and printed texts.
+//! Tests running stores and scripts beyond contracts: calls succeed with enough memory, and texts are as foretold.
 #![tactic(auto)]
 
 #[cfg(test)]

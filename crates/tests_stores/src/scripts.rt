@@ -1,4 +1,4 @@
-//! Scripts are written as read, or made event by event, and a bundle is played.
+//! Scripts are written as they were read, or made event by event. A bundle is played.
 
 ghost use Rattle.plan_text.specs.Valid.{Suits};
 
@@ -59,7 +59,7 @@ fn scripts_written(rt: HostRuntime) -> Result<(), Fail> {
     script_written(&rt, &ring)
 }
 
-// A client may do the first event, not the second.
+// A client may do the first event, but not the second.
 fn pushed<RT: Abort>(rt: &RT, script: &mut Script) -> Result<(), Fail> {
     assert_eq!(rt; script.len(), 0);
     script.push(Event::Down(NodeId(1)))?;

@@ -13,7 +13,7 @@ use std::marker::Brand;
 use std::sync::Wait;
 use std::sync::ledger::Blank;
 
-// The number of receipts, whether the last reply is as expected, and the final refusal.
+// How many receipts there are, whether the last reply is as expected, and the final refusal.
 type Came = (usize, bool, Option<Refusal>);
 
 fn came(alloc: Global, attempt: Attempt, last: &[u8]) -> Result<Came, Refusal> {
@@ -65,7 +65,7 @@ fn put_and_get_without<'a, L: RunLedger, R: AllocGlobal + Wait>(
     put_and_get(rt, executor, share)
 }
 
-// Puts and gets the key at a new store with these nodes down.
+// Puts and gets the key at a new store, while these nodes are down.
 fn without<L: RunLedger, R: AllocGlobal + Wait>(
     rt: &R,
     blank: Blank,

@@ -137,7 +137,7 @@ fn row_of<'a, L: RunLedger, R: AllocGlobal + Wait>(
     }
 }
 
-// A row ends at its first refused event; another goes on from there.
+// A row ends at its first refused event. Another row goes on from there.
 fn two_rows<'a, L: RunLedger, RT: AllocGlobal + Wait + Abort>(
     rt: &RT,
     executor: &Executor<'a, L>,

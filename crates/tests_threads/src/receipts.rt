@@ -91,7 +91,7 @@ fn start_get<'a, L: RunLedger, R: AllocGlobal + Wait>(
     submit(rt, executor, client, start)
 }
 
-// A put that slots 0 and 2 take, and a get that reads them.
+// A put that slots 0 and 2 take, and a get that reads these slots.
 fn put_and_get<'a, L: RunLedger, R: AllocGlobal + Wait>(
     rt: &R,
     executor: &Executor<'a, L>,

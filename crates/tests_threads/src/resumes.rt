@@ -61,7 +61,7 @@ fn copied(alloc: Global) -> Result<Vec<Entry>, AllocError> {
     Ok(entries)
 }
 
-// How many steps were finished before one worker's resume, if these are the first ones and the worker finished the
+// How many steps were finished before one worker resumed, if these are the first steps and the worker finished the
 // others.
 fn finished_before(finishers: &[u32]) -> Option<usize> {
     let mut before = 0usize;
