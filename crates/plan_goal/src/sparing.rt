@@ -93,8 +93,8 @@ fn is_step_spared(dead: &Dead, ring: &Ring, present: &Present, step: &Step) -> b
     }
 }
 
-/// Whether the plan spares these nodes: no join, retirement, read, new slot or drop of data there. Costs a pass over the
-/// plan.
+/// Whether no step needs these nodes: none joins or retires them, copies from them, gives them a slot, or drops their
+/// data. Costs a pass over the plan.
 pub fn spares(alloc: Global, ring: &Ring, plan: &Plan, dead: &[NodeId]) -> Result<bool, Refusal>
     requires { Suits ring.now plan.now }
     ensures ok { IfOk result (λ b. IsTrue b → spares ring.now plan.now dead.now ≡ true) }
