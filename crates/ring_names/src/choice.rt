@@ -1,10 +1,10 @@
 //! A choice of partitions.
 
-/// The partitions that a history's part sees.
+/// The partitions of a history's part.
 #[derive(Clone, Copy, Debug, PartialEq, Eq)]
 pub enum Choice {
-    /// Partition p if p modulo `of`, not 0, is `part`.
+    /// Partitions whose number modulo `of` is `part`. `of` is not 0.
     Share { of: u32, part: u32 },
-    /// From `first` to `last`.
+    /// Partitions `first` to `last`, both included.
     Range { first: u32, last: u32 },
 }

@@ -1,4 +1,4 @@
-//! Finds the numbers of bytes.
+//! Finds bytes in a list.
 
 ghost use Rattle.std.specs.Prelude.{◌≡◌, ◌⊎◌, ◌++◌, ◌∷◌, [], None, Some, map, slice_get, OnOk, OnErr};
 ghost use Rattle.ring_names.specs.Finding.{Knows, FindsAll, IsSame, TakesNoted, TakesOther};
@@ -8,14 +8,14 @@ use crate::noted::{FREE, Noted, find, note};
 use std::alloc::{AllocError, Global};
 use std::collections::BTreeMap;
 
-/// Finds bytes in a list by a checksum, or by order if too many are close.
+/// Finds bytes in a list by hash, or in a tree if too many hashes are close.
 ///
-/// Bytes chosen to collide cost their length times the logarithm of their number, others their length.
+/// Finding bytes costs their length, times the logarithm of their count if they were chosen to collide.
 #[derive(Drop)]
 pub struct Finder {
     alloc: Global,
     table: Vec<Noted>,
-    // without a place in the table
+    // those without a place in the table
     others: BTreeMap<Vec<u8>, usize>,
 }
 
@@ -45,7 +45,7 @@ impl Finder {
         }
     }
 
-    /// Adds the list's next bytes. Costs the list's bytes if their number has doubled.
+    /// Adds the list's next bytes. Rereads the whole list when it has doubled.
     pub fn add(&mut self, list: &[Vec<u8>], bytes: &[u8]) -> Result<(), AllocError>
         requires knows { Knows self.old (map (λ b. b.items) list.now) }
         requires new { place (map (λ b. b.items) list.now) bytes.now ≡ None }
@@ -75,13 +75,13 @@ impl Finder {
         Ok(())
     }
 
-    // Makes a larger table if the list fills half.
+    // Enlarges the table if the list fills half of it.
     fn make_room(&mut self, list: &[Vec<u8>]) -> Result<(), AllocError>
         requires { Knows self.old (map (λ b. b.items) list.now) }
         ensures { Knows self.new (map (λ b. b.items) list.now) }
     {
         let count = list.len();
-        // Above 2^40 memory cannot suffice; up to it the sum stays in range.
+        // Above 2^40, memory cannot suffice; below, the sum cannot overflow.
         if count < self.table.len() / 2 || count > 1 << 40 {
             return Ok(());
         }

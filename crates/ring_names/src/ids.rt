@@ -4,11 +4,11 @@
 #[derive(Clone, Copy, Debug, PartialEq, Eq, PartialOrd, Ord, Hash)]
 pub struct NodeId(pub u32);
 
-/// A writer, by first sight in its bundle, from 0.
+/// A writer, by first mention in the bundle, from 0.
 #[derive(Clone, Copy, Debug, PartialEq, Eq)]
 pub struct WriterId(pub u32);
 
-/// Slot `index` of partition `partition`, both from 0. Keeps the partition's keys.
+/// Slot `index` of `partition`, both from 0. A slot keeps the partition's keys.
 #[derive(Clone, Copy, Debug, PartialEq, Eq, PartialOrd, Ord, Hash)]
 pub struct Slot {
     pub partition: u32,

@@ -6,7 +6,7 @@ ghost use Rattle.ring_names.specs.declared.refusal.Refusal.TheVariants.{OutOfMem
 use crate::refusal::Refusal;
 use std::marker::Model;
 
-/// Items in order. Two are equal if their items are.
+/// Items in order. Two lists are equal if their items are.
 #[derive(Debug, Drop)]
 pub struct Listed<T> {
     items: Vec<T>,
@@ -44,7 +44,7 @@ impl<T> Listed<T> {
 }
 
 impl<T: Drop> Listed<T> {
-    /// Adds the item; the first makes room for 12.
+    /// Adds the item. The first takes memory for 12.
     pub fn push(&mut self, item: T) -> Result<(), Refusal>
         ensures ok { OnOk result (self.new ≡ self.old ++ item ∷ []) }
         ensures err { OnErr result (self.new ≡ self.old) }

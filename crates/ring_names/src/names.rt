@@ -9,12 +9,12 @@ use crate::refusal::Refusal;
 use std::alloc::Global;
 use std::marker::Model;
 
-/// Names, numbered by first sight from 0; fewer than 2^32.
+/// Names, numbered by first mention from 0; fewer than 2^32.
 pub struct Names {
     names: Numbered,
 }
 
-// So crates above need not check the parts.
+// Saves dependent crates from checking the parts.
 impl Drop for Names {
     fn drop(self) {
         let Names { names } = self;
@@ -49,7 +49,7 @@ impl Names {
         self.names.len() as u32
     }
 
-    /// Returns the name's number. Only a new name can fail.
+    /// Returns the name's number. Adds a new name, which may fail.
     pub fn add(&mut self, name: &[u8]) -> Result<u32, Refusal>
         requires { length self.old < 4294967295 }
         ensures number { IfOk result (λ n. place self.new name.now ≡ Some n) }
@@ -61,7 +61,7 @@ impl Names {
         Ok(number as u32)
     }
 
-    /// Returns the name's number, if seen.
+    /// Returns the name's number, if added.
     pub fn number_of(&self, name: &[u8]) -> Option<u32>
         ensures { result ≡ place self.now name.now }
     {

@@ -4,17 +4,17 @@ ghost use Rattle.std.specs.Prelude.{◌≡◌, ℕ, List, Some, true, false, len
 ghost use Rattle.std.specs.List.{fold};
 ghost use Rattle.ring_names.specs.Noted.{IsNoted, first_place, next_sum, noted_at, sum_of, sum_of_words};
 
-/// A checksum of bytes, and their number plus 1, or 0 if free.
+/// An entry: a checksum of bytes, and their number plus 1, or 0 if free.
 #[derive(Clone, Copy)]
 pub struct Noted {
     sum: u32,
     next: u32,
 }
 
-/// A free place.
+/// A free entry.
 pub const FREE: Noted = Noted { sum: 0, next: 0 };
 
-// How many successive places may have a number.
+// How many successive places are searched.
 const NEAR: usize = 8;
 
 // Adds a word by Fibonacci hashing (Knuth, The Art of Computer Programming, volume 3, section 6.4).
@@ -33,7 +33,7 @@ fn sum_of_few(bytes: &[u8]) -> u64
         .fold(0, |sum, byte| next_sum(sum, u64::from(*byte)))
 }
 
-// Sums the whole words.
+// Sums the whole 8-byte words.
 fn sum_of_words(bytes: &[u8]) -> u64
     ensures { result ≡ sum_of_words 0 bytes.now }
 {
@@ -113,7 +113,7 @@ fn found_at(
     None
 }
 
-/// Returns the bytes' number, if noted. Costs their length.
+/// Finds the bytes' number in time linear in their length.
 pub fn find(table: &[Noted], list: &[Vec<u8>], bytes: &[u8]) -> Option<usize>
     ensures found { IfSome result (λ n. slice_get (map (λ b. b.items) list.now) n ≡ Some bytes.now) }
     ensures none { IfNone result
@@ -145,7 +145,7 @@ fn put(table: &mut [Noted], place: usize, noted: Noted) -> bool
     false
 }
 
-/// Notes the number of these bytes, if a place is free near the place for their checksum.
+/// Whether a place for the bytes' checksum was free; notes their number there.
 pub fn note(table: &mut [Noted], bytes: &[u8], number: usize) -> bool
     ensures noted { result ≡ true → IsNoted table.new bytes.now number }
     ensures same { result ≡ false → table.new ≡ table.old }

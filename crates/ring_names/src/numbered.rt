@@ -10,9 +10,9 @@ use crate::refusal::Refusal;
 use std::alloc::Global;
 use std::marker::Model;
 
-/// Bytes, numbered by first sight from 0.
+/// Bytes, numbered by first mention from 0.
 ///
-/// Texts' authors choose them: a look-up mostly costs their length, at worst times the logarithm of their number.
+/// A look-up costs the bytes' length; if their author made them collide, times the logarithm of their count.
 #[derive(Drop)]
 pub struct Numbered {
     alloc: Global,
@@ -50,7 +50,7 @@ impl Numbered {
         self.list.len()
     }
 
-    /// Returns the bytes' number. Only new bytes can fail.
+    /// Returns the bytes' number. Adds new bytes, which may fail.
     pub fn add(&mut self, bytes: &[u8]) -> Result<usize, Refusal>
         ensures number { IfOk result (λ n. place self.new bytes.now ≡ Some n) }
         ensures below { IfOk result (λ n. n ≤ length self.old) }
@@ -69,7 +69,7 @@ impl Numbered {
         Ok(number)
     }
 
-    /// Returns the bytes' number, if seen.
+    /// Returns the bytes' number, if added.
     pub fn number_of(&self, bytes: &[u8]) -> Option<usize>
         ensures { result ≡ place self.now bytes.now }
     {

@@ -34,21 +34,21 @@ pub enum Refusal {
     WrongStage(u32),
     /// 22 (step): not ordered after the slot's previous step.
     UnorderedSlot(u32),
-    /// 23 (step): a listed slot twice, or fewer than R listed.
+    /// 23 (step): lists a slot twice, or fewer than R slots.
     BadSource(u32),
-    /// 24 (step): a listed slot's switch neither before nor after the copy.
+    /// 24 (step): a listed slot's switch is neither before nor after the copy.
     MovingSource(u32),
     /// 25 (step): the node may still serve another slot of the partition, from the start or since an earlier step.
     SharedInPlan(u32),
     /// 26 (step): the node is `out`, without a join ordered before the mirror or retirement.
     NotJoined(u32),
-    /// 27 (step): a slot held at the start or since a mirror, without a drop ordered before the retirement.
+    /// 27 (step): a slot that the node owned or mirrored has no drop ordered before the retirement.
     RetiredInUse(u32),
-    /// 28: the planner found none.
+    /// 28: the planner found no plan.
     NoPlan,
     /// 30 (fact): fewer than two steps, or a link that is not a direct dependency.
     BadPath(u32),
-    /// 32 (node, step): no chain of the node has the copy, although it takes part.
+    /// 32 (node, step): the node takes part in the copy, but none of its chains has it.
     CoverMissing(u32, u32),
     /// 33 (chain): an unordered link, or an entry that is not a copy with the node.
     ChainBroken(u32),

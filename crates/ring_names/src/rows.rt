@@ -16,7 +16,7 @@ pub struct Rows {
     numbers: Vec<u32>,
 }
 
-// So crates above need not check the parts.
+// Saves dependent crates from checking the parts.
 impl Drop for Rows {
     fn drop(self) {
         let Rows { ends, numbers } = self;

@@ -25,7 +25,7 @@ impl Model for Value {
     ghost invariant = { λ a. is_value (shared_items a.bytes) ≡ true };
 }
 
-// So crates above need not check both cases.
+// Saves dependent crates from checking both cases.
 impl Drop for Value {
     fn drop(self) {
         let Value { bytes } = self;
@@ -34,7 +34,7 @@ impl Drop for Value {
 }
 
 impl Value {
-    /// Makes a value if not too long. Takes memory for a reference count.
+    /// Makes a value of at most 1,024 bytes. Takes memory for a reference count.
     pub fn of(alloc: Global, bytes: Vec<u8>) -> Result<Option<Value>, AllocError>
         ensures some { IfOk result (λ value. is_some value ≡ is_value bytes.items) }
         ensures same { IfOk result (λ value. IfSome value (λ v. v ≡ bytes.items)) }
@@ -64,7 +64,7 @@ impl Value {
         }
     }
 
-    /// Copies the value without memory, sharing bytes. Fails only at 2^64 copies.
+    /// Copies the value without taking memory. Fails only at 2^64 copies.
     pub fn try_copy(&self) -> Result<Value, AllocError>
         ensures { IfOk result (λ value. value ≡ self.now) }
     {

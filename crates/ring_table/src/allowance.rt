@@ -5,10 +5,10 @@ ghost use Rattle.ring_table.specs.Value.{most_of};
 
 use ring_names::NodeId;
 
-/// The transfers that a number of an allowance counts.
+/// The transfers that a limit counts.
 #[derive(Clone, Copy, Debug, PartialEq, Eq, Hash)]
 pub enum Side {
-    /// All with the node.
+    /// All of the node's.
     Both,
     /// All to the node.
     Take,
@@ -23,17 +23,17 @@ pub struct NodeSide {
     pub side: Side,
 }
 
-/// A node's most open transfers, each number from 1 to 64.
+/// A node's limits of open transfers, each from 1 to 64.
 #[derive(Clone, Copy, Debug, PartialEq, Eq)]
 pub enum Allowance {
-    /// One number for all transfers.
+    /// One limit for all transfers.
     Joint(u32),
-    /// One number for transfers to the node, another for transfers from the node. Not in format 1.
+    /// One limit for transfers to the node, another for transfers from the node. Not in format 1.
     Split { take: u32, give: u32 },
 }
 
 impl Allowance {
-    /// Returns the side's most open transfers, if counted.
+    /// Returns the side's limit of open transfers, if any.
     pub fn most(&self, side: Side) -> Option<u32>
         ensures { result ≡ most_of side self.now }
     {

@@ -1,4 +1,4 @@
-//! Copies of a ring, perhaps with other owners and members.
+//! Copies of a ring, also with other owners and members.
 
 ghost use Rattle.std.specs.Prelude.{◌≡◌, ◌≤◌, ◌⊎◌, [], List, length, map, slice_get, IsTrue, IfOk, IfErr, ◌↔◌};
 ghost use Rattle.std.specs.List.{AllByRecursion};
@@ -112,10 +112,9 @@ impl Ring {
         self.rebuild(alloc, nodes, self.rows())
     }
 
-    /// Copies the ring with other owners, by partition and slot, and other members, by number. Nodes without a flag
-    /// stay.
+    /// Copies the ring with other owners and members. Nodes without a flag in `members` stay.
     ///
-    /// Fails with `NoPlan` unless the rows are `q` rows of `n` different members.
+    /// Fails with `NoPlan` unless there are `q` rows of `n` different members.
     pub fn with(
         &self,
         alloc: Global,

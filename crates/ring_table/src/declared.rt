@@ -70,7 +70,7 @@ fn most(fields: &mut Fields) -> Result<u32, Refusal>
     }
 }
 
-// A second such number, if the format and the line have one.
+// A second limit, if the format and the line have one.
 #[tactic(auto, unfolding(crate::specs::Reading::second_at))]
 fn second(format: u32, fields: &mut Fields) -> Result<Option<u32>, Refusal>
     ensures { Does (second_at format) fields.old result fields.new }
@@ -93,7 +93,7 @@ fn made(first: u32, second: Option<u32>) -> Allowance
     }
 }
 
-// One number, or in formats 2 and 3 perhaps two.
+// One limit, or in formats 2 and 3 perhaps two.
 #[tactic(auto, unfolding(crate::specs::Reading::allowance_at))]
 fn allowance(format: u32, fields: &mut Fields) -> Result<Allowance, Refusal>
     ensures { Does (allowance_at format) fields.old result fields.new }

@@ -23,7 +23,7 @@ fn is_named(ring: &Ring, node: NodeId, name: &[u8]) -> bool
 
 /// Takes a node of the ring, or fails with `BadLine` or `UnknownNode`.
 ///
-/// The `likely` node, as in successive lines of one node, is not looked up.
+/// Tries `likely` before a look-up: successive lines often name the same node.
 #[tactic(auto, unfolding(crate::specs::Reading::declared_at))]
 #[inline(always)]
 pub fn node_field(

@@ -104,7 +104,7 @@ fn judge_quorum(line: u32, n: u32, r: u32, w: u32, loss: u32) -> Result<Quorum, 
     Ok(Quorum { n, r, w, loss })
 }
 
-// How many nodes may lose their data, if the format has it.
+// How many nodes may lose their data: 0 before format 3.
 #[tactic(auto, unfolding(crate::specs::Reading::loss_at))]
 fn loss(format: u32, fields: &mut Fields) -> Result<u32, Refusal>
     ensures { Does (loss_at format) fields.old result fields.new }

@@ -12,9 +12,9 @@ use ring_names::{Listed, NodeId};
 pub struct Node {
     /// 1 to 32 bytes of `a-z0-9_.:-`.
     pub name: Listed<u8>,
-    /// The node's most open transfers.
+    /// The node's limits of open transfers.
     pub allowance: Allowance,
-    /// Whether a member before a plan (`in`) or not (`out`).
+    /// Whether the node is a member (`in`) before a plan.
     pub is_member: bool,
 }
 

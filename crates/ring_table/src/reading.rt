@@ -64,7 +64,7 @@ fn read_whole(alloc: Global, text: &[u8]) -> Result<Ring, Refusal>
 
 /// Reads a ring from its whole text.
 ///
-/// The first faulty line decides, and its least number. `OutOfMemory` comes only after faultless lines, at least four.
+/// Returns the first faulty line's least fault. `OutOfMemory` comes only after at least four faultless lines.
 ///
 /// 1 `BadLine`, 2 `TooLarge`, 3 `UnknownNode`, 4 `Repeated`, 10 `QuorumTooSmall`, 11 `SharedNode`, 12 `NotMember`.
 pub fn read_ring(alloc: Global, text: &[u8]) -> Result<Ring, Refusal>

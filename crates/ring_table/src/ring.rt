@@ -11,10 +11,10 @@ use crate::node::{Node, is_member, name_at};
 use ring_names::{Listed, Names, NodeId, Slot};
 use std::marker::Model;
 
-/// A ring. Partitions are `q` equal parts of the hash space (section 6.2 of DeCandia et al. 2007, strategy 3). Each has
-/// `n` slots, each owned by a member.
+/// A ring. Partitions are `q` equal parts of the hash space (section 6.2 of DeCandia et al. 2007, strategy 3). Each
+/// partition has `n` slots, each owned by a member.
 ///
-/// `r` slots answer a read and `w` take a write, with `r + w > n + f` (section 4.5), if `f` nodes may lose their data.
+/// `r` slots answer a read and `w` take a write. If `f` nodes may lose their data, `r + w > n + f` (section 4.5).
 pub struct Ring {
     format: u32,
     q: u32,
@@ -27,7 +27,7 @@ pub struct Ring {
     owners: Vec<Listed<NodeId>>,
 }
 
-// So crates above need not check the parts.
+// Saves dependent crates from checking the parts.
 impl Drop for Ring {
     fn drop(self) {
         let Ring {
@@ -144,7 +144,7 @@ impl Ring {
         self.loss
     }
 
-    /// Returns the node's most open transfers on the side, if counted.
+    /// Returns the node's limit of open transfers on the side, if any.
     pub fn allowance(&self, of: NodeSide) -> Option<u32>
         ensures { result ≡ allowance_of self.now of.node.0 of.side }
     {

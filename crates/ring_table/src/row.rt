@@ -18,7 +18,7 @@ use std::alloc::Global;
 use std::marker::Model;
 use texts::{Fields, Lines, both, finish, is_name};
 
-// Up to 7 owners, stored in reverse: the first one read is last.
+// Up to 7 owners, in the array's last places.
 #[derive(Drop)]
 struct Row {
     owners: [NodeId; 7],
@@ -62,7 +62,7 @@ impl Row {
     }
 }
 
-// Looks up a declared node. Checks only unknown fields to be names.
+// Takes a declared node. Checks only unknown fields to be names.
 #[tactic(auto, using(crate::proofs::RowLaws::found_name))]
 fn declared_node(names: &Names, fields: &mut Fields) -> Result<NodeId, Refusal>
     requires { EachIsName names.now }

@@ -137,7 +137,7 @@ fn push_rows(out: &mut Vec<u8>, nodes: &[Node], rows: &[Listed<NodeId>]) -> Resu
     Ok(())
 }
 
-/// Writes the ring's only text.
+/// Writes the ring's unique text.
 pub fn write_ring(alloc: Global, ring: &Ring) -> Result<Vec<u8>, Refusal>
     ensures text { IfOk result (λ v. v.items ≡ ring_text ring.now) }
     ensures memory { IfErr result (λ e. e ≡ OutOfMemory) }

@@ -3,7 +3,7 @@
 ghost use Rattle.std.specs.Prelude.{◌≡◌, true, nat_lt, length};
 ghost use Rattle.texts.specs.Number.{value_from, is_number};
 
-// Both have equally many digits.
+// Both numbers have equally many digits.
 fn is_less_digits(first: &[u8], second: &[u8]) -> bool
     requires { length first.now ≡ length second.now }
     ensures { is_number first.now ≡ true → is_number second.now ≡ true

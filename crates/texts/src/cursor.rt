@@ -1,4 +1,4 @@
-//! Iterates over a line's parts.
+//! Iterates over a line's fields.
 
 ghost use Rattle.std.specs.Prelude.{◌≡◌, ◌∷◌, [], List, ℕ, true, false, MatchOption};
 ghost use Rattle.std.specs.Str.{bytes_eq};
@@ -8,7 +8,7 @@ ghost use Rattle.texts.specs.Cuts.{front_of, behind_of};
 use crate::cut::{cut_near, stands_in_front};
 use std::marker::Model;
 
-/// The remaining parts of a line, between single spaces.
+/// The remaining fields of a line, between single spaces.
 #[derive(Drop)]
 pub struct Cursor<'a> {
     pub(crate) rest: Option<&'a [u8]>,
@@ -24,14 +24,14 @@ impl<'a> Model for Cursor<'a> {
 }
 
 impl<'a> Cursor<'a> {
-    /// Returns a line's parts, without its last byte 0A.
+    /// Returns the fields of a line without its newline.
     pub fn of(line: &'a [u8]) -> Cursor<'a>
         ensures { result ≡ fields_of line.now }
     {
         Cursor { rest: Some(line) }
     }
 
-    /// Takes the next part.
+    /// Takes the next field.
     #[inline(always)]
     pub fn next(&mut self) -> Option<&'a [u8]>
         ensures { MatchOption result ((self.old ≡ []) × (self.new ≡ [])) (λ field. self.old ≡ field.now ∷ self.new) }
@@ -42,7 +42,7 @@ impl<'a> Cursor<'a> {
         Some(field)
     }
 
-    /// Takes the next part if it is this word, and says whether.
+    /// Takes the next field if it is `word`, and says whether.
     #[inline(always)]
     pub fn takes(&mut self, word: &[u8]) -> bool
         ensures taken { result ≡ true → self.old ≡ word.now ∷ self.new }
@@ -64,7 +64,7 @@ impl<'a> Cursor<'a> {
         true
     }
 
-    /// Splits the parts at the first such word.
+    /// Splits the fields around the first `word`, if any.
     pub fn split(self, word: &[u8]) -> (Cursor<'a>, Option<Cursor<'a>>)
         ensures front { result.0 ≡ front_of word.now self.entry }
         ensures behind { result.1 ≡ behind_of word.now self.entry }

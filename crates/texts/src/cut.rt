@@ -20,7 +20,7 @@ pub fn cut(bytes: &[u8], separator: u8) -> (&[u8], Option<&[u8]>)
     }
 }
 
-// Cuts at a near separator, four bytes at a time: faster there than a search.
+// Cuts at a near separator faster than `cut`: four bytes at a time.
 #[inline(always)]
 pub fn cut_near(bytes: &[u8], separator: u8) -> (&[u8], Option<&[u8]>)
     ensures { MatchOption result.1
@@ -44,7 +44,7 @@ pub fn cut_near(bytes: &[u8], separator: u8) -> (&[u8], Option<&[u8]>)
     (bytes, None)
 }
 
-// Whether this word ends at the first space or `end`. Goes byte by byte: callers pass known words.
+// Whether the bytes before the first space or `end` are `word`. Goes byte by byte: most callers pass constants.
 #[inline(always)]
 pub fn stands_in_front(bytes: &[u8], word: &[u8], end: u8) -> bool
     ensures { result ≡ bytes_eq (until (λ b. (b == 32) || (b == end)) bytes.now) word.now }

@@ -13,7 +13,7 @@ use crate::number_row::NumberRow;
 use ring_names::Refusal;
 use std::marker::Model;
 
-/// A line's remaining fields, and its number.
+/// A line's remaining fields, and the line's number.
 #[derive(Drop)]
 pub struct Fields<'a> {
     line: u32,
@@ -29,7 +29,7 @@ impl<'a> Model for Fields<'a> {
 }
 
 impl<'a> Fields<'a> {
-    /// Returns a line's fields, without its last byte 0A.
+    /// Returns the fields of a line without its newline.
     #[inline(always)]
     pub fn of(line: u32, text: &'a [u8]) -> Fields<'a>
         ensures { result ≡ record { number = line; fields = fields_of text.now } }
@@ -57,7 +57,7 @@ impl<'a> Fields<'a> {
         self.rest.next()
     }
 
-    /// Takes the next field if it is this word, and says whether.
+    /// Takes the next field if it is `word`, and says whether.
     #[inline(always)]
     pub fn takes(&mut self, word: &[u8]) -> bool
         ensures taken { result ≡ true → self.old.fields ≡ word.now ∷ self.new.fields }
@@ -69,7 +69,7 @@ impl<'a> Fields<'a> {
         self.rest.takes(word)
     }
 
-    /// Takes this word, or fails with `BadLine`.
+    /// Takes `word`, or fails with `BadLine`.
     #[inline(always)]
     pub fn word(&mut self, word: &[u8]) -> Result<(), Refusal>
         ensures { Does (λ k. word_at k word.now) self.old result self.new }
@@ -81,7 +81,7 @@ impl<'a> Fields<'a> {
         Err(Refusal::BadLine(self.line))
     }
 
-    /// Takes the next field. Returns its decimal number, at most `CAP`: any length, no sign or leading zeros.
+    /// Takes the next field. Returns its value, at most `CAP`, if it is decimal without sign or leading zeros.
     #[inline(always)]
     pub fn value(&mut self) -> Option<u64>
         ensures value { result ≡ option_map capped (first_value self.old.fields) }
@@ -113,7 +113,7 @@ impl<'a> Fields<'a> {
         }
     }
 
-    /// Takes the next numbers.
+    /// Takes all leading numbers.
     #[inline(always)]
     pub fn numbers(&mut self) -> NumberRow<'a>
         ensures numbers { result ≡ numbers_of self.old.fields }
@@ -133,7 +133,7 @@ impl<'a> Fields<'a> {
         }
     }
 
-    /// Splits the fields at the first such word.
+    /// Splits the fields around the first `word`, if any.
     pub fn split(self, word: &[u8]) -> (Fields<'a>, Option<Fields<'a>>)
         ensures front { result.0 ≡ record { number = self.entry.number; fields = front_of word.now self.entry.fields } }
         ensures behind { result.1 ≡ option_map (λ fs. record { number = self.entry.number; fields = fs })

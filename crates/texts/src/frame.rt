@@ -1,4 +1,4 @@
-//! The first and last line of sections.
+//! Reads a section's first and last line.
 
 ghost use Rattle.std.specs.Prelude.{◌≡◌, IfErr, OnOk};
 ghost use Rattle.texts.specs.Left.{Answers, one_line, next_number};

@@ -1,4 +1,4 @@
-//! Joins what was read of a line.
+//! Joins the results for a line's fields.
 
 ghost use Rattle.std.specs.Prelude.{◌≡◌, []};
 ghost use Rattle.texts.specs.Judging.{both_of, end_at, need_at, map_ok};
@@ -31,7 +31,7 @@ fn outcome<A>(item: &Result<A, Refusal>) -> Result<(), Refusal>
     }
 }
 
-/// Fails with `TooLarge` if there is no room.
+/// Fails with `TooLarge` unless there is room.
 pub fn need(room: bool, fields: &Fields) -> Result<(), Refusal>
     ensures { result ≡ (need_at fields.now.number room []).0 }
 {
@@ -42,7 +42,7 @@ pub fn need(room: bool, fields: &Fields) -> Result<(), Refusal>
     }
 }
 
-/// Returns what was read. Fails with `BadLine` if a field is left.
+/// Returns `item`. Fails with `BadLine` if a field is left.
 pub fn finish<A: Drop>(item: Result<A, Refusal>, fields: Fields) -> Result<A, Refusal>
     ensures { result ≡ map_ok (λ x. x.0) (both_of item (end_at fields.entry.number fields.entry.fields).0) }
 {
@@ -54,7 +54,7 @@ pub fn finish<A: Drop>(item: Result<A, Refusal>, fields: Fields) -> Result<A, Re
     }
 }
 
-/// Joins the faults of three parts and remaining fields. Returns the last two values.
+/// Returns the last two values, or the least fault of all three and of fields left.
 #[tactic(auto, unfolding(crate::specs::Judging::both_of))]
 pub fn finish_both<Z: Drop, A: Drop, B: Drop>(
     before: Result<Z, Refusal>,

@@ -4,7 +4,7 @@ use crate::numbers::{NONE, at};
 use ring_names::{Names, Refusal};
 use std::alloc::Global;
 
-/// A name of each node, such as its rack. Equal names have equal numbers.
+/// Each node's name, such as its rack's. Equal names have equal numbers.
 #[derive(Drop)]
 pub struct Labels {
     names: Names,
@@ -31,7 +31,7 @@ impl Labels {
         Ok(())
     }
 
-    /// Adds the next node, nameless, with its own number.
+    /// Adds the next node without a name, under a new number.
     pub fn add_alone(&mut self) -> Result<(), Refusal> {
         let node = crate::numbers::small(self.numbers.len());
         self.numbers.push(NONE.saturating_sub(node))?;
@@ -67,7 +67,7 @@ impl Labels {
     }
 }
 
-/// Returns what follows the name's last such byte.
+/// Returns what follows the name's last `byte`, if anything.
 pub fn suffix(name: &[u8], byte: u8) -> Option<&[u8]> {
     let mut start = None;
     let mut place = 0usize;

@@ -1,5 +1,5 @@
-//! What all texts share: lines of fields, which are words, names and numbers. Searches and words use lists of numbers
-//! by place, labels, and text that is written word by word.
+//! Reads lines of fields, which are words, names and numbers. Also has lists of numbers by place, labels, and text that
+//! is written word by word.
 #![tactic(auto)]
 
 mod compare;

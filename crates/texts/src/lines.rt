@@ -18,7 +18,7 @@ fn behind(line: u32) -> u32
     if line < u32::MAX { line + 1 } else { line }
 }
 
-/// The remaining lines, and the next one's number, from 1, at most 2^32 - 1.
+/// The remaining lines, and the next line's number, from 1 to 2^32 - 1.
 #[derive(Drop)]
 pub struct Lines<'a> {
     line: u32,
@@ -52,7 +52,7 @@ impl<'a> Lines<'a> {
         self.line
     }
 
-    /// Takes a line. Fails with `BadLine` if it is missing or unfinished.
+    /// Takes a line. Fails with `BadLine` if it or its newline is missing.
     #[inline(always)]
     pub fn next(&mut self) -> Result<Fields<'a>, Refusal>
         ensures found { IfOk result (λ x. (x.number ≡ self.old.line) × (next_line self.old ≡ Ok (x.fields, self.new))) }
@@ -72,7 +72,7 @@ impl<'a> Lines<'a> {
         }
     }
 
-    /// Whether this field begins the next line.
+    /// Whether the next line's first field is `word`.
     #[inline(always)]
     pub fn begins(&self, word: &[u8]) -> bool
         ensures { result ≡ begins_with word.now self.now.lines }
@@ -88,7 +88,7 @@ impl<'a> Lines<'a> {
         self.rest
     }
 
-    /// Goes on to the next line, which `rest` begins with.
+    /// Skips the next line. `rest` is the text after it.
     #[inline(always)]
     pub fn go_on(&mut self, rest: &'a [u8])
         ensures { self.new ≡ record { line = next_number self.old.line; lines = lines_of rest.now } }

@@ -14,9 +14,9 @@ pub(crate) struct Measure {
     pub(crate) count: u64,
     // The greatest number plus one, at most `CAP` plus one; 0 without numbers.
     pub(crate) bound: u64,
-    // Only known if all are below `CAP`.
+    // Only known if all numbers are below `CAP`.
     pub(crate) ascends: bool,
-    // Those from `CAP` on are not exact.
+    // Numbers from `CAP` on are not exact.
     pub(crate) first: [u32; 8],
 }
 
@@ -47,7 +47,7 @@ impl Measure {
         }
     }
 
-    /// Adds a number, given as at most `CAP`.
+    /// Adds a number, given as `CAP` if greater.
     #[inline(always)]
     pub(crate) fn add(&mut self, value: u64)
         requires { value ≤ 4294967296 }
@@ -59,7 +59,7 @@ impl Measure {
         self.bound = self.bound.max(value + 1);
     }
 
-    /// Returns the numbers, if at most 8 and each a `u32`.
+    /// Returns the numbers if at most 8, each a `u32`.
     pub(crate) fn kept(&self) -> Option<&[u32]>
         ensures some { (xs : List ℕ) → Measures xs self.now → is_some result ≡ (nat_le (length xs) 8 && are_small xs) }
         ensures same { IfSome result (λ s. (xs : List ℕ) → Measures xs self.now → s.now ≡ xs) }

@@ -7,17 +7,17 @@ ghost use Rattle.texts.specs.Kept.{fields_left};
 ghost use Rattle.texts.specs.Number.{value_from, is_number, capped};
 ghost use Rattle.texts.specs.Numbers.{numbers_of};
 
-/// Above every limit of a text. Greater numbers count as this.
+/// Above every limit of a text. Greater numbers count as `CAP`.
 pub const CAP: u64 = 4_294_967_296;
 
-/// A number in front of some bytes.
+/// A number at the start of some bytes.
 #[derive(Drop)]
 pub(crate) struct Front<'a> {
     /// Decimal, of any length, without sign or leading zeros.
     pub(crate) digits: &'a [u8],
     /// At most `CAP`.
     pub(crate) value: u64,
-    /// What follows the number's space.
+    /// The bytes after the number's space.
     pub(crate) rest: Option<&'a [u8]>,
 }
 
@@ -43,7 +43,7 @@ fn capped_value(digits: &[u8]) -> u64
     value
 }
 
-// Returns the value, at most `CAP`, given the value of up to 9 digits.
+// Returns the value, at most `CAP`. Up to 9 digits, it is `short`.
 #[inline(always)]
 fn value_of(digits: &[u8], short: u64) -> u64
     requires digits { all_ascii_digits digits.now ≡ true }
@@ -64,7 +64,7 @@ pub(crate) fn number_in_front(bytes: &[u8]) -> Option<Front<'_>>
     ensures number { IfSome result (λ n. is_number n.digits.now ≡ true) }
     ensures value { IfSome result (λ n. n.value ≡ capped (value_from 0 n.digits.now)) }
 {
-    // Meaningless after more than 9 digits.
+    // Used only up to 9 digits.
     let mut value = 0u64;
     for at in 0..bytes.len() {
         let byte = bytes[at];

@@ -15,7 +15,7 @@ use ring_names::Refusal;
 use std::alloc::Global;
 use std::marker::Model;
 
-/// Successive unparsed numbers of any length.
+/// Successive numbers, unparsed and of any length.
 #[derive(Drop)]
 pub struct NumberRow<'a> {
     rest: Cursor<'a>,
@@ -42,7 +42,7 @@ impl<'a> Cursor<'a> {
         Cursor { rest: self.rest }
     }
 
-    // Takes the next part if a number. Returns its value, at most `CAP`.
+    // Takes the next number. Returns its digits, and its value, at most `CAP`.
     #[tactic(auto, using(crate::proofs::InFront::none_beyond))]
     #[inline(always)]
     pub(crate) fn next_number(&mut self) -> Option<(&'a [u8], u64)>
@@ -62,7 +62,7 @@ impl<'a> Cursor<'a> {
         }
     }
 
-    /// Takes the next numbers.
+    /// Takes all leading numbers.
     #[inline(always)]
     pub fn numbers(&mut self) -> NumberRow<'a>
         ensures numbers { result ≡ numbers_of self.old }
@@ -116,14 +116,14 @@ impl<'a> NumberRow<'a> {
         self.measure.count == 0
     }
 
-    /// Whether there are at most so many.
+    /// Whether there are at most `limit` numbers.
     pub fn is_at_most(&self, limit: u32) -> bool
         ensures { result ≡ nat_le (length self.now) limit }
     {
         self.measure.count <= u64::from(limit)
     }
 
-    /// Whether each is below the limit.
+    /// Whether each number is below the limit.
     pub fn are_below(&self, limit: u64) -> bool
         requires { limit ≤ 4294967296 }
         ensures { result ≡ list_all (λ x. nat_lt x limit) self.now }
@@ -131,7 +131,7 @@ impl<'a> NumberRow<'a> {
         self.measure.bound <= limit
     }
 
-    /// Whether each is less than the next.
+    /// Whether each number is less than the next.
     pub fn are_ascending(&self) -> bool
         ensures { result ≡ ascending self.now }
     {
@@ -151,7 +151,7 @@ impl<'a> NumberRow<'a> {
         true
     }
 
-    /// Returns the numbers, if at most 8 and each a `u32`.
+    /// Returns the numbers if at most 8, each a `u32`.
     pub fn kept(&self) -> Option<&[u32]>
         ensures some { is_some result ≡ (nat_le (length self.now) 8 && are_small self.now) }
         ensures same { IfSome result (λ kept. kept.now ≡ self.now) }

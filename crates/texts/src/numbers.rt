@@ -1,8 +1,8 @@
-//! Lists of numbers by place, and parts of numbers. A missing place reads as 0; writing there does nothing.
+//! Lists of numbers by place, and division. A missing place reads as 0; writing there does nothing.
 
 use ring_names::{Rows, Slot};
 
-/// The greatest number, a mark for none.
+/// The greatest `u32`, a mark for none.
 pub const NONE: u32 = 4_294_967_295;
 
 /// The number at the place, or 0.
@@ -79,7 +79,7 @@ pub fn row(rows: &Rows, place: usize) -> &[u32] {
     &[]
 }
 
-/// A slot's place: a partition has at most 7.
+/// A slot's place, counting 7 for each partition.
 pub fn place_of(slot: Slot) -> usize {
     (slot.partition as usize)
         .saturating_mul(7)
@@ -94,7 +94,7 @@ pub fn small(number: usize) -> u32 {
     }
 }
 
-/// Divides, rounding down; 0 if the part is 0.
+/// Divides, rounding down; 0 if `part` is 0.
 pub fn quotient(whole: u32, part: u32) -> u32 {
     match whole.checked_div(part) {
         Some(count) => count,
@@ -102,12 +102,12 @@ pub fn quotient(whole: u32, part: u32) -> u32 {
     }
 }
 
-/// How many parts of that size a total has; the last may be smaller. 0 for size 0.
+/// Returns `total / size`, rounded up; 0 for size 0.
 pub fn parts(total: u32, size: u32) -> u32 {
     quotient(total.saturating_add(size).saturating_sub(1), size)
 }
 
-/// A part's share in a total, in `parts`, rounded to the nearest; 0 for total 0.
+/// Returns `part * parts / total`, rounded to the nearest; 0 for total 0.
 pub fn parts_of(part: u32, total: u32, parts: u32) -> u32 {
     let twice = u64::from(part)
         .saturating_mul(u64::from(parts))

@@ -1,6 +1,6 @@
-//! Reads plainly spelled text, uncut.
+//! Fast paths: read common spellings without cutting lines into fields.
 //!
-//! A reader that gets `None` reads the line by its fields, to name a fault.
+//! On `None`, the caller reads the line by fields, to name a fault.
 
 ghost use Rattle.std.specs.Prelude.{◌≡◌, ◌++◌, map, IfSome};
 ghost use Rattle.std.specs.Fmt.{decimal};
@@ -8,7 +8,7 @@ ghost use Rattle.texts.specs.Parts.{spaced};
 
 use crate::number::are_number;
 
-/// Returns the text after this leading word.
+/// Returns the text after a leading `word`.
 #[inline(always)]
 pub fn after_word<'a>(text: &'a [u8], word: &[u8]) -> Option<&'a [u8]>
     ensures { IfSome result (λ rest. text.now ≡ word.now ++ rest.now) }
@@ -42,7 +42,7 @@ pub fn plain_word(text: &[u8]) -> (&[u8], &[u8])
 pub fn plain_number(text: &[u8]) -> Option<(u32, &[u8])>
     ensures { IfSome result (λ x. text.now ≡ decimal x.0 ++ x.1.now) }
 {
-    // Meaningless after more than 9 digits.
+    // Used only up to 9 digits.
     let mut value = 0u64;
     for at in 0..text.len() {
         let byte = text[at];
@@ -57,7 +57,7 @@ pub fn plain_number(text: &[u8]) -> Option<(u32, &[u8])>
     None
 }
 
-/// Adds numbers, each after a space, and returns the rest. None if more than `most`.
+/// Reads numbers, each after a space, into `out`. Returns the rest, or `None` after more than `most`.
 #[inline(always)]
 pub fn plain_numbers<'a>(text: &'a [u8], most: usize, out: &mut Vec<u32>) -> Option<&'a [u8]>
     ensures { IfSome result (λ rest. text.now ≡ spaced (map decimal out.new.items) ++ rest.now) }

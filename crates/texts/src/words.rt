@@ -1,4 +1,4 @@
-//! A text that keeps a refusal of memory to its end.
+//! A text that reports failure only at its end.
 
 ghost use Rattle.std.specs.Prelude.{◌≡◌, ◌≢◌, ◌∷◌, [], Some, None, IfSome, length};
 ghost use Rattle.std.proofs.Math.ListN.{replicate};
@@ -9,7 +9,7 @@ use ring_names::{Refusal, push_decimal};
 use std::alloc::Global;
 use std::marker::Model;
 
-/// A text written word by word. If memory is refused, writes no more, and `end` fails.
+/// A text written word by word. Once memory runs out, nothing is added and `end` fails.
 #[derive(Drop)]
 pub struct Words {
     bytes: Vec<u8>,
@@ -72,7 +72,7 @@ impl Words {
         }
     }
 
-    /// Adds the words, with the next name for each `@` and number for each `#`, if any.
+    /// Adds the words; the next name, if any, replaces each `@`, the next number each `#`.
     #[tactic(auto, using(crate::proofs::Growing::still))]
     pub fn fill(&mut self, words: &[u8], names: &[&[u8]], numbers: &[u32])
         ensures { self.old ≡ None → self.new ≡ None }
@@ -111,7 +111,7 @@ impl Words {
         self.heed(other);
     }
 
-    /// Counts as refused if the other text was.
+    /// Makes `end` fail if the other text's `end` would.
     pub fn heed(&mut self, other: &Words)
         ensures { IfSome self.new (λ bytes. (self.old ≡ Some bytes) × (other.now ≢ None)) }
     {
@@ -120,7 +120,7 @@ impl Words {
         }
     }
 
-    /// Counts as refused from now on.
+    /// Makes `end` fail.
     pub fn lose(&mut self)
         ensures { self.new ≡ None }
     {
@@ -134,7 +134,7 @@ impl Words {
         self.bytes.len()
     }
 
-    /// Removes all. A refusal of memory stays.
+    /// Removes all bytes. A failed text stays failed.
     pub fn clear(&mut self)
         ensures empty { IfSome self.new (λ bytes. bytes ≡ []) }
         ensures refused { self.old ≡ None → self.new ≡ None }
@@ -142,7 +142,7 @@ impl Words {
         self.bytes.clear();
     }
 
-    /// Returns the text, unless memory was refused.
+    /// Returns the text, unless memory ran out.
     pub fn end(self) -> Result<Vec<u8>, Refusal>
         ensures { Ends self result }
     {
