@@ -13,7 +13,7 @@ use ring_table::{NodeSide, Ring, Side};
 #[derive(Debug, Drop)]
 pub struct Chain {
     pub node: NodeId,
-    /// The node's transfers among which it counts.
+    /// The node's side whose copies these are.
     pub side: Side,
     pub steps: Listed<u32>,
 }
@@ -25,7 +25,7 @@ pub struct Cert {
     pub chains: Chains,
 }
 
-// So crates above need not check the parts.
+// Saves dependent crates from checking the parts.
 impl Drop for Cert {
     fn drop(self) {
         let Cert { facts, chains } = self;
@@ -70,9 +70,9 @@ fn are_chains(ring: &Ring, chains: &Chains) -> bool
 }
 
 impl Cert {
-    /// Whether a text can hold the certificate over the ring.
+    /// Whether the certificate has a text in the ring's format.
     ///
-    /// It has at most 262,144 facts of 2 to 1,024 steps, and at most 65,536 chains, not empty, on their nodes' sides.
+    /// At most 262,144 facts of 2 to 1,024 steps. At most 65,536 chains, none empty, each on a side of its node.
     pub fn suits(&self, ring: &Ring) -> bool
         ensures { IsTrue result ↔ Suits ring.now self.now }
     {

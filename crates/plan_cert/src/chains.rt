@@ -16,7 +16,7 @@ pub struct Chains {
     rows: Rows,
 }
 
-// So crates above need not check the parts.
+// Saves dependent crates from checking the parts.
 impl Drop for Chains {
     fn drop(self) {
         let Chains { sides, rows } = self;

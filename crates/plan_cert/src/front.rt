@@ -1,4 +1,4 @@
-//! A bundle's front.
+//! Reads a bundle's front.
 
 ghost use Rattle.std.specs.Prelude.{◌≡◌, ◌≤◌, IfOk, OnOk};
 ghost use Rattle.texts.specs.Left.{Reads, lines_on};
@@ -21,7 +21,7 @@ pub struct Front {
     pub cert: Cert,
 }
 
-// A ring's plan, and its certificate.
+// A plan, and its certificate.
 #[derive(Drop)]
 struct Claims {
     plan: Plan,
@@ -40,8 +40,8 @@ fn read_claims(alloc: Global, ring: &Ring, lines: &mut Lines) -> Result<Claims, 
     Ok(Claims { plan, cert })
 }
 
-/// Reads a ring, a plan and the plan's certificate, and leaves the rest. The first faulty line decides. `OutOfMemory`
-/// comes only after faultless lines, at least four.
+/// Reads a ring, a plan and the plan's certificate, and leaves the rest. Fails at the first faulty line. `OutOfMemory`
+/// comes only after at least four faultless lines.
 #[tactic(auto, unfolding(crate::specs::Front::front_at))]
 pub fn read_front_section(alloc: Global, lines: &mut Lines) -> Result<Front, Refusal>
     ensures read { Reads result lines.new (front_at lines.old) }

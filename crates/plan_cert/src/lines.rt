@@ -1,4 +1,4 @@
-//! The lines of a certificate.
+//! Reads the lines of a certificate.
 
 ghost use Rattle.std.specs.Prelude.{◌≡◌, ◌<◌, ◌-◌, IfOk, IfErr, OnOk, length, slice_get, option_map, true};
 ghost use Rattle.texts.specs.Numbers.{are_small};
@@ -12,7 +12,7 @@ use ring_names::{NodeId, Refusal, Rows};
 use ring_table::{NodeSide, Ring, Side, node_field};
 use texts::{CAP, Fields, NumberRow, both, finish_both, need};
 
-// Takes all numbers in front, a fact's steps.
+// Takes all leading numbers, a fact's steps.
 #[tactic(auto, unfolding(crate::specs::Reading::path_at))]
 fn path_field<'a>(fields: &mut Fields<'a>) -> Result<NumberRow<'a>, Refusal>
     ensures { Does path_at fields.old result fields.new }
@@ -31,7 +31,7 @@ fn path_field<'a>(fields: &mut Fields<'a>) -> Result<NumberRow<'a>, Refusal>
     Ok(row)
 }
 
-// Takes all numbers in front, a chain's steps.
+// Takes all leading numbers, a chain's steps.
 #[tactic(auto, unfolding(crate::specs::Reading::steps_at))]
 fn steps_field<'a>(fields: &mut Fields<'a>) -> Result<NumberRow<'a>, Refusal>
     ensures { Does steps_at fields.old result fields.new }
@@ -58,7 +58,7 @@ fn judge_fact<'a>(seen: &Rows, mut fields: Fields<'a>) -> Result<NumberRow<'a>, 
     Ok(path)
 }
 
-/// Judges a fact's line, after the facts seen.
+/// Judges a fact's line, which comes after the `seen` facts.
 pub fn fact_line<'a>(seen: &Rows, fields: Fields<'a>) -> Result<NumberRow<'a>, Refusal>
     ensures value { result ≡ fact_at seen.now fields.entry.number fields.entry.fields }
     ensures small { IfOk result (λ path. are_small path ≡ true) }
@@ -68,14 +68,14 @@ pub fn fact_line<'a>(seen: &Rows, fields: Fields<'a>) -> Result<NumberRow<'a>, R
     judge_fact(seen, fields)
 }
 
-/// A chain's line: its node and side, and its steps, still text.
+/// A chain's line: node, side, and steps that are still text.
 #[derive(Drop)]
 pub struct ChainLine<'a> {
     pub of: NodeSide,
     pub steps: NumberRow<'a>,
 }
 
-// The last chain's node, if any: a node's chains mostly follow each other.
+// The last chain's node, if any: the next chain mostly names it too.
 fn last_node(seen: &Chains) -> Option<NodeId>
     ensures { result ≡ option_map (λ c. c.node) (slice_get seen.now (length seen.now - 1)) }
 {
@@ -102,7 +102,7 @@ fn side(fields: &mut Fields) -> Result<Side, Refusal>
     }
 }
 
-// That word and a declared node.
+// Takes that word and a declared node.
 fn side_node(
     ring: &Ring,
     likely: Option<NodeId>,
@@ -148,7 +148,7 @@ fn judge_chain<'a>(
     Ok(ChainLine { of, steps })
 }
 
-/// Judges a chain's line, after the chains seen.
+/// Judges a chain's line, which comes after the `seen` chains.
 pub fn chain_line<'a>(
     ring: &Ring,
     seen: &Chains,

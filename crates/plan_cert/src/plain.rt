@@ -1,4 +1,4 @@
-//! Takes plainly spelled facts and chains.
+//! Fast paths for facts and chains.
 
 ghost use Rattle.std.specs.Prelude.{◌≡◌, ◌+◌, ◌≤◌, ◌++◌, ◌∷◌, [], ℕ, List, true, false, length, codes, IfSome, IfNone};
 ghost use Rattle.texts.specs.Parts.{line_text};
@@ -14,7 +14,7 @@ use ring_names::Rows;
 use ring_table::{NodeSide, Ring, Side};
 use texts::{Lines, after_word, plain_numbers, plain_word};
 
-// Adds the next line's fact, if plainly spelled. Returns the rest.
+// Adds the next line's fact by the fast path. Returns the rest.
 #[inline(always)]
 fn add_plain_fact<'a>(facts: &mut Rows, text: &'a [u8], steps: &mut Vec<u32>) -> Option<&'a [u8]>
     ensures taken { IfSome result (λ rest. (x : List ℕ) × IsNextFact facts.old x
@@ -33,7 +33,7 @@ fn add_plain_fact<'a>(facts: &mut Rows, text: &'a [u8], steps: &mut Vec<u32>) ->
     }
 }
 
-/// Adds the next line's fact, if plainly spelled and memory suffices.
+/// Adds the next line's fact by the fast path. False if that fails.
 #[inline(always)]
 pub fn take_fact(facts: &mut Rows, lines: &mut Lines, steps: &mut Vec<u32>) -> bool
     ensures read { result ≡ true → many_from (is_word (codes "fact")) fact_at facts.new lines.new.line lines.new.lines
@@ -52,7 +52,7 @@ pub fn take_fact(facts: &mut Rows, lines: &mut Lines, steps: &mut Vec<u32>) -> b
     }
 }
 
-// Adds the next line's chain, if plainly spelled. Returns the rest.
+// Adds the next line's chain by the fast path. Returns the rest.
 #[inline(always)]
 fn add_plain_chain<'a>(
     ring: &Ring,
@@ -83,7 +83,7 @@ fn add_plain_chain<'a>(
     }
 }
 
-/// Adds the next line's chain, if plainly spelled and memory suffices.
+/// Adds the next line's chain by the fast path. False if that fails.
 #[inline(always)]
 pub fn take_chain(ring: &Ring, chains: &mut Chains, lines: &mut Lines, steps: &mut Vec<u32>) -> bool
     ensures read { result ≡ true → many_from (begins_chain ring.now) (chain_at ring.now) chains.new lines.new.line lines.new.lines

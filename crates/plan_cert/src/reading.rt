@@ -97,7 +97,7 @@ fn read_chains(
     Ok(())
 }
 
-// The format of certificates over the ring.
+// The format of certificates for the ring.
 pub fn format_of(ring: &Ring) -> &'static [u8]
     ensures { result.now ≡ cert_format ring.now }
 {
@@ -140,10 +140,10 @@ fn read_whole(alloc: Global, ring: &Ring, text: &[u8]) -> Result<Cert, Refusal>
     Ok(cert)
 }
 
-/// Reads a certificate over the ring from its whole text.
+/// Reads a certificate for the ring from its whole text.
 ///
-/// The first faulty line decides, and its least number: 1 `BadLine`, 2 `TooLarge`, 3 `UnknownNode`. `OutOfMemory` comes
-/// only after faultless lines, at least two.
+/// Returns the first faulty line's least fault: 1 `BadLine`, 2 `TooLarge`, 3 `UnknownNode`. `OutOfMemory` comes only
+/// after at least two faultless lines.
 pub fn read_cert(alloc: Global, ring: &Ring, text: &[u8]) -> Result<Cert, Refusal>
     ensures found { IfOk result (λ v. IsCert v × Suits ring.now v × (text.now ≡ cert_text ring.now v)) }
     ensures only { (v : Cert) → IsCert v → Suits ring.now v → text.now ≡ cert_text ring.now v → Gives result (Ok v) }

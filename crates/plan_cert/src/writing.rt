@@ -65,7 +65,7 @@ fn push_chains(out: &mut Vec<u8>, ring: &Ring, chains: &Chains) -> Result<(), Al
     Ok(())
 }
 
-/// Writes the certificate's only text.
+/// Writes the certificate's unique text.
 pub fn write_cert(alloc: Global, ring: &Ring, cert: &Cert) -> Result<Vec<u8>, Refusal>
     requires { Suits ring.now cert.now }
     ensures text { IfOk result (λ v. v.items ≡ cert_text ring.now cert.now) }

@@ -13,7 +13,7 @@ pub struct Approved {
     plan: Plan,
 }
 
-// So crates above need not check the parts.
+// Saves dependent crates from checking the parts.
 impl Drop for Approved {
     fn drop(self) {
         let Approved { ring, plan } = self;

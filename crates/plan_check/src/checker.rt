@@ -69,13 +69,13 @@ pub fn check(alloc: Global, ring: Ring, plan: Plan, cert: &Cert) -> Result<Appro
 ///
 /// A thread per processor checks the facts, and `workers` the partitions.
 ///
-/// Uses at most one worker per partition; zero count as one. If no thread starts, the calling thread does the shares in
+/// Uses at most one worker per partition, and at least one. If no thread starts, the calling thread does the shares in
 /// turn.
 ///
 /// Of Q partitions and m shares, share s begins with partition s Q / m, rounded down. Its worker first passes the gate,
 /// with that number as mark.
 ///
-/// Answers as `check`, but with `TurnsSpent` if the gate stops a worker, whatever else was found. If a fact is not a
+/// Returns what `check` does, but `TurnsSpent` if the gate stops a worker, even if a clause fails. If a fact is not a
 /// path, no share begins. If the gate must stop a worker, the answer may also be `OutOfMemory`.
 pub fn check_parallel<R: Threads + Wait + Sync, G: Gate + Sync>(
     rt: &R,
@@ -148,7 +148,7 @@ fn check_all(alloc: Global, ring: &Ring, plan: &Plan, cert: &Cert) -> Result<(),
     }
 }
 
-// Checks partitions by workers. None if the gate stopped one.
+// Checks the partitions by workers. None if the gate stopped one.
 fn check_all_by_workers<R: Threads + Wait + Sync, G: Gate + Sync>(
     by: &Workers<R, G>,
     ring: &Ring,

@@ -4,9 +4,9 @@ ghost use Rattle.std.specs.Prelude.{ℕ, IsTrue, IsFalse};
 
 use std::sync::Wait;
 
-/// Lets workers pass before pieces of work, named by marks.
+/// A gate before pieces of work, named by marks.
 ///
-/// May hold a worker until others have come as far, up to a limit. So tests show that threads overlap.
+/// It may hold a worker until others have come as far, up to a limit. So tests show that threads overlap.
 pub trait Gate {
     /// Whether the gate may refuse this worker at this mark.
     ghost may_refuse: { Self → ℕ → ℕ → Type 0 };

@@ -107,7 +107,7 @@ fn kept_by(context: &Context, cert: &Cert, missed: Missed, covered: bool) -> Kep
 
 /// Returns the promises that a certificate shows: all if `check` accepts, none if slots may act out of order.
 ///
-/// Fails as `check` if a fact is not a path. Costs as an accepting `check`.
+/// Fails as `check` if a fact is not a path. Costs as much as an accepting `check`.
 pub fn promises_kept(alloc: Global, ring: &Ring, plan: &Plan, cert: &Cert) -> Result<Kept, Refusal>
     requires { Suits ring.now plan.now }
     ensures kept { IfOk result (λ said. KeepsWhatIsSaid ring.now plan.now said) }

@@ -42,14 +42,14 @@ pub fn migration_changes_no_refusal()
         → first_refusal (migrated ring) plan cert ≡ first_refusal ring plan cert }
 {}
 
-/// After a slot's step, its owner has nothing to drop, and its mirror is a third node.
+/// After a slot's step, the owner has nothing to drop, and the mirror is a third node.
 pub fn stages_are_good()
     ensures { (ring : RingValue) (plan : List Planned) → Sound ring plan → AreGoodStages ring plan }
 {}
 
-/// A slot's owner or mirror began and has not left.
+/// Owners and mirrors of a slot began to serve it and have not left.
 ///
-/// If each step fits its stage, such nodes also own or mirror the slot.
+/// If each step fits its stage, the converse holds.
 pub fn servers_occupy(ring: &Ring, plan: &Plan)
     ensures occupy { ServersOccupy ring.now plan.now }
     ensures serve { AllStaged ring.now plan.now → OccupantsServe ring.now plan.now }

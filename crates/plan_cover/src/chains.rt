@@ -10,7 +10,8 @@ use plan_cert::Chains;
 use ring_names::Refusal;
 use std::alloc::Global;
 
-/// Each node's chains, by their places in the certificate, for nodes below the count. Costs a pass over the chains.
+/// Lists each node's chains, by place in the certificate. Leaves out nodes from `nodes` on. Costs a pass over the
+/// chains.
 pub fn chains_of(alloc: Global, chains: &Chains, nodes: usize) -> Result<ByPlace<usize>, Refusal>
     ensures ok { IfOk result (λ a. (x : TheNode) → x.0 < nodes → kept_of a x ≡ chain_numbers chains.now x) }
     ensures memory { IfErr result (λ e. e ≡ OutOfMemory) }

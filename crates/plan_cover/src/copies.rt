@@ -1,4 +1,4 @@
-//! The copies of each node's sides.
+//! Lists each node's copies by side.
 
 ghost use Rattle.std.specs.Prelude.{◌≡◌, ◌&&◌, IfErr, OnOk};
 ghost use Rattle.ring_names.specs.declared.refusal.Refusal.TheVariants.{OutOfMemory};
@@ -14,7 +14,7 @@ use crate::by_place::{ByPlace, place_at};
 use ring_names::{NodeId, Refusal};
 use ring_table::{NodeSide, Ring, Side};
 
-/// Adds a copy to the side that counts this part, unless just added.
+/// Adds a copy to the node's side that counts `part`, unless just added.
 #[inline(always)]
 pub fn add_copy(
     copies: &mut ByPlace<u32>,
@@ -33,7 +33,7 @@ pub fn add_copy(
     }
 }
 
-// The side on which the node counts copies taken, or given.
+// The node's side that counts copies taken, or given.
 fn side_of(ring: &Ring, node: NodeId, part: Side) -> Option<Side>
     ensures { (s : OneSide) → (has_side ring.now node s && counts s part) ≡ is_some_side result s }
 {

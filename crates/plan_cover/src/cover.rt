@@ -1,4 +1,4 @@
-//! Each node's copies and chains.
+//! Lists each node's copies and chains.
 
 ghost use Rattle.std.specs.Prelude.{◌≡◌, ◌<◌, ◌&&◌, true, nat_lt, map, IfErr, IfOk, OnOk};
 ghost use Rattle.std.specs.List.{list_all};
@@ -28,7 +28,7 @@ pub struct Cover {
 }
 
 impl Cover {
-    /// Costs a pass over plan and chains.
+    /// Lists both in a pass over plan and chains.
     pub fn of(alloc: Global, ring: &Ring, plan: &Plan, cert: &Cert) -> Result<Cover, Refusal>
         requires { Suits ring.now plan.now }
         ensures ok { IfOk result (λ a. IsCover ring.now plan.now cert.now a) }
@@ -66,7 +66,7 @@ fn all_copies(alloc: Global, ring: &Ring, plan: &Plan) -> Result<ByPlace<u32>, R
     Ok(copies)
 }
 
-// Adds the step to each of its nodes.
+// Adds a copy to each node that takes part.
 fn add_parties(
     copies: &mut ByPlace<u32>,
     served: &Served,

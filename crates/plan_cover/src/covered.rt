@@ -16,7 +16,7 @@ use plan_cert::Chains;
 use ring_names::Refusal;
 use ring_table::{NodeSide, Side};
 
-/// Tests a node's copies on a side: each must be a step of a numbered chain there.
+/// Tests a node's copies on a side: each must be in one of the numbered chains there.
 ///
 /// Costs a pass over the chains' steps and the copies. Marks steps by number instead of hashing them: a certificate's
 /// author could choose steps that collide.
@@ -54,7 +54,7 @@ pub fn is_side(first: Side, second: Side) -> bool
     first == second
 }
 
-// The chain's steps if on the side, otherwise none.
+// The chain's steps, or none if it is on another side.
 fn steps_on(chains: &Chains, side: Side, number: usize) -> &[u32]
     ensures { (n : ℕ) → has n result.now ≡ in_some n (chains_at chains.now side (number ∷ [])) }
 {

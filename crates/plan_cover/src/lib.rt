@@ -1,4 +1,4 @@
-//! A node's clauses: its retirement, transfers and covering chains.
+//! Checks a node's clauses: its retirement, transfers and covering chains.
 #![tactic(auto)]
 
 mod by_place;

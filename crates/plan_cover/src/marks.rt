@@ -9,7 +9,7 @@ use std::alloc::Global;
 
 /// Marks of the numbers below a count, on each side.
 ///
-/// A mark is the round that set it: 65,535 rounds cost one pass over the table.
+/// A mark is the round that set it, so that only one `begin` in 65,535 clears the table.
 #[derive(Drop)]
 pub struct Marks {
     // by place

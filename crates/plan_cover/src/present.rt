@@ -1,4 +1,4 @@
-//! Each slot's servers, on the way through a plan.
+//! Each slot's servers after a plan's first steps.
 
 ghost use Rattle.std.specs.Prelude.{◌≡◌, ◌<◌, Some, None, true, unwrap_or, length, IfErr, IfOk, if◌then◌else◌};
 ghost use Rattle.ring_names.specs.declared.ids.Slot.{Slot as TheSlot};
@@ -20,21 +20,21 @@ pub struct Serving {
     pub mirror: Option<NodeId>,
 }
 
-// A slot's place: a partition has at most 7.
+// A slot's place, counting 7 for each partition.
 fn place_of(slot: Slot) -> usize
     ensures { result ≡ place_of slot }
 {
     7 * slot.partition as usize + slot.index as usize
 }
 
-/// The servers of a ring's slots after a plan's first steps. A slot not kept has the ring's owner.
+/// Each slot's servers after a plan's first steps. A slot without an entry has the ring's owner.
 #[derive(Drop)]
 pub struct Present {
     slots: Vec<Option<Serving>>,
 }
 
 impl Present {
-    /// Before the first step.
+    /// Starts before the first step.
     pub fn new(alloc: Global, ring: &Ring) -> Result<Present, Refusal>
         ensures room { IfOk result (λ a. HasRoom ring.now a) }
         ensures ok { IfOk result (λ a. (s : TheSlot) → serving_at ring.now a s
@@ -56,7 +56,7 @@ impl Present {
         None
     }
 
-    /// The slot's servers.
+    /// Returns the slot's servers.
     pub fn at(&self, ring: &Ring, slot: Slot) -> Serving
         requires partition { slot.partition < ring.now.q }
         requires index { slot.index < ring.now.n }
@@ -81,7 +81,7 @@ impl Present {
         self.slots[place_of(slot)] = Some(serving);
     }
 
-    /// Lets a step act.
+    /// Applies a step.
     pub fn act(&mut self, ring: &Ring, step: &Step)
         requires suits { step_suits ring.now step.now ≡ true }
         requires room { HasRoom ring.now self.old }

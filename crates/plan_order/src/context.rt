@@ -1,4 +1,4 @@
-//! What a plan's tests have at hand.
+//! A ring, a plan, and the plan's order.
 
 ghost use Rattle.std.specs.Prelude.{◌≡◌};
 ghost use Rattle.plan_text.specs.Valid.{Suits};
@@ -17,7 +17,7 @@ pub struct Context<'a> {
 }
 
 impl<'a> Context<'a> {
-    /// Whether `b` directly depends on `a`, or a fact orders `a` before `b`. Costs two searches.
+    /// Whether `b` directly depends on `a`, or a fact orders `a` before `b`. Costs two binary searches.
     pub fn ordered(&self, a: u32, b: u32) -> bool
         ensures { result ≡ is_ordered self.now.plan.now self.now.facts.now a b }
     {

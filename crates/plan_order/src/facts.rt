@@ -22,7 +22,7 @@ pub struct Ends {
     pub last: u32,
 }
 
-/// The ends of verified paths: the first step is before the last.
+/// The ends of verified paths: each first step comes before its last.
 #[derive(Drop)]
 pub struct Facts {
     // ascending
@@ -42,7 +42,7 @@ impl Model for Facts {
     ghost invariant = { λ a. AreSorted a.ends.items };
 }
 
-// The number of the first bad path, at most the greatest `u32`.
+// The first bad path's number, at most the greatest `u32`.
 fn first_bad_path(plan: &Plan, paths: &Rows) -> Option<u32>
     ensures { first_bad plan.now 0 paths.now ≡ option_map (λ n. BadPath n) result }
 {
@@ -104,8 +104,8 @@ fn add_all_ends(ends: &mut Vec<Ends>, paths: &Rows) -> Result<(), Refusal>
 }
 
 impl Facts {
-    /// Verifies paths of the plan. The first bad one is `BadPath`, by number from 0. Costs a binary search for each
-    /// link, and a sort.
+    /// Verifies paths of the plan. Fails with `BadPath` and the first bad path's number, from 0. Costs a binary search
+    /// for each link, and a sort.
     pub fn verify(alloc: Global, plan: &Plan, paths: &Rows) -> Result<Facts, Refusal>
         ensures bad { (e : TheRefusal) → first_bad plan.now 0 paths.now ≡ Some e → result ≡ Err e }
         ensures good { IfErr result (λ e. first_bad plan.now 0 paths.now ≡ None → e ≡ OutOfMemory) }
@@ -119,7 +119,7 @@ impl Facts {
         }
     }
 
-    /// Verifies paths as `verify`, by as many threads as processors. Looks at every path.
+    /// Verifies paths as `verify`, in a thread per processor. Looks at every path.
     pub fn verify_parallel(
         rt: &(impl Threads + Sync),
         alloc: Global,
@@ -150,7 +150,7 @@ impl Facts {
         Ok(Facts { ends })
     }
 
-    /// Whether `b` directly depends on `a`, or a verified path leads from `a` to `b`. Costs two searches.
+    /// Whether `b` directly depends on `a`, or a verified path leads from `a` to `b`. Costs two binary searches.
     pub fn ordered(&self, plan: &Plan, a: u32, b: u32) -> bool
         requires { AreFactsOf plan.now self.now }
         ensures value { result ≡ is_ordered plan.now self.now a b }
@@ -159,7 +159,7 @@ impl Facts {
         self.tells(plan, a, b)
     }
 
-    // Whether the facts tell that `a` comes before `b`. They may be another plan's.
+    // Whether `a` is ordered before `b`, by facts of this or another plan.
     pub(crate) fn tells(&self, plan: &Plan, a: u32, b: u32) -> bool
         ensures { result ≡ is_ordered plan.now self.now a b }
     {

@@ -14,7 +14,7 @@ use plan_text::Step;
 use ring_names::{NodeId, Refusal};
 use std::alloc::Global;
 
-/// The later steps' first two switches, first drops by node, and holdings.
+/// The first two switches, each node's first drop, and all holdings of later steps.
 #[derive(Drop)]
 pub struct Behind {
     /// The first later switch.

@@ -26,7 +26,7 @@ use std::alloc::Global;
 
 /// Checks a partition's clauses.
 ///
-/// First slots by index, each slot's steps by number, then the plan's steps by number.
+/// First checks slots by index, each slot's steps by number, then the plan's steps by number.
 ///
 /// Reads only the partition's steps, and retirements of nodes that hold its slots.
 pub fn check_partition(
@@ -123,7 +123,7 @@ fn check_numbers(
     Ok(())
 }
 
-/// Returns a slot's stage after at most `k` steps.
+/// Returns a slot's stage after its first `k` steps, or all.
 pub fn stage_at(
     alloc: Global,
     ring: &Ring,

@@ -55,7 +55,7 @@ fn switches(plan: &Plan, number: u32) -> bool
     number < plan.len() && matches!(plan.step(number), Step::Switch(_))
 }
 
-// Whether the other step is ordered with the step, or is not a switch.
+// Whether the two steps are ordered, or the other is not a switch.
 fn settles(context: &Context, number: u32, other: u32) -> bool
     ensures { result ≡ is_settling context.now.plan.now (order context.now) number other }
 {
@@ -100,7 +100,7 @@ fn begins_before(holding: &Holding, number: u32) -> bool
     }
 }
 
-// Whether the holdings that begin before the step have ended. Goes backward, and stops at the first that begins later.
+// Whether the holdings that begin before the step have ended. Goes backward, up to the first that begins later.
 fn are_left(context: &Context, number: u32, held: &[Holding]) -> bool
     ensures { result ≡ are_left (order context.now) number (reverse held.now) }
 {
@@ -130,7 +130,7 @@ fn has_left_held(context: &Context, number: u32, node: NodeId, held: &Held) -> b
 }
 
 impl Holdings {
-    // Whether the node has left the slot, if served before.
+    // Whether a node that served the slot has left it.
     fn has_left_at(&self, context: &Context, number: u32, node: NodeId, index: u32) -> bool
         ensures { result ≡ has_left_at (order context.now) number self.now index node }
     {
@@ -177,7 +177,7 @@ fn is_dropped_at(
     }
 }
 
-// Whether the node has left the partition's other slots, if served before.
+// Whether a node that served the partition's other slots has left them.
 fn has_left(context: &Context, holdings: &Holdings, number: u32, slot: Slot, node: NodeId) -> bool
     requires { AreHeld context.now.ring.now context.now.plan.now slot.partition holdings.now }
     ensures { result ≡ has_left context.now.ring.now context.now.plan.now (order context.now) number slot node }

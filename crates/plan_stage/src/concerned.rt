@@ -13,7 +13,7 @@ use ring_names::{NodeId, Refusal, Slot};
 use ring_table::Ring;
 use std::alloc::Global;
 
-/// Returns the steps that a partition must check, ascending. Costs a sort.
+/// Returns the steps to check for a partition, ascending. Costs a sort.
 pub fn concerned(
     alloc: Global,
     ring: &Ring,
@@ -51,7 +51,7 @@ fn gather(alloc: Global, ring: &Ring, plan: &Plan, partition: u32) -> Result<Vec
     Ok(numbers)
 }
 
-// Adds the slot's mirrors and copies, and retirements of first owner and mirrored nodes.
+// Adds the slot's mirrors and copies, and retirements of its first owner and mirrored nodes.
 fn add_slot(numbers: &mut Vec<u32>, ring: &Ring, plan: &Plan, slot: Slot) -> Result<(), Refusal>
     requires partition { slot.partition < ring.now.q }
     requires index { slot.index < ring.now.n }

@@ -18,7 +18,7 @@ pub struct Dropped {
     pub number: u32,
 }
 
-/// Each node's last drop. The first few take no memory.
+/// Each node's drop, as last set. The first four take no memory.
 #[derive(Drop)]
 pub struct Drops {
     alloc: Global,

@@ -18,7 +18,7 @@ pub struct Found {
     pub holding: Holding,
 }
 
-/// Each node's holdings of a slot. The first few take no memory.
+/// Each node's holdings of a slot. The first four take no memory.
 #[derive(Drop)]
 pub struct Held {
     alloc: Global,
@@ -46,7 +46,7 @@ impl Held {
         }
     }
 
-    /// Adds a holding after its node's others.
+    /// Adds a holding after the node's others.
     pub fn add(&mut self, node: NodeId, holding: Holding) -> Result<(), Refusal>
         ensures ok { OnOk result ((x : TheNode) → held_of self.new x
             ≡ (if is_node x node then held_of self.old x ++ holding ∷ [] else held_of self.old x)) }
@@ -65,14 +65,14 @@ impl Held {
         }
     }
 
-    /// Returns the first few holdings, of all nodes.
+    /// Returns the first four holdings, of any nodes.
     pub fn first(&self) -> &[Found]
         ensures { result.now ≡ self.now.first }
     {
         self.first.as_slice()
     }
 
-    /// Returns the node's other holdings.
+    /// Returns the node's holdings not in `first`.
     pub fn others(&self, node: NodeId) -> &[Holding]
         ensures { result.now ≡ held_beside self.now.others node }
     {

@@ -41,7 +41,7 @@ fn slot_holdings(alloc: Global, ring: &Ring, plan: &Plan, slot: Slot) -> Result<
     Ok(behind.into_held())
 }
 
-/// Each node's holdings of a partition's slots, by index.
+/// Each node's holdings of a partition's slots, by slot index.
 #[derive(Drop)]
 pub struct Holdings {
     slots: Vec<Held>,

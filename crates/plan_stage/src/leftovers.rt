@@ -12,9 +12,9 @@ use std::marker::Model;
 /// Nodes that owned a slot and have not dropped it. A single node takes no memory.
 #[derive(Drop)]
 pub struct Leftovers {
-    // A single node.
+    // The only node.
     one: Option<NodeId>,
-    // Otherwise all.
+    // All nodes, if several.
     more: BTreeSet<NodeId>,
 }
 

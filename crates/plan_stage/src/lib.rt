@@ -1,6 +1,6 @@
 //! A slot's stages, its steps' clauses, and a copy's nodes.
 //!
-//! Clauses say that steps act in order, and what mirrors, copies and retirements must meet.
+//! Clauses say that steps act in order, and what mirrors, copies and retirements need.
 #![tactic(auto)]
 
 mod behind;

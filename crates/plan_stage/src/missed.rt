@@ -145,7 +145,7 @@ fn note_steps(
     note_numbers(context, &holdings, partition, numbers.as_slice(), missed)
 }
 
-/// Notes the partition's clauses that may fail. Costs as an accepting `check_partition`.
+/// Notes the partition's clauses that may fail. Costs as much as an accepting `check_partition`.
 ///
 /// Returns whether each slot's steps act in order: if not, notes nothing.
 pub fn note_partition(

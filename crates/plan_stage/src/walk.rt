@@ -50,7 +50,7 @@ impl Walk {
         }
     }
 
-    /// Lets the step act.
+    /// Applies the step.
     pub fn act(&mut self, step: &Step) -> Result<(), Refusal>
         ensures ok { OnOk result (stage_of self.new ≡ next (stage_of self.old) step.now) }
         ensures memory { IfErr result (λ e. e ≡ OutOfMemory) }

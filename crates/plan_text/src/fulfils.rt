@@ -20,7 +20,7 @@ fn is_among(nodes: &[NodeId], node: NodeId) -> bool
     is_number_of(nodes, node.0)
 }
 
-// Whether a joined node is in `joins`, a retired one in `leaves`.
+// Whether the step joins only nodes of `joins`, and retires only nodes of `leaves`.
 fn names_only(joins: &[NodeId], leaves: &[NodeId], step: &Step) -> bool
     ensures { result ≡ step_names joins.now leaves.now step.now }
 {

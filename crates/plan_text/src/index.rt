@@ -1,4 +1,4 @@
-//! A plan's index: no search goes through the steps.
+//! A plan's index: look-ups need no pass over the steps.
 
 ghost use Rattle.std.specs.Prelude.{◌≡◌, ℕ, length, ◌++◌, ◌∷◌, [], ◌==◌, ◌&&◌, not, List, Some, None, IfErr, OnOk};
 ghost use Rattle.std.specs.Prelude.{OnErr, if◌then◌else◌, true};
@@ -14,7 +14,7 @@ use ring_names::{NodeId, Refusal, Slot};
 use std::alloc::Global;
 use std::collections::HashMap;
 
-/// Each node's first naming step, and whether all are named only once.
+/// Which step first names each node, and whether none is named twice.
 #[derive(Drop)]
 pub struct NodeIndex {
     firsts: HashMap<NodeId, u32>,
@@ -79,7 +79,7 @@ pub struct Index {
     retirements: NodeIndex,
 }
 
-// So crates above need not check the parts.
+// Saves dependent crates from checking the parts.
 impl Drop for Index {
     fn drop(self) {
         let Index {

@@ -5,7 +5,7 @@ ghost use Rattle.std.specs.List.{list_all};
 
 use std::marker::Model;
 
-/// Up to 7 slots by index, in the order written.
+/// Up to 7 slot indexes, in the order written.
 #[derive(Debug, Drop)]
 pub struct Indexes {
     first: [u8; 7],

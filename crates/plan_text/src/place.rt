@@ -44,7 +44,7 @@ pub fn slot_node(ring: &Ring, fields: &mut Fields) -> Result<(Slot, NodeId), Ref
     both(slot, node)
 }
 
-/// Reads a node that may join. Fails with `Repeated` if a member before the plan or joined earlier.
+/// Reads a node that may join. Fails with `Repeated` if it is a member or joined earlier.
 #[tactic(auto, unfolding(crate::specs::Reading::joining_at))]
 pub fn joining(ring: &Ring, plan: &Plan, fields: &mut Fields) -> Result<NodeId, Refusal>
     ensures { Does (joining_at ring.now plan.now) fields.old result fields.new }

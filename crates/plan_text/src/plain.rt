@@ -1,4 +1,4 @@
-//! Reads a plainly spelled step.
+//! A fast path for common steps.
 
 ghost use Rattle.std.specs.Prelude.{◌≡◌, ◌+◌, ◌≤◌, ◌++◌, ◌∷◌, [], true, false, length, nat_lt, IfSome, IfNone};
 ghost use Rattle.std.specs.List.{join_with_byte, list_all};
@@ -48,7 +48,7 @@ fn plain_slot_node<'a>(ring: &Ring, text: &'a [u8]) -> Option<(Slot, NodeId, &'a
     Some((slot, node, rest))
 }
 
-// Returns a step that moves a slot, and the rest. None for a copy from listed slots.
+// Returns a mirror, a copy from the owner, a switch or a drop, and the rest.
 #[inline(always)]
 fn plain_kind<'a>(ring: &Ring, text: &'a [u8]) -> Option<(Step, &'a [u8])>
     ensures text { IfSome result
@@ -108,7 +108,7 @@ fn plain_after<'a>(plan: &Plan, text: &'a [u8], after: &mut Vec<u32>) -> Option<
     Some(rest)
 }
 
-// Adds a plainly spelled line's step. Returns the rest.
+// Adds a common step, and returns the rest.
 #[inline(always)]
 fn add_plain<'a>(
     ring: &Ring,
@@ -134,7 +134,7 @@ fn add_plain<'a>(
     }
 }
 
-/// Adds the next line's step, if plainly spelled and memory suffices.
+/// Adds the next line's step by the fast path. False if that fails.
 #[inline(always)]
 pub fn take_plain(ring: &Ring, plan: &mut Plan, lines: &mut Lines, after: &mut Vec<u32>) -> bool
     ensures read { result ≡ true → steps_from ring.now plan.new lines.new.line lines.new.lines

@@ -23,7 +23,7 @@ pub struct Plan {
     index: Index,
 }
 
-// So crates above need not check the parts.
+// Saves dependent crates from checking the parts.
 impl Drop for Plan {
     fn drop(self) {
         let Plan { steps, rows, index } = self;
@@ -91,7 +91,7 @@ impl Plan {
         self.steps.len() as u32
     }
 
-    /// Returns the step of this number.
+    /// Returns step `n`.
     pub fn step(&self, n: u32) -> &Step
         requires { n < length self.now }
         ensures value { option_map (λ x. x.step) (slice_get self.now n) ≡ Some result.now }
@@ -100,7 +100,7 @@ impl Plan {
         &self.steps[n as usize]
     }
 
-    /// Returns a step's direct dependencies, strictly ascending.
+    /// Returns the step's direct dependencies, strictly ascending.
     pub fn deps(&self, n: u32) -> &[u32]
         requires { n < length self.now }
         ensures value { option_map (λ x. x.after) (slice_get self.now n) ≡ Some result.now }

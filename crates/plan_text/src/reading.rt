@@ -116,8 +116,8 @@ fn read_whole(alloc: Global, ring: &Ring, text: &[u8]) -> Result<Plan, Refusal>
 
 /// Reads a plan of the ring from its whole text.
 ///
-/// Fails at the first faulty line with its least number: 1 `BadLine`, 2 `TooLarge`, 3 `UnknownNode`, 4 `Repeated`, 20
-/// `LaterDependency`. `OutOfMemory` comes only after faultless lines, at least two.
+/// Returns the first faulty line's least fault: 1 `BadLine`, 2 `TooLarge`, 3 `UnknownNode`, 4 `Repeated`, 20
+/// `LaterDependency`. `OutOfMemory` comes only after at least two faultless lines.
 pub fn read_plan(alloc: Global, ring: &Ring, text: &[u8]) -> Result<Plan, Refusal>
     ensures found { IfOk result (λ v. IsPlan v × Suits ring.now v × (text.now ≡ plan_text ring.now v)) }
     ensures only { (v : List Planned) → IsPlan v → Suits ring.now v → text.now ≡ plan_text ring.now v

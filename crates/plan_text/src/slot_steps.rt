@@ -9,7 +9,7 @@ ghost use Rattle.plan_text.specs.SlotSteps.{has_place, place_of, list_at, number
 use ring_names::{Listed, Lists, Refusal, Slot};
 use std::alloc::Global;
 
-/// A slot's steps, by place for a ring's slots, by key for others.
+/// Each slot's steps. Slots that no ring has are in a map.
 #[derive(Drop)]
 pub struct SlotSteps {
     alloc: Global,

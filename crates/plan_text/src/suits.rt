@@ -15,7 +15,7 @@ pub fn all_suit(ring: &Ring, steps: &[Step]) -> bool
     steps.iter().all(|x| step_suits(ring, x))
 }
 
-/// Whether the step's nodes and slots fit, and it joins no member.
+/// Whether the step's nodes and slots are the ring's, and it joins no member.
 pub fn step_suits(ring: &Ring, step: &Step) -> bool
     ensures { result ≡ step_suits ring.now step.now }
 {

@@ -109,7 +109,7 @@ fn push_steps(out: &mut Vec<u8>, ring: &Ring, plan: &Plan) -> Result<(), AllocEr
     Ok(())
 }
 
-/// Writes the plan's only text.
+/// Writes the plan's unique text.
 pub fn write_plan(alloc: Global, ring: &Ring, plan: &Plan) -> Result<Vec<u8>, Refusal>
     requires { Suits ring.now plan.now }
     ensures text { IfOk result (λ v. v.items ≡ plan_text ring.now plan.now) }
