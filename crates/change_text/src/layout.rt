@@ -5,14 +5,14 @@ ghost use Rattle.std.specs.Prelude.{◌≡◌, []};
 use ring_names::Listed;
 use std::alloc::Global;
 
-/// A fact on a node or a partition. Nodes are bytes: a ring may lack them.
+/// A fact on a node or a partition. Nodes are names: a ring may lack them.
 #[derive(Debug, Drop)]
 pub enum Fact {
     /// A node's rack.
     Rack { node: Listed<u8>, rack: Listed<u8> },
     /// A node's weight, 1 to 1,000.
     Weight { node: Listed<u8>, parts: u32 },
-    /// A node's name among people.
+    /// A node's name for people.
     Alias { node: Listed<u8>, alias: Listed<u8> },
     /// How much a partition below 4,096 stores: below 2^48, in any unit such as keys or bytes.
     Size { partition: u32, size: u64 },

@@ -45,7 +45,7 @@ fn read_parts(alloc: Global, lines: &mut Lines) -> Result<Layout, Refusal>
 /// - `size P N`: the partition up to 4,095, its size below 2^48.
 /// - `dead NODE`.
 ///
-/// The first faulty line decides, and its least number.
+/// Returns the first faulty line's least fault:
 ///
 /// - 1 `BadLine`, also for a last line without newline.
 /// - 2 `TooLarge`: a number above its limit, or a fact after 8,192 others.

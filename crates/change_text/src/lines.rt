@@ -10,7 +10,7 @@ use ring_names::{NodeId, Refusal};
 use ring_table::{Ring, node_field};
 use texts::{Fields, both, finish};
 
-// A node, not a member and not yet named, or `Repeated`.
+// Takes a nonmember not yet named. Fails with `Repeated`.
 #[tactic(auto, unfolding(crate::specs::Reading::joining_at))]
 fn joining(ring: &Ring, draft: &Draft, fields: &mut Fields) -> Result<NodeId, Refusal>
     requires { draft.now.leaves ≡ [] }
@@ -24,7 +24,7 @@ fn joining(ring: &Ring, draft: &Draft, fields: &mut Fields) -> Result<NodeId, Re
     }
 }
 
-// A member not yet named, or `NotMember` or `Repeated`.
+// Takes a member not yet named. Fails with `NotMember` or `Repeated`.
 #[tactic(auto, unfolding(crate::specs::Reading::leaving_at))]
 fn leaving(ring: &Ring, draft: &Draft, fields: &mut Fields) -> Result<NodeId, Refusal>
     ensures { Does (leaving_at ring.now draft.now.joins draft.now.leaves) fields.old result fields.new }
@@ -47,7 +47,7 @@ fn judge_join(ring: &Ring, draft: &Draft, mut fields: Fields) -> Result<NodeId, 
     Ok(node)
 }
 
-/// Judges a join's line, after the draft.
+/// Judges a join's line, after the draft's.
 pub fn join_line(ring: &Ring, draft: &Draft, fields: Fields) -> Result<NodeId, Refusal>
     requires { draft.now.leaves ≡ [] }
     ensures value { result ≡ join_at ring.now draft.now.joins fields.entry.number fields.entry.fields }
@@ -70,7 +70,7 @@ fn judge_leave(ring: &Ring, draft: &Draft, mut fields: Fields) -> Result<NodeId,
     Ok(node)
 }
 
-/// Judges a leave's line, after the draft.
+/// Judges a leave's line, after the draft's.
 pub fn leave_line(ring: &Ring, draft: &Draft, fields: Fields) -> Result<NodeId, Refusal>
     ensures value { result
         ≡ leave_at ring.now draft.now.joins draft.now.leaves fields.entry.number fields.entry.fields }

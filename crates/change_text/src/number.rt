@@ -7,7 +7,7 @@ ghost use Rattle.texts.specs.Number.{value_from, is_number as is_spelled_number,
 
 use ring_names::Refusal;
 
-// Above every number. Greater values count as this.
+// Above every number. Greater values count as `CAP`.
 const CAP: u64 = 281_474_976_710_656;
 
 fn are_digits(field: &[u8]) -> bool

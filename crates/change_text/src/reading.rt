@@ -84,8 +84,8 @@ fn read_whole(alloc: Global, ring: &Ring, text: &[u8]) -> Result<Change, Refusal
 
 /// Reads a change of the ring from its whole text.
 ///
-/// The first faulty line decides, and its least number: 1 `BadLine`, 3 `UnknownNode`, 4 `Repeated`, 12 `NotMember`.
-/// `OutOfMemory` comes only after faultless lines, at least two.
+/// Returns the first faulty line's least fault: 1 `BadLine`, 3 `UnknownNode`, 4 `Repeated`, 12 `NotMember`.
+/// `OutOfMemory` comes only after at least two faultless lines.
 ///
 /// `Repeated`: a node named twice, or a member that joins. `NotMember`: a leaving node that is not a member.
 pub fn read_change(alloc: Global, ring: &Ring, text: &[u8]) -> Result<Change, Refusal>

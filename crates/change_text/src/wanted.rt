@@ -33,8 +33,8 @@ fn read_both(alloc: Global, lines: &mut Lines) -> Result<Wanted, Refusal>
     Ok(Wanted { ring, change })
 }
 
-/// Reads a bundle's ring and change, which must end there. The first faulty line decides. `OutOfMemory` comes only
-/// after the ring's first four lines.
+/// Reads a bundle of a ring and a change. Fails at the first faulty line. `OutOfMemory` comes only after the ring's
+/// first four lines.
 pub fn read_wanted(alloc: Global, bytes: &[u8]) -> Result<Wanted, Refusal>
     ensures read { Gives result (whole_text wanted_at bytes.now) }
     ensures found { IfOk result (λ w. IsChange w.ring w.change) }

@@ -36,7 +36,7 @@ fn push_nodes(
     Ok(())
 }
 
-/// Writes the change's only text.
+/// Writes the change's unique text.
 pub fn write_change(alloc: Global, ring: &Ring, change: &Change) -> Result<Vec<u8>, Refusal>
     requires { IsChange ring.now change.now }
     ensures text { IfOk result (λ v. v.items ≡ change_text ring.now change.now) }

@@ -127,7 +127,7 @@ impl<'a> Cut<'a> {
         })
     }
 
-    // Marks a started put or get, by whether it is in the part.
+    // Notes whether a started put or get is in the part.
     fn note(&mut self, event: &Event, is_mine: bool) -> Result<(), AllocError>
         requires puts { length self.now.puts < 4294967295 }
         requires gets { length self.now.gets < 4294967295 }
@@ -141,7 +141,7 @@ impl<'a> Cut<'a> {
         }
     }
 
-    /// Returns the entry as the part sees it, if so. Cuts no more after an error.
+    /// Returns the entry as the part has it, if it does. Cuts no more after an error.
     pub fn entry(&mut self, alloc: Global, entry: &Entry) -> Result<Option<Entry>, AllocError>
         requires puts { length self.now.puts < 4294967295 }
         requires gets { length self.now.gets < 4294967295 }
@@ -160,7 +160,7 @@ impl<'a> Cut<'a> {
     }
 }
 
-/// Returns the part that these partitions see: all of steps, copies and nodes, and clients' events on their keys.
+/// Returns the part that these partitions see: all of steps, copies and nodes, and their own puts, gets and handoffs.
 /// Renumbers puts and gets.
 pub fn part(
     alloc: Global,

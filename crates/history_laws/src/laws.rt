@@ -6,13 +6,13 @@ ghost use Rattle.plan_text.specs.declared.step.Planned.{Planned};
 ghost use Rattle.plan_runs.specs.declared.event.Entry.{Entry};
 ghost use Rattle.history_laws.specs.Parts.{PartsRun, WholeRuns, PartsEnd, PartsFollow};
 
-/// A history is a plan's run exactly if its parts are, for parts that together see all partitions.
+/// A history is a plan's run exactly if its parts are, if together they see all partitions.
 pub fn parts_decide()
     ensures parts { (ring : RingValue) (plan : List Planned) (entries : List Entry) → PartsRun ring plan entries }
     ensures whole { (ring : RingValue) (plan : List Planned) (entries : List Entry) → WholeRuns ring plan entries }
 {}
 
-/// A part and the whole end alike for the part's puts: their acknowledgements, and the slots that hold them.
+/// A part and the whole end alike for the part's puts: which are acknowledged, and which slots hold them.
 pub fn parts_end()
     ensures { (ring : RingValue) (plan : List Planned) (entries : List Entry) → PartsEnd ring plan entries }
 {}

@@ -7,7 +7,7 @@ ghost use Rattle.history_laws.specs.Parts.{is_of_part, number_in, renumbered, al
 use std::alloc::{AllocError, Global};
 use std::marker::Model;
 
-/// A part's puts or gets so far, with their numbers there: eight bytes each.
+/// The numbers in a part of the puts or gets so far: eight bytes each.
 #[derive(Drop)]
 pub struct Marks {
     numbers: Vec<Option<u32>>,
@@ -36,7 +36,7 @@ impl Marks {
         }
     }
 
-    /// Adds one, in the part or not.
+    /// Adds a put or get, in the part or not.
     pub fn add(&mut self, is_mine: bool) -> Result<(), AllocError>
         requires { length self.now < 4294967295 }
         ensures ok { OnOk result (self.new ≡ self.old ++ is_mine ∷ []) }
@@ -61,7 +61,7 @@ impl Marks {
         }
     }
 
-    /// Whether it is in the part, or does not exist.
+    /// Whether the number is in the part, or does not exist.
     pub fn is_seen(&self, whole: u32) -> bool
         ensures { result ≡ is_seen_in self.now whole }
     {

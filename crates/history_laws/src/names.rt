@@ -1,4 +1,4 @@
-//! The numbers of a plan's steps in another.
+//! The numbers of a plan's steps in another plan.
 
 ghost use Rattle.std.specs.Prelude.{◌≡◌};
 ghost use Rattle.history_laws.specs.Past.{number_in, allows, mirror_in};

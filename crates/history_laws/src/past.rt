@@ -20,9 +20,9 @@ use std::alloc::Global;
 pub struct SamePast<'a> {
     pub old: &'a Plan,
     pub new: &'a Plan,
-    /// By the first plan's step, its number in the second; none if its entries are left out.
+    /// For each step of `old`, its number in `new`; none if its entries are left out.
     pub numbers: &'a [Option<u32>],
-    /// By the second plan's step, its number in the first.
+    /// For each step of `new`, its number in `old`.
     pub olds: &'a [u32],
     pub back: Back,
 }
@@ -31,7 +31,7 @@ pub struct SamePast<'a> {
 #[derive(Clone, Copy)]
 pub struct Told<'a> {
     pub entries: &'a [Entry],
-    /// By entry of the earlier history, the number of entries here.
+    /// How many entries here match each entry of the earlier history.
     pub counts: &'a [u32],
 }
 
@@ -87,7 +87,7 @@ fn cut(entries: &[Entry], count: u32) -> Option<(&[Entry], &[Entry])>
     Some(entries.split_at(count as usize))
 }
 
-// Whether the entries match the earlier in order, if no mirror was undone before.
+// Whether the entries match the earlier ones in order, if no mirror was undone before.
 fn are_told(
     taken: &mut SlotSet,
     old: &Plan,
@@ -121,9 +121,9 @@ fn are_told(
 
 /// Whether the entries match the earlier history, by the second plan. Costs a pass over both.
 ///
-/// False if a step differs in both plans, or if the counts do not fit.
+/// False if a step differs between the plans, or if the counts do not fit.
 ///
-/// False if an entry of a done step other than an undone mirror is left out.
+/// False if an entry of a done step is left out, unless the step is an undone mirror.
 pub fn is_same_past(
     alloc: Global,
     it: &SamePast,

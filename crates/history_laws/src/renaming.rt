@@ -36,7 +36,7 @@ fn is_of_step(event: &Event) -> bool
     )
 }
 
-/// Returns the event with its step's number in the other plan. Other events stay.
+/// Returns the event with its step's number in the other plan. Events of no step stay.
 pub fn renamed(numbers: &[Option<u32>], event: &Event) -> Result<Option<Event>, Refusal>
     ensures { IfOk result (λ v. v ≡ renamed numbers.now event.now) }
 {

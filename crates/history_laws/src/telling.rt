@@ -1,4 +1,4 @@
-//! Checks entries against an entry.
+//! Compares entries with one earlier entry.
 
 ghost use Rattle.std.specs.Prelude.{◌≡◌, ◌∷◌, [], IsTrue, IfOk};
 ghost use Rattle.std.specs.List.{list_all};
@@ -51,7 +51,7 @@ fn stand_for(event: &Event, told: &[Entry]) -> bool
     }
 }
 
-// Whether they are one entry of the event, with a matching reply.
+// Whether the entries are one entry of the event, with a matching reply.
 fn is_one(taken: &SlotSet, event: &Event, reply: &Reply, told: &[Entry]) -> bool
     ensures { IsTrue result → (r : TheReply) × (told.now ≡ record { event = event.now; reply = r } ∷ []) × TellsReply (is_in taken.now) reply.now r }
 {
@@ -61,7 +61,7 @@ fn is_one(taken: &SlotSet, event: &Event, reply: &Reply, told: &[Entry]) -> bool
     more.is_empty() && is_same_event(event, &first.event) && tells_reply(taken, reply, &first.reply)
 }
 
-/// Whether these entries match the entry.
+/// Whether the entries `told` match `entry`.
 pub(crate) fn is_told(
     numbers: &[Option<u32>],
     taken: &SlotSet,

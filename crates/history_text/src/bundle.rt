@@ -26,7 +26,7 @@ pub struct ReplayBundle {
     pub history: Vec<Entry>,
 }
 
-/// Reads a ring, a plan, its certificate and a history, and leaves the rest. The first faulty line decides.
+/// Reads a ring, a plan, its certificate and a history, and leaves the rest. Fails at the first faulty line.
 #[tactic(auto, unfolding(crate::specs::Replays::replay_at))]
 pub fn read_replay_section(alloc: Global, lines: &mut Lines) -> Result<ReplayBundle, Refusal>
     ensures read { Reads (map_ok parts_of result) lines.new (replay_at lines.old) }
@@ -46,9 +46,9 @@ pub fn read_replay_section(alloc: Global, lines: &mut Lines) -> Result<ReplayBun
     })
 }
 
-/// Reads a replay's bundle: a ring, a plan, its certificate and a history. Numbers writers by first sight.
+/// Reads a replay's bundle: a ring, a plan, its certificate and a history. Numbers writers by first mention.
 ///
-/// The first faulty line decides, by its part's reader. A line after the history is `BadLine`. `OutOfMemory` comes only
+/// Fails as the reader of the first faulty line's part. A line after the history is `BadLine`. `OutOfMemory` comes only
 /// after four lines.
 pub fn read_replay(alloc: Global, bytes: &[u8]) -> Result<ReplayBundle, Refusal>
     ensures read { Gives (map_ok parts_of result) (whole_text replay_at bytes.now) }

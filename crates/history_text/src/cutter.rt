@@ -69,7 +69,7 @@ impl<'a> Kept<'a> {
 }
 
 impl<'a> Cutter<'a> {
-    /// Reads the whole lines of what is left and these bytes, and cuts their entries.
+    /// Reads the whole lines of `left` and the following `more`, and cuts their entries.
     pub fn cut_some(
         &mut self,
         alloc: Global,

@@ -156,14 +156,14 @@ fn end_part(unended: Unended) -> Result<Part, NoPart>
     }
 }
 
-/// Reads a bundle to its end, and cuts it to what the chosen partitions see. Returns the part's bundle, and the place
-/// of its entry `wanted` in the whole.
+/// Reads a bundle to its end, and cuts it to what the chosen partitions see. Returns the part's bundle, and where its
+/// entry `wanted` is in the whole.
 ///
 /// Writers keep their numbers. The history may have any length. The front, a line and the part have at most `MAX_INPUT`
 /// bytes.
 ///
-/// The first faulty line decides, as in `read_replay`. A longer line, and the 4,294,967,295th put or get, are
-/// `TooLarge`. A front not whole within `MAX_INPUT` bytes is `TooLarge(0)`.
+/// Fails at the first faulty line, as `read_replay`. A longer line, and the 4,294,967,295th put or get, are `TooLarge`.
+/// A front not whole within `MAX_INPUT` bytes is `TooLarge(0)`.
 ///
 /// Keeps the front, the part and eight bytes for each put and get.
 pub fn cut_stream<R: Read + Drop>(

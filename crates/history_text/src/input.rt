@@ -54,11 +54,11 @@ pub fn read_some<R: Read + Drop>(
 #[derive(Drop)]
 pub struct Head {
     pub bytes: Vec<u8>,
-    /// Whether these are all bytes.
+    /// Whether the input ends after them.
     pub is_whole: bool,
 }
 
-/// Reads on to an input's first `most` bytes, or to its end.
+/// Reads on until it has the input's first `most` bytes, or all.
 pub fn read_head<R: Read + Drop>(
     alloc: Global,
     bytes: Vec<u8>,

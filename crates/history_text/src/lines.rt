@@ -17,7 +17,7 @@ use script_text::{SaidEvent, keep_event, said_event};
 use std::alloc::Global;
 use texts::{Fields, both, finish, need};
 
-// Reads the fields before the sign.
+// Reads the fields before `=`.
 fn event_part<'a>(
     ring: &Ring,
     names: &Names,
@@ -32,7 +32,7 @@ fn event_part<'a>(
     Ok(said)
 }
 
-// Reads the fields after the sign.
+// Reads the fields after `=`.
 fn reply_part<'a>(line: u32, fields: Option<Fields<'a>>) -> Result<SaidReply<'a>, Refusal>
     ensures { map_ok reply_of result ≡ reply_line line fields.entry }
 {
@@ -76,7 +76,7 @@ pub fn entry_line<'a>(
     judge_line(ring, names, history, fields)
 }
 
-/// Returns a read line's entry, and adds a new writer, perhaps also if it fails.
+/// Returns a read line's entry. Adds a new writer, perhaps even if it fails.
 pub fn keep_entry(
     alloc: Global,
     names: &mut Names,

@@ -15,7 +15,7 @@ use ring_names::Refusal;
 use std::alloc::Global;
 use std::io::Read;
 
-// How many bytes are searched for a front at first, and then.
+// In how many bytes a front is searched, first and then.
 const SHORT: usize = 1_048_576;
 
 const MIDDLE: usize = 16_777_216;
@@ -27,7 +27,7 @@ pub struct Opened {
     pub front: FrontText,
 }
 
-// What some first bytes have of a front.
+// Whether some first bytes have a whole front.
 #[derive(Drop)]
 enum Tried {
     Found(Opened),

@@ -1,17 +1,17 @@
-//! A part's entry in the whole.
+//! Finds a part's entry in the whole.
 
 ghost use Rattle.std.specs.Prelude.{ℕ, Bool, []};
 ghost use Rattle.ring_table.specs.Value.{RingValue};
 ghost use Rattle.history_text.specs.Place.{Finds, FindsMore};
 
-/// The whole's entry for a wanted entry of the part.
+/// The place in the whole of an entry of the part.
 #[derive(Clone, Copy, Debug)]
 pub struct Place {
-    /// The wanted entry in the part, from 0.
+    /// The entry's place in the part, from 0.
     pub wanted: u32,
     /// How many entries of the whole were read.
     pub seen: u64,
-    /// The wanted entry in the whole, from 0, if read.
+    /// The entry's place in the whole, from 0, if read.
     pub found: Option<u64>,
 }
 

@@ -1,4 +1,4 @@
-//! Reads plainly spelled entries.
+//! Fast paths for common entries.
 
 ghost use Rattle.std.specs.Prelude.{◌≡◌, ◌<◌, ◌≤◌, ◌+◌, ◌++◌, ◌∷◌, [], List, ℕ, map, length, true, false, IfSome, IfNone};
 ghost use Rattle.std.specs.Fmt.{decimal};
@@ -62,7 +62,7 @@ fn plain_reply(alloc: Global, text: &[u8]) -> Option<(Reply, &[u8])>
     Some((Reply::Answer(puts), rest))
 }
 
-// Adds the next line's entry, if plainly spelled. Returns the rest.
+// Adds the next line's entry by the fast path. Returns the rest.
 #[inline(always)]
 fn add_plain<'a>(alloc: Global, history: &mut Vec<Entry>, text: &'a [u8]) -> Option<&'a [u8]>
     ensures taken { IfSome result (λ rest. (x : Entry) × (length history.old.items < 1000000) × (history.new.items ≡ history.old.items ++ x ∷ [])
@@ -82,7 +82,7 @@ fn add_plain<'a>(alloc: Global, history: &mut Vec<Entry>, text: &'a [u8]) -> Opt
     }
 }
 
-/// Adds the next line's entry, if plainly spelled and memory suffices.
+/// Adds the next line's entry by the fast path. False if that fails.
 #[inline(always)]
 pub fn take_plain(alloc: Global, history: &mut Vec<Entry>, lines: &mut Lines) -> bool
     ensures read { result ≡ true → (ring : RingValue) (names : List (List ℕ)) → entries_from ring history.new.items names lines.new.line lines.new.lines

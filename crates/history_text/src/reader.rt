@@ -202,7 +202,7 @@ impl<'a> Reader<'a> {
         Ok(())
     }
 
-    /// Reads the whole lines of what is left and these bytes. A line of more than `MAX_INPUT` bytes is `TooLarge`.
+    /// Reads the whole lines of `left` and the following `more`. A line of more than `MAX_INPUT` bytes is `TooLarge`.
     /// Keeps the entries before a fault.
     pub fn take_some(
         &mut self,

@@ -79,8 +79,8 @@ fn read_parts(
     Ok(history)
 }
 
-/// Reads a history up to its line `end`, and leaves the rest. Adds new writers after those seen, perhaps also if it
-/// fails. Fails as `read_history`.
+/// Reads a history up to its line `end`, and leaves the rest. Adds new writers after those seen, some even if it fails.
+/// Fails as `read_history`.
 pub fn read_history_section(
     alloc: Global,
     ring: &Ring,
@@ -116,7 +116,7 @@ fn read_whole(
     Ok(history)
 }
 
-/// Reads a history from its whole text. Numbers new writers by first sight, perhaps also if it fails.
+/// Reads a history from its whole text. Numbers new writers by first mention, some even if it fails.
 ///
 /// A wrong line is `BadLine`, also without ` = ` or with fields after its reply. A node that the ring lacks is
 /// `UnknownNode`.
@@ -124,8 +124,8 @@ fn read_whole(
 /// A number above 4,294,967,295, an entry after 1,000,000, a writer after 1,024 and more than 16 gets of a put are
 /// `TooLarge`.
 ///
-/// The first faulty line decides, and its least number: 1 `BadLine`, 2 `TooLarge`, 3 `UnknownNode`. `OutOfMemory` comes
-/// last, after two lines.
+/// Returns the first faulty line's least fault: 1 `BadLine`, 2 `TooLarge`, 3 `UnknownNode`. `OutOfMemory` comes only
+/// after at least two faultless lines.
 pub fn read_history(
     alloc: Global,
     ring: &Ring,

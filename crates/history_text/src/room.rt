@@ -1,4 +1,4 @@
-//! Text kept while a replay would take it, and always counted.
+//! Counts a part's text, and keeps it while a replay would take it.
 
 ghost use Rattle.std.specs.Prelude.{◌≡◌, ◌≤◌, ◌-◌, ◌+◌, ◌++◌, ◌↔◌, ℕ, List, IsTrue, OnOk, length, min};
 ghost use Rattle.ring_table.specs.Value.{names_of};
@@ -14,7 +14,7 @@ use ring_names::Names;
 use ring_table::Ring;
 use std::alloc::AllocError;
 
-/// A part's text so far, with its bytes and entries. Dropped if a replay would not take it.
+/// A part's text so far, and its bytes and entries. Dropped once too long for a replay.
 #[derive(Drop)]
 pub struct PartText {
     pub text: Vec<u8>,

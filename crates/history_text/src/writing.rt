@@ -44,7 +44,7 @@ fn push_entries(
     Ok(())
 }
 
-/// Writes a history over the ring: `history 1`, for each entry its event, ` = ` and its reply, then `end`.
+/// Writes a history for the ring: `history 1`, for each entry its event, ` = ` and its reply, then `end`.
 pub fn push_history(
     out: &mut Vec<u8>,
     approved: &Approved,

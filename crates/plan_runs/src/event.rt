@@ -11,7 +11,7 @@ use ring_names::{Listed, NodeId, Slot, Value, WriterId};
 use std::alloc::AllocError;
 use texts::push_numbers;
 
-/// One event. Numbers name steps, puts and gets, the last two in order of start.
+/// One event. A number names a step, or a put or get in order of start.
 #[derive(Debug)]
 pub enum Event {
     /// A step other than a copy is done.
@@ -20,7 +20,7 @@ pub enum Event {
     OpenCopy(u32),
     /// The mirror gets a chunk of an open copy.
     ChunkCopy(u32, u32),
-    /// An open copy ends, all chunks marked.
+    /// An open copy ends with all chunks marked.
     CloseCopy(u32),
     /// An open copy is aborted; its chunks stay marked.
     AbortCopy(u32),
@@ -48,7 +48,7 @@ pub enum Event {
     Lose(NodeId),
 }
 
-// So crates above need not check all sixteen kinds.
+// Saves dependent crates from checking all sixteen kinds.
 impl Drop for Event {
     fn drop(self) {
         match self {
@@ -83,7 +83,7 @@ pub enum Reply {
     Plain,
     /// The new put's number.
     Put(u32),
-    /// The slot with the put, and the slot's generation.
+    /// The put's slot, and the slot's generation.
     Ticket(Slot, u32),
     /// The new get's number.
     Get(u32),
@@ -93,7 +93,6 @@ pub enum Reply {
     Answer(Listed<u32>),
 }
 
-// As for events.
 impl Drop for Reply {
     fn drop(self) {
         match self {
@@ -111,7 +110,7 @@ pub struct Entry {
 }
 
 impl Event {
-    /// Copies the event, sharing key, value and gets, without memory. Fails only at 2^64 copies.
+    /// Copies the event without taking memory: shares key, value and gets. Fails only at 2^64 copies.
     pub fn try_copy(&self) -> Result<Event, AllocError>
         ensures { IfOk result (λ event. event ≡ self.now) }
     {
@@ -148,7 +147,7 @@ fn copied_put(writer: WriterId, key: &Key, value: &Value, seen: &Seen) -> Result
 }
 
 impl Reply {
-    /// Adds the reply's text, such as `ticket 0 1 2`; an empty list is only its word.
+    /// Adds the reply's text, such as `ticket 0 1 2`; a reply without numbers is only its word.
     pub fn write_text(&self, out: &mut Vec<u8>) -> Result<(), AllocError>
         ensures { OnOk result (out.new.items ≡ out.old.items ++ reply_text self.now) }
     {

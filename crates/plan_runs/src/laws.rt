@@ -12,15 +12,15 @@ ghost use Rattle.plan_runs.specs.Causes.{puts_of, AreCausesOf, AgreeOn};
 ghost use Rattle.plan_runs.specs.Reached.{Reached};
 ghost use Rattle.plan_runs.specs.Runs.{Always, SplitAnywhere};
 
-/// Tells what every run reaches. Finished steps have finished dependencies, open copies are ready and unfinished, and
-/// only ready copies have marks.
+/// States what holds in every run. Finished steps have finished dependencies, open copies are ready and unfinished, and
+/// only ready copies have marked chunks.
 ///
-/// Nodes have puts of the slot's partition, gets found puts of their key, and the ring allows the losses.
+/// Slots have only puts of their partition, gets find only puts of their key, and the ring allows the losses.
 pub fn runs_reach()
     ensures { (ring : RingValue) (plan : List Planned) → Always ring plan (Reached ring plan) }
 {}
 
-/// A run in two parts is a run of the first, then of the second from its last world.
+/// A run can be split anywhere: the second part starts from the first's last world.
 pub fn runs_split()
     ensures { (ring : RingValue) (plan : List Planned) → SplitAnywhere ring plan }
 {}
@@ -35,7 +35,7 @@ pub fn holding_is_tested()
     ensures { (ring : RingValue) (plan : List Planned) (w : World) → IsHoldingTested ring plan w }
 {}
 
-/// A put succeeds another of its key exactly if its cause does, as in clocks. Causes see only earlier puts, as clocks
+/// A put succeeds another of its key exactly if its cause succeeds the other's. Causes see only earlier puts, as clocks
 /// require.
 pub fn succession_is_of_causes()
     ensures earlier { (w : World) (key : List ℕ) (causes : List Cause) → AreCausesOf w (puts_of w key) causes

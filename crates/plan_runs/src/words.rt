@@ -1,4 +1,4 @@
-//! The words of an event. Types keep the limits.
+//! An event's key and gets. Their types keep the limits.
 
 ghost use Rattle.std.specs.Prelude.{◌≡◌, IfOk, IfSome, is_some, true};
 ghost use Rattle.std.specs.List.{list_all};
@@ -48,7 +48,7 @@ impl Key {
         self.bytes.as_slice()
     }
 
-    /// Copies the key, sharing the bytes, without memory. Fails only at 2^64 copies.
+    /// Copies the key without taking memory. Fails only at 2^64 copies.
     pub fn try_copy(&self) -> Result<Key, AllocError>
         ensures { IfOk result (λ key. key ≡ self.now) }
     {
@@ -121,7 +121,7 @@ impl Seen {
         }
     }
 
-    /// Copies the list, sharing the numbers, without memory. Fails only at 2^64 copies.
+    /// Copies the list without taking memory. Fails only at 2^64 copies.
     pub fn try_copy(&self) -> Result<Seen, AllocError>
         ensures { IfOk result (λ seen. seen ≡ self.now) }
     {

@@ -71,9 +71,9 @@ fn read_parts(alloc: Global, kind: Kind, lines: &mut Lines) -> Result<Bundle, Re
     })
 }
 
-/// Reads a bundle of that kind, which must end there. Numbers writers by first sight.
+/// Reads a whole bundle of that kind. Numbers writers by first mention.
 ///
-/// The first faulty line decides. `OutOfMemory` comes only after the ring's first four lines.
+/// Fails at the first faulty line. `OutOfMemory` comes only after the ring's first four lines.
 pub fn read_bundle(alloc: Global, kind: Kind, bytes: &[u8]) -> Result<Bundle, Refusal>
     ensures read { Gives result (whole_text (bundle_at kind) bytes.now) }
     ensures parts { IfOk result IsOfRing }

@@ -183,7 +183,7 @@ pub fn play(alloc: Global, approved: &Approved, script: &Script) -> Result<Vec<u
     played(alloc, approved.ring(), &mut world, script.events())
 }
 
-/// Plays a given script: frees each event's memory once it happened, for the store.
+/// Plays an owned script: frees each event's memory after the event, for the store.
 ///
 /// If the program `ends` afterwards, leaves the store's memory to the system. Freeing what a million events left takes
 /// a fifth of the play's time.

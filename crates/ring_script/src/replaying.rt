@@ -26,7 +26,7 @@ fn write_owners(alloc: Global, ring: &Ring, rows: &[Listed<NodeId>]) -> Result<V
     Ok(out)
 }
 
-/// Returns a replay's output at this store: `yes`, each partition's line of owners, and `end`.
+/// Returns a finished replay's output: `yes`, each partition's line of owners, and `end`.
 pub fn write_ending(alloc: Global, ring: &Ring, world: &World) -> Result<Vec<u8>, Refusal>
     requires { ring_of world.now ≡ ring.now }
     ensures text { IfOk result
@@ -57,13 +57,12 @@ fn replayed(
     write_ending(alloc, approved.ring(), world)
 }
 
-/// Replays the history, if a run of the plan. Returns `yes`, each partition's line of owners after the last entry, and
-/// `end`.
+/// Replays the history. Returns `yes`, each partition's line of owners after the last entry, and `end`.
 ///
-/// Otherwise fails with `Mismatch`: the place, from 0, of the first entry refused or with another reply. Its second
-/// number is that refusal's, or 0.
+/// Fails with `Mismatch` at the first entry, by place from 0, that is refused or has another reply. The second number
+/// is that refusal's, or 0.
 ///
-/// Memory may run out at any entry. Each entry's memory is freed once followed. If the program `ends` afterwards,
+/// Memory may run out at any entry. Each entry's memory is freed after the entry. If the program `ends` afterwards,
 /// leaves the store's memory to the system.
 pub fn replay_history(
     alloc: Global,

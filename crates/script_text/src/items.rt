@@ -94,7 +94,7 @@ fn known<'a>(fields: &Fields, row: NumberRow<'a>) -> Result<SeenRow<'a>, Refusal
     Ok(SeenRow::of(row))
 }
 
-// Perhaps `seen` and the numbers after it.
+// Takes `seen` and the numbers after it, if any.
 #[tactic(auto, unfolding(crate::specs::Reading::seen_at))]
 fn seen<'a>(fields: &mut Fields<'a>) -> Result<SeenRow<'a>, Refusal>
     ensures { Does seen_at fields.old result fields.new }
@@ -109,7 +109,7 @@ fn seen<'a>(fields: &mut Fields<'a>) -> Result<SeenRow<'a>, Refusal>
     Err(Refusal::BadLine(fields.line()))
 }
 
-/// Takes a put's fields: writer, key, value, and the gets that it knows.
+/// Takes a put's fields: writer, key, value, and the gets that the put knows.
 #[tactic(auto, unfolding(crate::specs::Reading::put_at))]
 pub fn put<'a>(names: &Names, fields: &mut Fields<'a>) -> Result<SaidPut<'a>, Refusal>
     ensures { Does (put_at names.now) fields.old result fields.new }

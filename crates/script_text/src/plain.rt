@@ -1,4 +1,4 @@
-//! Reads plainly spelled events.
+//! Fast paths for common events.
 
 ghost use Rattle.std.specs.Prelude.{◌≡◌, ◌++◌, ◌∷◌, List, ℕ, IfSome};
 ghost use Rattle.std.specs.Fmt.{decimal};

@@ -39,7 +39,7 @@ fn judge_line<'a>(
     Ok(said)
 }
 
-// The line's event, if the speaker may say it.
+// Reads the line's event, if the speaker may say it.
 fn event_line<'a>(
     may: bool,
     ring: &Ring,
@@ -99,8 +99,8 @@ fn read_parts(
     Ok(script)
 }
 
-/// Reads a script up to its line `end`, and leaves the rest. Adds new writers after those seen, perhaps also if it
-/// fails. Fails as `read_script`.
+/// Reads a script up to its line `end`, and leaves the rest. Adds new writers after those seen, some even if it fails.
+/// Fails as `read_script`.
 pub fn read_script_section(
     alloc: Global,
     ring: &Ring,
@@ -148,10 +148,10 @@ fn read_whole(
     Ok(script)
 }
 
-/// Reads a script from its whole text. Numbers new writers by first sight, perhaps also if it fails.
+/// Reads a script from its whole text. Numbers new writers by first mention, some even if it fails.
 ///
-/// The first faulty line decides, and its least number: 1 `BadLine`, 2 `TooLarge`, 3 `UnknownNode`. `OutOfMemory` comes
-/// last, after two lines.
+/// Returns the first faulty line's least fault: 1 `BadLine`, 2 `TooLarge`, 3 `UnknownNode`. `OutOfMemory` comes only
+/// after at least two faultless lines.
 pub fn read_script(
     alloc: Global,
     ring: &Ring,

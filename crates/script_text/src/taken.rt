@@ -40,7 +40,7 @@ fn to_put(alloc: Global, names: &mut Names, put: SaidPut) -> Result<Event, Refus
     Ok(Event::StartPut(writer, key, value, seen))
 }
 
-/// Returns a line's event, and adds a new writer, perhaps also if it fails.
+/// Returns a line's event. Adds a new writer, perhaps even if it fails.
 #[inline(always)]
 pub fn keep_event(alloc: Global, names: &mut Names, said: SaidEvent) -> Result<Event, Refusal>
     requires { Fits names.old said }

@@ -87,7 +87,7 @@ fn digit_value(digit: u8) -> u8
     }
 }
 
-// Whether each byte is a digit. Looks at all: the processor may take many at a time.
+// Whether each byte is a digit. Looks at all bytes: the processor may take many at a time.
 fn are_digits(bytes: &[u8]) -> bool
     ensures { result ≡ list_all is_digit bytes.now }
 {

@@ -163,7 +163,7 @@ fn push_lines(
     Ok(())
 }
 
-/// Writes a script over the ring, with writers by number.
+/// Writes a script for the ring and its writers' names.
 pub fn write_script(
     alloc: Global,
     ring: &Ring,
