@@ -5,7 +5,7 @@ ghost use Rattle.std.specs.Prelude.{◌≡◌, []};
 use ring_names::Listed;
 use std::alloc::Global;
 
-/// A fact on a node or a partition. Nodes are names: a ring may lack them.
+/// A fact on a node or a partition. Nodes are given by name: a ring may lack them.
 #[derive(Debug, Drop)]
 pub enum Fact {
     /// A node's rack.

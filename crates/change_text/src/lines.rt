@@ -47,7 +47,7 @@ fn judge_join(ring: &Ring, draft: &Draft, mut fields: Fields) -> Result<NodeId, 
     Ok(node)
 }
 
-/// Judges a join's line, after the draft's.
+/// Reads a join's line, after the draft's.
 pub fn join_line(ring: &Ring, draft: &Draft, fields: Fields) -> Result<NodeId, Refusal>
     requires { draft.now.leaves ≡ [] }
     ensures value { result ≡ join_at ring.now draft.now.joins fields.entry.number fields.entry.fields }
@@ -70,7 +70,7 @@ fn judge_leave(ring: &Ring, draft: &Draft, mut fields: Fields) -> Result<NodeId,
     Ok(node)
 }
 
-/// Judges a leave's line, after the draft's.
+/// Reads a leave's line, after the draft's.
 pub fn leave_line(ring: &Ring, draft: &Draft, fields: Fields) -> Result<NodeId, Refusal>
     ensures value { result
         ≡ leave_at ring.now draft.now.joins draft.now.leaves fields.entry.number fields.entry.fields }

@@ -11,7 +11,7 @@ pub enum RackRule {
     Auto,
     /// No source.
     Off,
-    /// What follows the last such byte of a node's name.
+    /// The rack follows the last such byte of a node's name.
     Behind(u8),
 }
 

@@ -1,4 +1,4 @@
-//! A ring and a change of its members, in one text.
+//! A ring and a change, in one text.
 
 ghost use Rattle.std.specs.Prelude.{◌≡◌, IfOk, IfErr};
 ghost use Rattle.ring_names.specs.declared.refusal.Refusal.TheVariants.{OutOfMemory};

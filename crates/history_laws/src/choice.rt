@@ -17,7 +17,7 @@ fn is_chosen(choice: Choice, partition: u32) -> bool
     }
 }
 
-/// Returns whether each partition is chosen.
+/// Returns for each partition whether it is chosen.
 pub fn mark_chosen(alloc: Global, choice: Choice, partitions: u32) -> Result<Vec<bool>, AllocError>
     requires { IsChoice choice }
     ensures { IfOk result (λ marks. (p : ℕ) → p < partitions → is_marked marks.items p ≡ is_chosen choice p) }

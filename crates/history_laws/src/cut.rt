@@ -141,7 +141,7 @@ impl<'a> Cut<'a> {
         }
     }
 
-    /// Returns the entry as the part has it, if it does. Cuts no more after an error.
+    /// Returns the entry as the part has it, if it does. Not usable after an error.
     pub fn entry(&mut self, alloc: Global, entry: &Entry) -> Result<Option<Entry>, AllocError>
         requires puts { length self.now.puts < 4294967295 }
         requires gets { length self.now.gets < 4294967295 }
@@ -160,8 +160,8 @@ impl<'a> Cut<'a> {
     }
 }
 
-/// Returns the part that these partitions see: all of steps, copies and nodes, and their own puts, gets and handoffs.
-/// Renumbers puts and gets.
+/// Returns the part that these partitions see: all entries of steps, copies and nodes, and of their own puts, gets and
+/// handoffs. Renumbers puts and gets.
 pub fn part(
     alloc: Global,
     ring: &Ring,

@@ -7,7 +7,7 @@ ghost use Rattle.history_laws.specs.Parts.{is_of_part, number_in, renumbered, al
 use std::alloc::{AllocError, Global};
 use std::marker::Model;
 
-/// The numbers in a part of the puts or gets so far: eight bytes each.
+/// Numbers that puts or gets have in a part: eight bytes each.
 #[derive(Drop)]
 pub struct Marks {
     numbers: Vec<Option<u32>>,

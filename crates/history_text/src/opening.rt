@@ -1,4 +1,4 @@
-//! An input's first bytes, and their front.
+//! Opens an input.
 
 ghost use Rattle.std.specs.Prelude.{◌≡◌, ◌≢◌, true, ℕ, List, IfOk, IfErr, Err};
 ghost use Rattle.ring_names.specs.declared.refusal.Refusal.TheVariants.{OutOfMemory, ReadFailed};
@@ -15,7 +15,7 @@ use ring_names::Refusal;
 use std::alloc::Global;
 use std::io::Read;
 
-// In how many bytes a front is searched, first and then.
+// How many bytes are searched for a front: first these, then `MIDDLE`.
 const SHORT: usize = 1_048_576;
 
 const MIDDLE: usize = 16_777_216;

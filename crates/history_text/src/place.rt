@@ -4,7 +4,7 @@ ghost use Rattle.std.specs.Prelude.{ℕ, Bool, []};
 ghost use Rattle.ring_table.specs.Value.{RingValue};
 ghost use Rattle.history_text.specs.Place.{Finds, FindsMore};
 
-/// The place in the whole of an entry of the part.
+/// The place of the part's wanted entry in the whole.
 #[derive(Clone, Copy, Debug)]
 pub struct Place {
     /// The entry's place in the part, from 0.

@@ -38,7 +38,7 @@ fn plain_puts(alloc: Global, text: &[u8]) -> Option<(Listed<u32>, &[u8])>
     Some((Listed::from_vec(puts), rest))
 }
 
-// Reads a reply that does not start a put or a get, and returns the rest.
+// Reads a reply that is not a new put's or get's number, and returns the rest.
 #[inline(always)]
 fn plain_reply(alloc: Global, text: &[u8]) -> Option<(Reply, &[u8])>
     ensures text { IfSome result (λ x. text.now ≡ reply_text x.0 ++ x.1.now) }

@@ -13,7 +13,7 @@ use ring_table::{NodeSide, Ring, Side};
 #[derive(Debug, Drop)]
 pub struct Chain {
     pub node: NodeId,
-    /// The node's side whose copies these are.
+    /// The node's side on which the copies count.
     pub side: Side,
     pub steps: Listed<u32>,
 }
@@ -72,7 +72,8 @@ fn are_chains(ring: &Ring, chains: &Chains) -> bool
 impl Cert {
     /// Whether the certificate has a text in the ring's format.
     ///
-    /// At most 262,144 facts of 2 to 1,024 steps. At most 65,536 chains, none empty, each on a side of its node.
+    /// It has at most 262,144 facts of 2 to 1,024 steps. It has at most 65,536 chains, none empty, each on a side of
+    /// its node.
     pub fn suits(&self, ring: &Ring) -> bool
         ensures { IsTrue result ↔ Suits ring.now self.now }
     {

@@ -58,7 +58,7 @@ fn judge_fact<'a>(seen: &Rows, mut fields: Fields<'a>) -> Result<NumberRow<'a>, 
     Ok(path)
 }
 
-/// Judges a fact's line, which comes after the `seen` facts.
+/// Reads a fact's line, which comes after the `seen` facts.
 pub fn fact_line<'a>(seen: &Rows, fields: Fields<'a>) -> Result<NumberRow<'a>, Refusal>
     ensures value { result ≡ fact_at seen.now fields.entry.number fields.entry.fields }
     ensures small { IfOk result (λ path. are_small path ≡ true) }
@@ -102,7 +102,7 @@ fn side(fields: &mut Fields) -> Result<Side, Refusal>
     }
 }
 
-// Takes that word and a declared node.
+// Takes a side's word and a declared node.
 fn side_node(
     ring: &Ring,
     likely: Option<NodeId>,
@@ -148,7 +148,7 @@ fn judge_chain<'a>(
     Ok(ChainLine { of, steps })
 }
 
-/// Judges a chain's line, which comes after the `seen` chains.
+/// Reads a chain's line, which comes after the `seen` chains.
 pub fn chain_line<'a>(
     ring: &Ring,
     seen: &Chains,

@@ -4,7 +4,7 @@ ghost use Rattle.std.specs.Prelude.{ℕ, IsTrue, IsFalse};
 
 use std::sync::Wait;
 
-/// A gate before pieces of work, named by marks.
+/// A gate before pieces of work, which marks name.
 ///
 /// It may hold a worker until others have come as far, up to a limit. So tests show that threads overlap.
 pub trait Gate {

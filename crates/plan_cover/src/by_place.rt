@@ -8,7 +8,7 @@ use ring_names::Refusal;
 use ring_table::Side;
 use std::alloc::Global;
 
-// A list's first room, in values.
+// A list's first capacity, in values.
 const FIRST: usize = 16;
 
 /// Returns the place of a node's or step's number on a side.

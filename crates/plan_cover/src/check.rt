@@ -53,7 +53,7 @@ pub fn check_node(
 
 /// Tests each node's clauses, by number. Fails with the first refusal.
 ///
-/// Costs a pass over plan and chains, and one over each node's own.
+/// Costs a pass over plan and chains, and one over each node's copies and chains.
 pub fn check_nodes(
     alloc: Global,
     ring: &Ring,

@@ -33,7 +33,7 @@ pub fn add_copy(
     }
 }
 
-// The node's side that counts copies taken, or given.
+// The node's side that counts `part`, if any.
 fn side_of(ring: &Ring, node: NodeId, part: Side) -> Option<Side>
     ensures { (s : OneSide) → (has_side ring.now node s && counts s part) ≡ is_some_side result s }
 {

@@ -28,7 +28,7 @@ pub struct Cover {
 }
 
 impl Cover {
-    /// Lists both in a pass over plan and chains.
+    /// Makes the lists in a pass over plan and chains.
     pub fn of(alloc: Global, ring: &Ring, plan: &Plan, cert: &Cert) -> Result<Cover, Refusal>
         requires { Suits ring.now plan.now }
         ensures ok { IfOk result (λ a. IsCover ring.now plan.now cert.now a) }

@@ -43,7 +43,7 @@ fn number_of(place: usize) -> u32
     place.min(4294967295) as u32
 }
 
-// The side of the numbered chain.
+// Returns the side of chain `number`.
 pub fn side_at(chains: &Chains, number: usize) -> Side
     ensures { result ≡ side_at chains.now number }
 {

@@ -1,4 +1,4 @@
-//! Each slot's servers after a plan's first steps.
+//! Each slot's servers during a plan.
 
 ghost use Rattle.std.specs.Prelude.{◌≡◌, ◌<◌, Some, None, true, unwrap_or, length, IfErr, IfOk, if◌then◌else◌};
 ghost use Rattle.ring_names.specs.declared.ids.Slot.{Slot as TheSlot};

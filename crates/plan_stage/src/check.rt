@@ -123,7 +123,7 @@ fn check_numbers(
     Ok(())
 }
 
-/// Returns a slot's stage after its first `k` steps, or all.
+/// Returns a slot's stage after its first `k` steps, or all if fewer.
 pub fn stage_at(
     alloc: Global,
     ring: &Ring,

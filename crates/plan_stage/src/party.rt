@@ -18,7 +18,7 @@ use ring_table::{Ring, Side};
 use std::alloc::Global;
 use std::collections::BTreeSet;
 
-/// Returns a copy's nodes by number: the mirror, and the sources' owners just before. None for another step.
+/// Returns a copy's nodes by number: the mirror, and the sources' owners just before it. Empty for another step.
 pub fn parties(
     alloc: Global,
     ring: &Ring,
@@ -32,7 +32,7 @@ pub fn parties(
     parties_on(alloc, ring, plan, Side::Both, step)
 }
 
-/// Returns the owners of a copy's sources just before, by number. None for another step.
+/// Returns the owners of a copy's sources just before it, by number. Empty for another step.
 pub fn sources(
     alloc: Global,
     ring: &Ring,

@@ -12,7 +12,7 @@ use ring_names::{Refusal, Slot};
 use ring_table::Ring;
 use texts::{Fields, NumberRow, both};
 
-// Judges a row of slot indexes, each below n.
+// Checks a row of slot indexes, each below n.
 fn indexes(n: u32, fields: &Fields, row: &NumberRow) -> Result<Indexes, Refusal>
     requires { n ≤ 7 }
     ensures { result ≡ judge_indexes n fields.now.number row.now }

@@ -165,9 +165,7 @@ impl Plan {
         self.index.is_retired(node)
     }
 
-    /// Whether the plan suits the ring.
-    ///
-    /// Its nodes and slots are the ring's, no member joins, and no node joins or retires twice.
+    /// Whether the plan's nodes and slots are the ring's, no member joins, and no node joins or retires twice.
     pub fn suits(&self, ring: &Ring) -> bool
         ensures { IsTrue result ↔ Suits ring.now self.now }
     {

@@ -17,7 +17,7 @@ use ring_table::{Ring, push_name};
 use std::alloc::{AllocError, Global};
 use texts::push_numbers;
 
-// Writes ` <p> <i>`.
+// ` <p> <i>`
 fn push_slot(out: &mut Vec<u8>, slot: Slot) -> Result<(), AllocError>
     ensures { OnOk result (out.new.items ≡ out.old.items ++ spaced (slot_fields slot)) }
 {

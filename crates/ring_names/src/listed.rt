@@ -44,7 +44,7 @@ impl<T> Listed<T> {
 }
 
 impl<T: Drop> Listed<T> {
-    /// Adds the item. The first takes memory for 12.
+    /// Adds the item. The first item takes memory for 12.
     pub fn push(&mut self, item: T) -> Result<(), Refusal>
         ensures ok { OnOk result (self.new ≡ self.old ++ item ∷ []) }
         ensures err { OnErr result (self.new ≡ self.old) }

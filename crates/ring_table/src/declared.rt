@@ -142,7 +142,7 @@ impl Declared {
         self.nodes.is_empty()
     }
 
-    // Judges a node line.
+    // Reads a node line.
     #[tactic(auto, unfolding(crate::specs::Reading::node_at))]
     fn judge<'a>(&self, format: u32, mut fields: Fields<'a>) -> Result<NodeLine<'a>, Refusal>
         ensures value { map_ok node_of result ≡ node_at format self.now fields.entry.number fields.entry.fields }

@@ -163,7 +163,7 @@ fn push_lines(
     Ok(())
 }
 
-/// Writes a script for the ring and its writers' names.
+/// Writes a script. The ring and `writers` give the names.
 pub fn write_script(
     alloc: Global,
     ring: &Ring,

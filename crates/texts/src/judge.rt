@@ -54,7 +54,7 @@ pub fn finish<A: Drop>(item: Result<A, Refusal>, fields: Fields) -> Result<A, Re
     }
 }
 
-/// Returns the last two values, or the least fault of all three and of fields left.
+/// Returns the last two values, or the least fault. A field that is left is a fault too.
 #[tactic(auto, unfolding(crate::specs::Judging::both_of))]
 pub fn finish_both<Z: Drop, A: Drop, B: Drop>(
     before: Result<Z, Refusal>,

@@ -43,7 +43,7 @@ fn capped_value(digits: &[u8]) -> u64
     value
 }
 
-// Returns the value, at most `CAP`. Up to 9 digits, it is `short`.
+// Returns the value, at most `CAP`: `short` if there are at most 9 digits.
 #[inline(always)]
 fn value_of(digits: &[u8], short: u64) -> u64
     requires digits { all_ascii_digits digits.now ≡ true }

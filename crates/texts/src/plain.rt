@@ -1,4 +1,4 @@
-//! Fast paths: read common spellings without cutting lines into fields.
+//! Fast paths, which read common spellings without cutting lines into fields.
 //!
 //! On `None`, the caller reads the line by fields, to name a fault.
 
