@@ -76,6 +76,13 @@ fn read_history<R: Read + Drop>(
     Err(Refusal::ReadFailed)
 }
 
+// The partitions of a part, and its entry whose place in the whole is asked for.
+#[derive(Clone, Copy)]
+struct PartChoice {
+    choice: Choice,
+    entry: u32,
+}
+
 #[derive(Drop)]
 struct Unended {
     text: PartText,
@@ -84,18 +91,17 @@ struct Unended {
 
 fn cut_history<R: Read + Drop>(
     alloc: Global,
-    choice: Choice,
-    wanted: u32,
+    wanted: PartChoice,
     front: FrontText,
     first: Vec<u8>,
     input: &mut R,
 ) -> Result<Unended, Refusal>
-    requires choice { IsChoice choice }
+    requires choice { IsChoice wanted.choice }
     requires valid { IsRing front.ring }
-    ensures { (more : List ℕ) × Tells (R.remaining input.old) more × CutsRest choice wanted front (first.items ++ more) result }
+    ensures { (more : List ℕ) × Tells (R.remaining input.old) more × CutsRest wanted.choice wanted.entry front (first.items ++ more) result }
 {
     let FrontText { ring, text, line } = front;
-    let marks = mark_chosen(alloc, choice, ring.q())?;
+    let marks = mark_chosen(alloc, wanted.choice, ring.q())?;
     let mut part = PartText::of(text);
     part.push_text(b"history 1\n")?;
     let mut cutter = Cutter {
@@ -103,7 +109,7 @@ fn cut_history<R: Read + Drop>(
         kept: Kept {
             cut: Cut::new(alloc, &ring, marks.as_slice()),
             part,
-            place: Place::of(wanted),
+            place: Place::of(wanted.entry),
         },
     };
     read_history(alloc, &mut cutter, first, input)?;
@@ -116,17 +122,16 @@ fn cut_history<R: Read + Drop>(
 
 fn read_part<R: Read + Drop>(
     alloc: Global,
-    choice: Choice,
-    wanted: u32,
+    wanted: PartChoice,
     input: &mut R,
 ) -> Result<Unended, Refusal>
-    requires { IsChoice choice }
-    ensures { (bytes : List ℕ) × Tells (R.remaining input.old) bytes × CutsAll choice wanted bytes result }
+    requires { IsChoice wanted.choice }
+    ensures { (bytes : List ℕ) × Tells (R.remaining input.old) bytes × CutsAll wanted.choice wanted.entry bytes result }
 {
     let Opened { head, front } = open(alloc, input)?;
     let first = Vec::from_slice(alloc, &head.bytes.as_slice()[front.text.len()..])?;
     drop(head);
-    cut_history(alloc, choice, wanted, front, first, input)
+    cut_history(alloc, wanted, front, first, input)
 }
 
 fn end_part(unended: Unended) -> Result<Part, NoPart>
@@ -175,7 +180,8 @@ pub fn cut_stream<R: Read + Drop>(
     requires { IsChoice choice }
     ensures { (bytes : List ℕ) × Tells (R.remaining input.old) bytes × IsCut choice wanted bytes result }
 {
-    match read_part(alloc, choice, wanted, input) {
+    let entry = wanted;
+    match read_part(alloc, PartChoice { choice, entry }, input) {
         Ok(part) => end_part(part),
         Err(refusal) => Err(NoPart::Refused(refusal)),
     }
