@@ -75,18 +75,17 @@ fn are_before(places: &[Place], window: u32, steps: &[u32]) -> bool
 fn waits_alike(
     alloc: Global,
     plan: &Plan,
-    pieces: &Pieces,
+    places: &[Place],
     step: u32,
     piece: &Plan,
-    place: Place,
 ) -> Result<bool, Refusal>
     requires step { step < length plan.now }
-    requires number { place.number < length piece.now }
+    requires number { number_by places.now step < length piece.now }
     ensures { IfOk result (λ is. IsTrue is
-        → (waits_of piece.now place.number ≡ waits_in (window_by pieces.now.places.items) (number_by pieces.now.places.items) place.window (waits_of plan.now step))
-        × (list_all (λ d. nat_le (window_by pieces.now.places.items d) place.window) (waits_of plan.now step) ≡ true)) }
+        → (waits_of piece.now (number_by places.now step) ≡ waits_in (window_by places.now) (number_by places.now) (window_by places.now step) (waits_of plan.now step))
+        × (list_all (λ d. nat_le (window_by places.now d) (window_by places.now step)) (waits_of plan.now step) ≡ true)) }
 {
-    let places = pieces.places.as_slice();
+    let place = place_of(places, step);
     let waits = plan.deps(step);
     let there = waits_in(alloc, places, place.window, waits)?;
     Ok(piece.deps(place.number) == there.as_slice() && are_before(places, place.window, waits))
@@ -97,14 +96,15 @@ fn is_placed(alloc: Global, plan: &Plan, pieces: &Pieces, step: u32) -> Result<b
     ensures { IfOk result (λ is. IsTrue is
         → IsPlaced plan.now pieces.now.plans.items (window_by pieces.now.places.items) (number_by pieces.now.places.items) step) }
 {
-    let place = place_of(pieces.places.as_slice(), step);
+    let places = pieces.places.as_slice();
+    let place = place_of(places, step);
     let Some(piece) = pieces.plans.get(place.window as usize) else {
         return Ok(false);
     };
     if place.number >= piece.len() || !have_same(plan, piece, step, place.number) {
         return Ok(false);
     }
-    waits_alike(alloc, plan, pieces, step, piece, place)
+    waits_alike(alloc, plan, places, step, piece)
 }
 
 fn step_by(steps: &[Vec<u32>], place: Place) -> Option<u32>

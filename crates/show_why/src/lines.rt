@@ -30,11 +30,15 @@ pub fn bad_line(alloc: Global, said: &mut Said, page: Page, number: u32) -> Resu
     if tell_spacing(line, said) {
         return Ok(());
     }
+    tell_form(alloc, said, line)
+}
+
+fn tell_form(alloc: Global, said: &mut Said, line: Line) -> Result<(), Refusal> {
     if line.part == Part::Behind {
         tell_more(line, said);
         return Ok(());
     }
-    if number == line.start {
+    if line.number == line.start {
         return tell_first(alloc, line, said);
     }
     if begins_next(line) {
