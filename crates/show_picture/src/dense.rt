@@ -193,10 +193,7 @@ impl CopyGrid {
         let left = words.min(BROAD).saturating_add(MARGIN + 12);
         let columns = small(tally.columns).max(1);
         let room = (WIDE - PANEL).saturating_sub(left);
-        let column = match room.checked_div(columns) {
-            Some(column) => column.min(150).max(6),
-            None => 6,
-        };
+        let column = room.checked_div(columns).unwrap_or(6).min(150).max(6);
         let right = left.saturating_add(column.saturating_mul(columns));
         let rows = small(bands.bands.len());
         let row = match (sheet.volumes, rows) {
