@@ -1,4 +1,4 @@
-//! One group's entries, which clocks share.
+//! Blocks: one group's entries, which clocks share.
 
 ghost use Rattle.std.specs.Prelude.{◌≡◌, ◌↔◌, ◌*◌, ◌<◌, ◌≤◌, ◌∷◌, ◌++◌, [], ℕ, true, false, IsTrue, IfOk, OnOk, OnErr, max};
 ghost use Rattle.ring_clock.specs.Clock.{IsClock, IsAtMost, counter};
@@ -15,17 +15,17 @@ use std::marker::Model;
 use std::slice;
 use std::sync::Arc;
 
-// From so many 16-byte entries on, 260 bytes for all are not more.
+// 17 entries of 16 bytes take more than a full block's 260 bytes.
 const MANY: usize = 17;
 
-/// Returns a writer's group: 64 consecutive writers.
+/// Returns the number of the writer's group of 64.
 pub fn group_of(writer: WriterId) -> u32
     ensures { result ≡ group writer.0 }
 {
     writer.0 / GROUP
 }
 
-/// A few entries, or all counters. One entry, as of a put without a get, is inline.
+/// A few entries, or all 64 counters. One entry, the clock of a put without a get, is inline.
 #[derive(Drop)]
 pub enum Form {
     One(Entry),
@@ -51,7 +51,8 @@ impl Form {
         }
     }
 
-    // Raises the counters in place. Returns false if not full or if a counter is too great.
+    // Raises a full form to the other's counters, in place. Returns false if it is not full, or a counter is 2^31 or
+    // more.
     fn raise(&mut self, other: &Form) -> bool
         requires first { IsBlock (entries_in self.old) }
         requires second { IsBlock (entries_in other.now) }
@@ -71,7 +72,7 @@ impl Form {
     }
 }
 
-/// Entries of one group, shared by copies.
+/// One group's entries. Copies share them.
 #[derive(Drop)]
 pub struct Block {
     shared: Arc<Form>,
@@ -185,7 +186,7 @@ impl Block {
         }
     }
 
-    /// Whether each counter is at most the other's, of any group. Fast if both are full, as usual.
+    /// Whether each counter is at most the other's. The groups may differ. Fast if both are full, the usual case.
     pub fn passes(&self, other: &Block) -> bool
         requires first { IsBlock self.now }
         requires second { IsBlock other.now }
@@ -199,7 +200,7 @@ impl Block {
         self.group() == other.group() && self.is_at_most(other)
     }
 
-    /// Returns the greater counters. Costs the entries of both, and memory only if neither is at most the other.
+    /// Joins the blocks: each writer's greater counter. Reads both; takes memory only if neither is at most the other.
     pub fn join(&self, alloc: Global, other: &Block) -> Result<Block, AllocError>
         requires first { IsBlock self.now }
         requires second { IsBlock other.now }
@@ -221,7 +222,7 @@ impl Block {
         }
     }
 
-    // Raises the counters in place. Returns false if shared, not full, or if a counter is too great.
+    // Raises the block in place. Returns false if it is shared or not full, or a counter is 2^31 or more.
     fn raise_here(&mut self, other: &Block) -> bool
         requires first { IsBlock self.old }
         requires second { IsBlock other.now }
@@ -235,9 +236,9 @@ impl Block {
         }
     }
 
-    /// Raises the counters to the other's. Costs the entries of both.
+    /// Raises the counters to the other's. Reads the entries of both.
     ///
-    /// Takes memory as `join`, but none if full and unshared, and if each counter fits.
+    /// Takes memory as `join` does, but none if the block is full and unshared and each counter fits.
     pub fn raise(&mut self, alloc: Global, other: &Block) -> Result<(), AllocError>
         requires first { IsBlock self.old }
         requires second { IsBlock other.now }
@@ -252,9 +253,9 @@ impl Block {
         Ok(())
     }
 
-    /// Merges entries into a new block. Costs the entries of both.
+    /// Merges entries into a new block. Reads the entries of both.
     ///
-    /// Takes 260 bytes if full, or 16 for each entry if some counter is too great.
+    /// Takes 260 bytes for a full block, otherwise 16 for each entry.
     pub fn merge(&self, alloc: Global, entries: &[Entry]) -> Result<Block, AllocError>
         requires first { IsBlock self.now }
         requires second { IsBlock entries.now }

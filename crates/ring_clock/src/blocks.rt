@@ -13,7 +13,7 @@ use std::alloc::{AllocError, Global};
 use std::slice;
 use std::sync::Arc;
 
-/// Blocks by group. One is inline, more are shared.
+/// Blocks by group. One block is inline; several are in a shared list.
 #[derive(Drop)]
 pub enum Blocks {
     Empty,
@@ -72,7 +72,7 @@ fn place_of(blocks: &[Block], group: u32) -> Option<usize>
 
 /// Returns the block of a group.
 ///
-/// Costs the logarithm of the blocks, or one look if all lesser groups have blocks or all other blocks are lesser.
+/// Costs a binary search, or one look if all lesser groups have blocks or no block's group is greater.
 pub fn block_of(blocks: &[Block], group: u32) -> Option<&Block>
     requires { AreBlocks blocks.now }
     ensures some { IfSome result (λ b. IsBlockFor group (entries_of blocks.now) b.now) }
@@ -82,7 +82,7 @@ pub fn block_of(blocks: &[Block], group: u32) -> Option<&Block>
     Some(&blocks[place])
 }
 
-/// Returns the writer's counter, or 0. Costs `block_of` and the logarithm of the block's entries.
+/// Returns the writer's counter, or 0. Costs `block_of` and a binary search of the block.
 pub fn counter_in(blocks: &[Block], writer: WriterId) -> u64
     requires { AreBlocks blocks.now }
     ensures { result ≡ counter (entries_of blocks.now) writer.0 }
@@ -109,7 +109,7 @@ fn is_reached(block: &Block, blocks: &[Block]) -> bool
     }
 }
 
-// Compares all groups but `but`. Reads only blocks of common groups.
+// Whether each counter of `first` is at most the second's, except in group `but`. Reads only common groups.
 fn are_reached(but: Option<u32>, first: &[Block], second: &[Block]) -> bool
     requires first { AreBlocks first.now }
     requires second { AreBlocks second.now }
@@ -125,10 +125,10 @@ fn are_reached(but: Option<u32>, first: &[Block], second: &[Block]) -> bool
     true
 }
 
-/// Whether each counter is at most the second's.
+/// Whether each counter of `first` is at most the second's.
 ///
-/// Costs the entries of common groups. A block of the first costs a look, or the logarithm of the second's blocks if
-/// those lack lesser groups.
+/// Reads the entries of common groups. Finds a block of `first` in `second` at one look, or by a binary search if
+/// `second` lacks lesser groups.
 pub fn are_at_most(first: &[Block], second: &[Block]) -> bool
     requires first { AreBlocks first.now }
     requires second { AreBlocks second.now }
@@ -140,7 +140,7 @@ pub fn are_at_most(first: &[Block], second: &[Block]) -> bool
     }
 }
 
-// Takes the least group's block. Joins two.
+// Takes the least group's block. If both lists have one, joins the two.
 fn take_joined<'a>(
     alloc: Global,
     first: &mut &'a [Block],
@@ -202,9 +202,9 @@ fn push_joined(
     Ok(())
 }
 
-/// Returns the greater counters. Costs the blocks and the entries of common groups.
+/// Joins two lists: each writer's greater counter. Reads the blocks, and the entries of common groups.
 ///
-/// Takes memory for a list of several blocks, and for each block greater than both.
+/// Takes memory for a list of several blocks, and for each joined block that equals neither.
 pub fn joined(alloc: Global, first: &[Block], second: &[Block]) -> Result<Blocks, AllocError>
     requires first { AreBlocks first.now }
     requires second { AreBlocks second.now }
@@ -226,7 +226,8 @@ pub fn joined(alloc: Global, first: &[Block], second: &[Block]) -> Result<Blocks
     }
 }
 
-/// Raises the writer's counter to the entry's. Remakes its group's block, and a list of several.
+/// Returns the blocks with the writer's counter raised to the entry's. Remakes the writer's block, and a list of
+/// several.
 pub fn raised(alloc: Global, blocks: &[Block], entry: Entry) -> Result<Blocks, AllocError>
     requires valid { AreBlocks blocks.now }
     requires some { 0 < entry.counter }
@@ -245,10 +246,9 @@ pub fn raised(alloc: Global, blocks: &[Block], entry: Entry) -> Result<Blocks, A
     }
 }
 
-/// Raises one group's block in place, if both have it. Returns whether the others are reached; otherwise changes
-/// nothing.
+/// Raises one group's block in place, if both have it and `others` is greater only there. Otherwise returns false.
 ///
-/// Costs both clocks' blocks, and memory only for that block, if shared or with few entries.
+/// Reads both lists' blocks. Takes memory only for that block, if shared or not full.
 pub fn raise_one(
     alloc: Global,
     blocks: &mut Vec<Block>,
@@ -276,7 +276,7 @@ pub fn raise_one(
     Ok(true)
 }
 
-/// Lists the entries. Costs their number, also in memory.
+/// Lists the entries. Time and memory grow with their number.
 pub fn list(alloc: Global, blocks: &[Block]) -> Result<Vec<Entry>, AllocError>
     ensures { IfOk result (λ v. v.items ≡ entries_of blocks.now) }
 {

@@ -13,7 +13,7 @@ use ring_names::{Refusal, WriterId};
 use std::alloc::Global;
 use std::collections::HashMap;
 
-/// A put's causes: its writer's earlier puts, and those seen.
+/// A put's causes: its writer's earlier puts, and the puts that it has seen.
 #[derive(Debug, Drop)]
 pub struct Cause {
     pub writer: WriterId,
@@ -127,9 +127,9 @@ fn push_clocks(
     Ok(())
 }
 
-/// Returns the clocks of a key's puts, by start. Costs each join.
+/// Returns the clocks of a key's puts, by start. Joins once for each cause.
 ///
-/// A put joins those seen and its writer's last, and counts one more (DeCandia et al. 2007, section 4.4).
+/// A put's clock joins the causes' clocks, and raises the writer's counter by one (DeCandia et al. 2007, section 4.4).
 pub fn clocks(alloc: Global, causes: &[Cause]) -> Result<Vec<Clock>, Refusal>
     requires { IsEarlier causes.now }
     ensures each { IfOk result (λ clocks. length clocks.items ≡ length causes.now) }

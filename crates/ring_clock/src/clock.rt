@@ -15,15 +15,15 @@ use std::alloc::Global;
 use std::marker::Model;
 use std::sync::Arc;
 
-/// A vector clock: the counters of writers, 0 by default.
+/// A vector clock: a counter for each writer, 0 by default.
 ///
-/// Each 64 consecutive writers have a block: 16 bytes for each counter above 0, or 260 bytes from 17 on, if all are
-/// below 2^31.
+/// 64 consecutive writers share a block. It takes 16 bytes for each counter above 0, or 260 bytes from 17 on, if all
+/// are below 2^31.
 ///
 /// Copies, `bump` and `join` share unchanged blocks.
 pub struct Clock {
     alloc: Global,
-    // The writer of the last raise. Its put knows the whole clock: its counter mostly decides comparisons.
+    // The writer of the last `bump`. Between clocks of puts, this writer's counter mostly decides.
     own: WriterId,
     blocks: Blocks,
 }
@@ -40,7 +40,7 @@ impl Model for Clock {
     ghost invariant = { λ a. AreBlocks (listed a.blocks) };
 }
 
-// So crates above need not check the cases.
+// Explicit, so that crates above need not check the cases of `Blocks`.
 impl Drop for Clock {
     fn drop(self) {
         let Clock {
@@ -53,7 +53,7 @@ impl Drop for Clock {
 }
 
 impl Clock {
-    /// Returns the clock without counts.
+    /// Returns the clock whose counters are all 0.
     pub fn new(alloc: Global) -> Clock
         ensures { result ≡ [] }
     {
@@ -79,7 +79,7 @@ impl Clock {
         Walk::of(self.blocks())
     }
 
-    /// Lists the counters above 0, by writer. Costs their number, also in memory.
+    /// Lists the counters above 0, by writer. Time and memory grow with their number.
     pub fn list(&self, alloc: Global) -> Result<Vec<Entry>, Refusal>
         ensures value { IfOk result (λ entries. entries.items ≡ self.now) }
         ensures memory { IfErr result (λ e. e ≡ OutOfMemory) }
@@ -87,12 +87,12 @@ impl Clock {
         Ok(list(alloc, self.blocks())?)
     }
 
-    /// Returns the writer of the last raise, a hint for lookups. `join` keeps the first clock's; a new clock has 0.
+    /// Returns the writer of the last `bump`, to speed up lookups. `join` keeps the first clock's. A new clock has 0.
     pub fn own(&self) -> WriterId {
         self.own
     }
 
-    /// Returns the writer's counter. Costs the logarithm of the entries, or two looks if all lesser writers have some.
+    /// Returns the writer's counter. Costs two binary searches, or two looks if all lesser writers have some.
     pub fn counter(&self, writer: WriterId) -> u64
         ensures { result ≡ counter self.now writer.0 }
     {
@@ -103,14 +103,14 @@ impl Clock {
     ///
     /// No counter exceeds the other's (DeCandia et al. 2007, section 4.4).
     ///
-    /// Costs the entries of both, and `has_group` for each group.
+    /// Reads the entries of both, and looks up each group as `has_group` does.
     ///
-    /// Several groups cost only the logarithm of the entries if the last raised writer's counter is less in the other.
+    /// With several groups, costs only two lookups if the `own` writer's counter is less in the other.
     pub fn le(&self, other: &Clock) -> bool
         ensures { IsTrue result ↔ IsAtMost self.now other.now }
     {
         let (blocks, others) = (self.blocks(), other.blocks());
-        // One block has at most 64 counters: compares at once.
+        // If each clock has one block, of at most 64 counters, skips this test.
         if (blocks.len() > 1 || others.len() > 1)
             && counter_in(others, self.own) < counter_in(blocks, self.own)
         {
@@ -119,13 +119,13 @@ impl Clock {
         are_at_most(blocks, others)
     }
 
-    /// Returns the least clock above both. Costs the entries of both.
+    /// Returns the least clock that is at least both. Reads the entries of both.
     ///
     /// Shares a group's entries if one clock's are at least the other's.
     ///
     /// Each other group takes 260 bytes, or 16 for each entry if few or a counter is 2^31 or more.
     ///
-    /// Several groups take 8 bytes each besides, or up to 16 if neither clock has all.
+    /// A list of several groups takes 8 more bytes for each, or up to 16 if neither clock has all.
     pub fn join(&self, other: &Clock) -> Result<Clock, Refusal>
         ensures least { IfOk result (λ c. IsJoin self.now other.now c) }
         ensures counters { IfOk result (λ c. (w : ℕ) → counter c w ≡ max (counter self.now w) (counter other.now w)) }
@@ -138,8 +138,8 @@ impl Clock {
         })
     }
 
-    // Raises in place the group of the other's last raised writer, if the blocks are unshared. Returns whether the
-    // other is reached.
+    // Raises in place the group of the other's `own` writer. Returns false and changes nothing if the list is shared or
+    // other groups are less.
     fn raise_own(&mut self, other: &Clock) -> Result<bool, Refusal>
         ensures raised { IfOk result (λ done. done ≡ true
             → (w : ℕ) → counter self.new w ≡ max (counter self.old w) (counter other.now w)) }
@@ -157,14 +157,12 @@ impl Clock {
         Ok(raise_one(alloc, blocks, other.blocks(), group_of(other.own))?)
     }
 
-    /// Raises the clock to another. Costs as `le` and `join`.
+    /// Raises each counter to the other's. Takes the time of `le` and `join`.
     ///
-    /// Takes memory as `join`, but none if one is at most the other.
+    /// Takes memory as `join` does, but none if one clock is at most the other.
     ///
-    /// If only the other's last raised writer's group is behind, takes memory only for it, and none for unshared 260
-    /// bytes.
-    ///
-    /// Both must have it then, and the groups must be unshared.
+    /// If both have the group of the other's `own` writer and only it is less, an unshared list stays. Then only that
+    /// block takes memory, and none if full and unshared.
     pub fn raise(&mut self, other: &Clock) -> Result<(), Refusal>
         ensures ok { OnOk result ((w : ℕ) → counter self.new w ≡ max (counter self.old w) (counter other.now w)) }
         ensures err { OnErr result (self.new ≡ self.old) }
@@ -180,11 +178,11 @@ impl Clock {
         Ok(())
     }
 
-    /// Returns the clock with the writer's counter raised by one. Costs its group's entries, and the groups.
+    /// Returns the clock with the writer's counter raised by one. Copies its group's entries, and the list of groups.
     ///
-    /// Takes memory for these entries, at most 260 bytes, or 1,024 if a counter is 2^31 or more.
+    /// The entries take at most 260 bytes, or 1,024 if a counter is 2^31 or more.
     ///
-    /// Several groups take 8 bytes each besides, or up to 16 if the group is new.
+    /// A list of several groups takes 8 bytes for each, or up to 16 if the group is new.
     pub fn bump(&self, writer: WriterId) -> Result<Clock, Refusal>
         requires { counter self.now writer.0 < 18446744073709551615 }
         ensures counters { IfOk result

@@ -8,14 +8,14 @@ use ring_names::WriterId;
 /// How many consecutive writers a group has.
 pub const GROUP: u32 = 64;
 
-/// How often a writer put, as a clock knows: above 0.
+/// A clock's counter of one writer's puts: above 0.
 #[derive(Clone, Copy, Debug, PartialEq, Eq)]
 pub struct Entry {
     pub writer: WriterId,
     pub counter: u64,
 }
 
-// Looks at the writer's place if all writers since the first have entries.
+// Looks where the writer is if each writer since the first has an entry.
 fn guessed(entries: &[Entry], writer: WriterId) -> Option<u64>
     requires { IsClock entries.now }
     ensures { IfSome result (λ n. n ≡ counter entries.now writer.0) }
@@ -30,8 +30,7 @@ fn guessed(entries: &[Entry], writer: WriterId) -> Option<u64>
     }
 }
 
-/// Returns the writer's counter, or 0. Costs the logarithm of the entries, or one look if each writer since the first
-/// has one.
+/// Returns the writer's counter, or 0. Costs a binary search, or one look if each writer since the first has an entry.
 pub fn counter_of(entries: &[Entry], writer: WriterId) -> u64
     requires { IsClock entries.now }
     ensures { result ≡ counter entries.now writer.0 }

@@ -14,7 +14,7 @@ use std::marker::Model;
 
 const PLACES: usize = GROUP as usize;
 
-// Counters are below this: the top bit of a difference shows the greater.
+// Counters are below this, so that the top bit of a difference shows which is greater.
 const LIMIT: u32 = 1 << 31;
 
 /// All counters of a group, each below 2^31, 0 by default. Takes 260 bytes.
@@ -41,7 +41,7 @@ impl Model for Full {
 }
 
 impl Full {
-    /// Makes a block of entries.
+    /// Makes a full block of one group's entries.
     pub fn of(entries: &[Entry]) -> Full
         requires block { IsBlock entries.now }
         requires low { All IsLow entries.now }
@@ -131,7 +131,7 @@ impl Full {
         true
     }
 
-    /// Whether each counter is at most that among entries. Costs a search for each above 0.
+    /// Whether each counter is at most its writer's among the entries. Searches once for each counter above 0.
     pub fn is_below(&self, entries: &[Entry]) -> bool
         requires { IsClock entries.now }
         ensures { IsTrue result ↔ IsAtMost self.now entries.now }
@@ -198,7 +198,7 @@ impl Full {
     }
 }
 
-// There are 2^26 groups.
+// Groups are numbers below 2^26.
 fn group_in_range(writer: WriterId) -> u32
     ensures value { result ≡ group writer.0 }
     ensures few { result < 67108864 }
@@ -217,14 +217,14 @@ pub fn group_among(entries: &[Entry]) -> u32
     }
 }
 
-/// Whether the counters fit a full block.
+/// Whether each counter is below 2^31, as in a full block.
 pub fn are_low(entries: &[Entry]) -> bool
     ensures { IsTrue result ↔ All IsLow entries.now }
 {
     entries.iter().all(|entry| entry.counter < u64::from(LIMIT))
 }
 
-// Looks at all places, several at once. Inlined: a call costs a tenth of the work.
+// Compares all places, several at once. Inlined, because a call costs a tenth of the work.
 #[inline(always)]
 fn are_below(first: &[u32; PLACES], second: &[u32; PLACES]) -> bool
     requires first { (k : ℕ) → slice_index first.now k < 2147483648 }

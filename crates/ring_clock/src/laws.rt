@@ -6,9 +6,9 @@ ghost use Rattle.ring_clock.specs.declared.causes.Cause.{Cause as TheCause};
 ghost use Rattle.ring_clock.specs.Causes.{IsEarlier, IsSuccession};
 ghost use Rattle.ring_clock.specs.Built.{IsInput, IsLast, IsNext, AreClocks, with_clock};
 
-/// A further put's clock joins those seen and the writer's last.
+/// If clocks are right, they stay right with one more put.
 ///
-/// It counts one more. Other clocks stay.
+/// The put's clock joins those of puts seen and of the writer's last, and counts one more.
 pub fn clocks_grow()
     ensures { (causes : List TheCause) (cause : TheCause) (clock : ℕ → List TheEntry) (last : Option ℕ)
         (c : List TheEntry)

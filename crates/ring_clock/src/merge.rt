@@ -7,7 +7,7 @@ ghost use Rattle.ring_clock.specs.Merge.{EntriesStandFor};
 use crate::entry::{Entry, GROUP};
 use std::alloc::{AllocError, Global};
 
-// Counts leading places with equal writers. None if the first has a greater counter there.
+// Counts leading places with equal writers. None if the first's counter is greater at such a place.
 fn aligned(first: &[Entry], second: &[Entry]) -> Option<usize>
     requires first { IsClock first.now }
     requires second { IsClock second.now }
@@ -55,7 +55,7 @@ fn unaligned(first: &[Entry], second: &[Entry]) -> bool
     true
 }
 
-/// Whether each counter is at most the second's. Their writers mostly have the same places.
+/// Whether each counter is at most the second's. Most writers have the same place in both lists.
 pub fn is_at_most(first: &[Entry], second: &[Entry]) -> bool
     requires first { IsClock first.now }
     requires second { IsClock second.now }
@@ -70,7 +70,7 @@ pub fn is_at_most(first: &[Entry], second: &[Entry]) -> bool
     }
 }
 
-// Takes the least writer's entry, with the greater counter.
+// Takes the least writer's entry, with the greater counter if both lists have one.
 fn take_least<'a>(first: &mut &'a [Entry], second: &mut &'a [Entry]) -> Option<Entry>
     requires first { IsClock first.old.now }
     requires second { IsClock second.old.now }

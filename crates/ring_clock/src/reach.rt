@@ -11,15 +11,15 @@ use crate::clock::Clock;
 use crate::entry::Entry;
 
 impl Clock {
-    /// Whether the group has a counter. Costs the logarithm of the groups, or one look if all lesser groups have one.
+    /// Whether the group has a counter. Costs a binary search, or one look if all lesser groups have counters.
     pub fn has_group(&self, group: u32) -> bool
         ensures { IsTrue result ↔ HasGroup group self.now }
     {
         block_of(self.blocks(), group).is_some()
     }
 
-    /// Whether each writer's counter is below its entry. Costs the entries, for each the logarithm of its group's if
-    /// few, and `has_group` for each change of group.
+    /// Whether the clock's counter is below each entry's. Each entry costs a lookup in its block; each change of group
+    /// costs `has_group`.
     pub fn is_below_each(&self, entries: &[Entry]) -> bool
         ensures { IsTrue result ↔ All (λ e. counter self.now e.writer.0 < e.counter) entries.now }
     {

@@ -15,7 +15,7 @@ use std::alloc::Global;
 use std::marker::Model;
 use std::sync::Arc;
 
-/// A part that copies share. Its group is outside: a search reads only needed parts.
+/// A part that copies share. Its group is kept outside, so that a search reads only the parts it needs.
 #[derive(Drop)]
 pub struct Chunk {
     group: Group,
@@ -63,7 +63,7 @@ impl Chunk {
         self.group.number
     }
 
-    /// Adds a copy in place, raising the join. Returns false if the chunk is shared.
+    /// Adds a copy of the version in place, and its clock to `join`. Returns false if the chunk is shared.
     pub fn add(&mut self, version: &Version, join: &mut Clock) -> Result<bool, Refusal>
         ensures added { IfOk result (λ done. done ≡ true → self.new ≡ self.old ++ version.now ∷ []) }
         ensures raised { IfOk result (λ done. done ≡ true
@@ -80,7 +80,7 @@ impl Chunk {
         Ok(true)
     }
 
-    /// Returns its part.
+    /// Returns the part.
     pub fn part(&self) -> &Part
         ensures { result.now ≡ self.now }
     {

@@ -33,7 +33,7 @@ impl Model for Found {
 }
 
 impl Found {
-    /// Starts empty.
+    /// Returns an empty set.
     pub fn new(alloc: Global) -> Found
         ensures { result ≡ [] }
     {
@@ -76,7 +76,7 @@ impl Found {
         Ok(join)
     }
 
-    /// Merges another set. Costs a merge, and both joins' entries if versions come.
+    /// Merges another set. Costs a merge, and reads both joins if versions are added.
     pub fn with(&self, more: &Versions) -> Result<Found, Refusal>
         ensures ok { IfOk result (IsMerge self.now more.now) }
         ensures memory { IfErr result (λ e. e ≡ OutOfMemory) }

@@ -4,7 +4,7 @@ ghost use Rattle.std.specs.Prelude.{◌↔◌, IsTrue};
 
 use crate::versions::Versions;
 
-/// A prepared merge: taking it in cannot fail. Empty if the set covers the other.
+/// A prepared merge, which `absorb` completes without failing. Empty if the set covers the other.
 #[derive(Drop)]
 pub struct Fresh {
     pub(crate) merged: Versions,

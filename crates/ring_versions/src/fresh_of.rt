@@ -12,7 +12,7 @@ use crate::version::Version;
 use ring_names::Refusal;
 use std::alloc::{AllocError, Global};
 
-// Reserves exact room: most sets stay as made.
+// Reserves exactly enough: most sets never grow.
 fn make_room(out: &mut Vec<Version>, room: usize) -> Result<(), AllocError>
     ensures { out.new.items ≡ out.old.items }
 {
@@ -58,7 +58,7 @@ fn fresh_of_any(alloc: Global, versions: Held, held: Held) -> Result<Vec<Version
     Ok(out)
 }
 
-/// Copies the versions that the held do not cover. Takes no memory if there are none.
+/// Copies the versions that no held version covers. Takes no memory if there are none.
 pub fn fresh_of(alloc: Global, versions: Held, held: Held) -> Result<Vec<Version>, Refusal>
     requires { IsApart (looked_at versions) }
     ensures ok { IfOk result (λ out. IsFresh (looked_at held.entry) (looked_at versions.entry) out.items) }

@@ -1,4 +1,4 @@
-//! Groups of writers, which order versions.
+//! Groups of writers, by which versions are kept.
 
 ghost use Rattle.std.specs.Prelude.{◌≡◌, ◌∷◌, ◌++◌, [], List, IsTrue};
 ghost use Rattle.ring_clock.specs.Clock.{IsAtMost, counter};
@@ -8,7 +8,7 @@ ghost use Rattle.ring_versions.specs.declared.version.Version.{Version as TheVer
 
 use ring_clock::{Clock, Entry, group_of};
 
-/// A group, and whether each version added has a counter there.
+/// A group of writers, and whether each added version has a counter there.
 #[derive(Clone, Copy)]
 pub struct Group {
     pub number: u32,
@@ -16,7 +16,7 @@ pub struct Group {
 }
 
 impl Group {
-    /// Starts empty.
+    /// Returns the group without versions.
     pub fn new(number: u32) -> Group
         ensures { AreOf result [] }
     {
@@ -37,7 +37,7 @@ impl Group {
         }
     }
 
-    /// Whether the group shows that no added clock is at most this one, which has no counter there.
+    /// Whether each added version has a counter in the group, and `top` has none. Then no added clock is at most `top`.
     pub fn is_beyond(self, top: &Clock) -> bool
         ensures { IsTrue result → (vs : List TheVersion) → AreOf self vs
             → (v : TheVersion) → IsIn v vs → IsAtMost v.clock top.now → ⊥ }

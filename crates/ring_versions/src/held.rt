@@ -38,7 +38,7 @@ impl<'a> Held<'a> {
         }
     }
 
-    /// Whether a writer is in the group. Costs a look at each version of a list, or at each chunk.
+    /// Whether some version's writer is in the group. Looks at each listed version, or at each chunk.
     pub fn has_group(self, group: u32) -> bool {
         match self {
             Held::Few(list) => list

@@ -9,7 +9,7 @@ use ring_clock::Clock;
 use ring_names::Refusal;
 use std::alloc::Global;
 
-/// Returns the join. Costs the entries times the logarithm of the versions, by halving.
+/// Joins the versions' clocks, by halving the list. Reads each entry once for each halving.
 pub fn join_of(alloc: Global, versions: &[Version]) -> Result<Clock, Refusal>
     ensures ok { IfOk result (RaisesTo [] (IsClockIn versions.now)) }
     ensures memory { IfErr result (λ e. e ≡ OutOfMemory) }

@@ -25,7 +25,7 @@ pub struct Left {
     pub made: Vec<Part>,
 }
 
-// Returns the place of the group's part, made if missing.
+// Returns the place of the group's part. Adds the part if it is missing.
 fn place_for(alloc: Global, made: &mut Vec<Part>, group: u32) -> Result<usize, Refusal>
     ensures same { all_of made.new.items ≡ all_of made.old.items }
     ensures ok { IfOk result (λ place. place < length made.new.items) }
@@ -61,7 +61,7 @@ pub fn put_all(alloc: Global, made: &mut Vec<Part>, versions: Held) -> Result<()
     Ok(())
 }
 
-// Keeps an uncovered chunk: as it is, or as a part if a fresh version will be added.
+// Keeps a chunk without covered versions: shared, or copied as a part if a fresh version will be added.
 fn keep_all(alloc: Global, left: &mut Left, chunk: &Chunk, fresh: Held) -> Result<(), Refusal>
     ensures ok { OnOk result (IsReordered (all_left left.old ++ chunk.now) (all_left left.new)) }
     ensures memory { IfErr result (λ e. e ≡ OutOfMemory) }
@@ -98,9 +98,9 @@ fn keep(
     Ok(())
 }
 
-/// Returns the uncovered versions. `top` is at least each fresh clock.
+/// Returns the versions that no fresh version covers. `top` is at least each fresh clock.
 ///
-/// Costs a look at each version, and copies changed chunks' versions.
+/// Looks at each version, and copies those of changed chunks.
 pub fn left_of(alloc: Global, chunks: &[Chunk], fresh: Held, top: &Clock) -> Result<Left, Refusal>
     requires apart { IsApart (all_of chunks.now) }
     requires top { (v : TheVersion) → IsIn v (looked_at fresh) → IsAtMost v.clock top.now }
@@ -118,7 +118,7 @@ pub fn left_of(alloc: Global, chunks: &[Chunk], fresh: Held, top: &Clock) -> Res
     Ok(left)
 }
 
-/// Makes chunks of all.
+/// Makes chunks of the new parts, and returns all chunks.
 pub fn chunks_of(alloc: Global, left: Left) -> Result<Vec<Chunk>, Refusal>
     ensures ok { IfOk result (λ chunks. all_of chunks.items ≡ all_left left) }
     ensures memory { IfErr result (λ e. e ≡ OutOfMemory) }

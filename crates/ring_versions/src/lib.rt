@@ -1,4 +1,5 @@
-//! Versions of a key, none an ancestor of another (DeCandia et al. 2007, section 4.4).
+//! Versions of a key, none an ancestor of another (DeCandia et al. 2007, section 4.4). A version covers each clock that
+//! is at most its own.
 //!
 //! A function without a `Result` takes no memory.
 #![tactic(auto)]

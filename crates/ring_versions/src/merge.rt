@@ -17,7 +17,7 @@ use ring_clock::Clock;
 use ring_names::Refusal;
 use std::alloc::Global;
 
-// If no held version stays, the others are the merge.
+// Merges into a list. Shares the others if they cover each held version.
 fn merged_with_few(
     alloc: Global,
     held: &[Version],
@@ -37,7 +37,7 @@ fn merged_with_few(
     Versions::of_list(alloc, fresh)
 }
 
-// Shares unchanged chunks.
+// Merges into chunks, and shares unchanged chunks.
 fn merged_with_many(
     alloc: Global,
     held: &Whole,
@@ -65,7 +65,7 @@ fn is_beside(versions: &[Version], clock: &Clock) -> bool
     versions.iter().all(|version| !clock.le(&version.clock) && !version.clock.le(clock))
 }
 
-/// Adds a copy if the version conflicts with each listed one, and says whether.
+/// Adds a copy and returns true if the version is concurrent with each listed version.
 ///
 /// Costs at most two comparisons with each, and memory for one version.
 pub fn add_beside(list: &mut Vec<Version>, version: &Version) -> Result<bool, Refusal>
@@ -84,7 +84,7 @@ pub fn add_beside(list: &mut Vec<Version>, version: &Version) -> Result<bool, Re
     Ok(true)
 }
 
-/// Merges two versions. Empty if the held covers the other; shares the other's set if that covers it.
+/// Merges two versions. Returns an empty set if `held` covers `other`, and shares `others` if `other` covers `held`.
 pub fn merged_one(
     alloc: Global,
     held: &Version,
@@ -107,7 +107,8 @@ pub fn merged_one(
     Versions::of_list(alloc, both)
 }
 
-/// Returns the merge. Empty, without memory, if the held cover the others. Shares the others if they cover all.
+/// Merges two sets. Returns an empty set, without memory, if held versions cover the others. Shares the others if they
+/// cover all held.
 pub fn merged(alloc: Global, held: Held, others: &Versions) -> Result<Versions, Refusal>
     requires { IsApart (looked_at held) }
     ensures ok { IfOk result (Brings (looked_at held.entry) others.now) }

@@ -82,7 +82,7 @@ fn copies_of(alloc: Global, versions: &[Version]) -> Result<Vec<Version>, Refusa
 }
 
 impl Part {
-    /// Starts empty.
+    /// Returns an empty part.
     pub fn new(alloc: Global, group: u32) -> Part
         ensures { result ≡ [] }
     {
@@ -94,7 +94,7 @@ impl Part {
         }
     }
 
-    /// Keeps only these versions.
+    /// Keeps only these of the part's versions.
     pub fn with(&self, alloc: Global, versions: Vec<Version>) -> Result<Part, Refusal>
         requires { (v : TheVersion) → IsIn v versions.items → IsIn v self.now }
         ensures ok { IfOk result (λ p. p ≡ versions.items) }
@@ -110,7 +110,7 @@ impl Part {
         })
     }
 
-    /// Copies the part, with room for one more. Reads no clocks.
+    /// Copies the part, with room for one more version. Reads no clocks.
     pub fn try_copy(&self, alloc: Global) -> Result<Part, Refusal>
         ensures ok { IfOk result (λ p. p ≡ self.now) }
         ensures memory { IfErr result (λ e. e ≡ OutOfMemory) }
@@ -127,7 +127,7 @@ impl Part {
         })
     }
 
-    /// Adds a copy.
+    /// Adds a copy of the version.
     pub fn put(&mut self, version: &Version) -> Result<(), Refusal>
         ensures ok { OnOk result (self.new ≡ self.old ++ version.now ∷ []) }
         ensures err { OnErr result (self.new ≡ self.old) }
@@ -143,7 +143,7 @@ impl Part {
         Ok(())
     }
 
-    /// Adds a copy, and raises the join.
+    /// Adds a copy of the version, and its clock to `join`.
     pub fn put_under(&mut self, version: &Version, join: &mut Clock) -> Result<(), Refusal>
         ensures ok { OnOk result (self.new ≡ self.old ++ version.now ∷ []) }
         ensures raised { OnOk result
@@ -177,7 +177,7 @@ impl Part {
         self.versions.as_slice()
     }
 
-    /// Whether the clock's own writer's version covers the clock.
+    /// Whether the version of the clock's own writer covers the clock.
     pub fn leads(&self, clock: &Clock) -> bool
         ensures { IsTrue result → Covers self.now clock.now }
     {
@@ -202,7 +202,7 @@ impl Part {
         is_among(self.versions.as_slice(), clock)
     }
 
-    /// Whether own counters show that no clock is at most this one.
+    /// Whether each version's own counter is above `top`'s. Then no clock is at most `top`.
     pub fn is_beyond(&self, top: &Clock) -> bool
         ensures { IsTrue result → (v : TheVersion) → IsIn v self.now → IsAtMost v.clock top.now → ⊥ }
     {

@@ -19,7 +19,7 @@ fn numbers_of(alloc: Global, mut versions: Walk) -> Result<Vec<u32>, Refusal>
     Ok(numbers)
 }
 
-/// Returns the puts, ascending.
+/// Returns the versions' puts, ascending.
 pub fn puts_of(alloc: Global, versions: Walk) -> Result<Listed<u32>, Refusal>
     ensures ok { IfOk result (λ ns. ArePuts versions.entry ns) }
     ensures memory { IfErr result (λ e. e ≡ OutOfMemory) }

@@ -27,17 +27,17 @@ use std::marker::Model;
 use std::slice;
 use std::sync::Arc;
 
-// From so many versions on, a set has chunks. Fewer are searched as fast without.
+// From 8 versions on, a set has chunks. Fewer are searched as fast without chunks.
 const MANY: usize = 8;
 
-/// A set of unordered versions, shared by copies.
+/// A set of concurrent versions, shared by copies.
 ///
-/// Costs are for clocks of puts, and eight versions or more. Such a clock covers a version exactly if it reaches the
-/// own writer's counter. Other clocks may cost a comparison with each version.
+/// Costs are for clocks of puts, and eight versions or more. A put's clock covers a version exactly if it reaches the
+/// counter of that version's writer. Other clocks may cost a comparison with each version.
 ///
-/// From eight versions on, each is in a chunk for its writer's group. A set takes 16 bytes for each chunk.
+/// From eight versions on, each is in the chunk of its writer's group. A set takes 16 bytes for each chunk.
 ///
-/// A shared chunk takes about 100 bytes, 16 besides for each version, and the unshared entries of its join.
+/// A shared chunk takes about 100 bytes, 16 more for each version, and the unshared entries of its join.
 pub struct Versions {
     alloc: Global,
     shared: Shared,
@@ -56,7 +56,7 @@ impl Model for Versions {
     ghost invariant = { λ a. IsApart (shared_versions a.shared) };
 }
 
-// So crates above need not check the cases.
+// Explicit, so that crates above need not check the cases of `Shared`.
 impl Drop for Versions {
     fn drop(self) {
         let Versions { alloc: _, shared } = self;
@@ -65,7 +65,7 @@ impl Drop for Versions {
 }
 
 impl Versions {
-    /// Starts empty.
+    /// Returns an empty set.
     pub fn new(alloc: Global) -> Versions
         ensures { result ≡ [] }
     {
@@ -156,7 +156,7 @@ impl Versions {
         }
     }
 
-    /// Whether some version covers the clock. Costs a look at the join.
+    /// Whether some version covers the clock. Looks at the join.
     ///
     /// If the join reaches the clock, also looks at each chunk's group and one chunk's entries, and compares once.
     pub fn covers(&self, clock: &Clock) -> bool
@@ -165,19 +165,21 @@ impl Versions {
         self.held().covers(clock)
     }
 
-    /// Merges another set: covers what either covered, without ancestors.
+    /// Merges another set. The result covers what either set covered, and has no ancestors.
     ///
-    /// Costs a look for each version of the other set, and one at each own chunk's group.
+    /// Looks once for each version of the other set, and at each own chunk's group.
     ///
-    /// If new versions have counters there, a chunk costs looks at the versions' own entries, or one look if these may
-    /// cover it.
+    /// If new versions have counters in that group, also looks at own entries. If these do not decide, looks at each
+    /// version of the chunk.
     ///
-    /// Takes no memory if this set covers the other. A version that conflicts with all is added in place, for its
-    /// memory, if no set shares them.
+    /// Takes no memory if this set covers the other. If no other set shares this one, a version concurrent with all is
+    /// added in place, for its memory.
     ///
-    /// A set below eight compares it at most twice with each; a larger one raises two joins (`Clock::raise`).
+    /// Then a set below eight compares it at most twice with each version; a larger set raises two joins
+    /// (`Clock::raise`).
     ///
-    /// Otherwise copies new and staying versions; from eight on only those in changed chunks, the chunks and the join.
+    /// Otherwise copies new and staying versions. From eight on, copies only changed chunks, the list of chunks and the
+    /// join.
     pub fn merge(&mut self, other: &Versions) -> Result<(), Refusal>
         ensures ok { OnOk result (IsMerge self.old other.now self.new) }
         ensures err { OnErr result (self.new ≡ self.old) }
@@ -193,8 +195,8 @@ impl Versions {
         Ok(())
     }
 
-    // Merges one version in place. Returns false unless it conflicts with each and the changed part is unshared. A list
-    // never reaches eight here.
+    // Adds one version in place. Returns false unless it is concurrent with each and the changed part is unshared. A
+    // list never reaches eight here.
     fn add(&mut self, version: &Version) -> Result<bool, Refusal>
         ensures added { IfOk result (λ done. done ≡ true → IsMerge self.old (version.now ∷ []) self.new) }
         ensures same { IfOk result (λ done. done ≡ false → self.new ≡ self.old) }
@@ -214,7 +216,7 @@ impl Versions {
         }
     }
 
-    /// Prepares a merge, empty if this set covers the other. Costs as `merge`.
+    /// Prepares a merge. It is empty if this set covers the other. Costs as much as `merge`.
     pub fn fresh_of(&self, other: &Versions) -> Result<Fresh, Refusal>
         ensures ok { IfOk result (λ f. IsFreshFor self.now other.now f) }
         ensures memory { IfErr result (λ e. e ≡ OutOfMemory) }
@@ -253,7 +255,7 @@ impl Versions {
         puts_of(self.alloc, self.versions())
     }
 
-    // Free from eight versions on; otherwise costs the entries.
+    // Returns the join. Free from eight versions on; otherwise reads the entries.
     pub(crate) fn join(&self) -> Result<Clock, Refusal>
         ensures ok { IfOk result (RaisesTo [] (IsClockIn self.now)) }
         ensures memory { IfErr result (λ e. e ≡ OutOfMemory) }
@@ -264,7 +266,7 @@ impl Versions {
         }
     }
 
-    /// Returns the join, kept for one version and from eight on.
+    /// Returns the join if it is kept: for one version, and from eight on.
     pub fn top(&self) -> Option<&Clock>
         ensures { IfSome result (λ c. RaisesTo [] (IsClockIn self.now) c.now) }
     {

@@ -113,12 +113,13 @@ impl Whole {
         self.chunks.as_slice()
     }
 
-    /// Whether some chunk has the group. Costs a look at each, not into it.
+    /// Whether some chunk has the group. Looks into no chunk.
     pub fn has_group(&self, group: u32) -> bool {
         self.chunks.iter().any(|chunk| chunk.group() == group)
     }
 
-    /// Whether some version covers the clock. The join mostly decides if none does, otherwise the own writer's version.
+    /// Whether some version covers the clock. If none does, the join mostly decides; otherwise the own writer's version
+    /// does.
     pub fn covers(&self, clock: &Clock) -> bool
         ensures { IsTrue result ↔ Covers self.now clock.now }
     {
@@ -130,7 +131,7 @@ impl Whole {
         leads(chunks, clock) || is_in_some(chunks, clock)
     }
 
-    // Whether each version clearly conflicts with the clock.
+    // Whether the join and own counters show that each version is concurrent with the clock.
     fn is_beside(&self, clock: &Clock) -> bool
         ensures { IsTrue result → IsBeside self.now clock.now }
     {
@@ -138,11 +139,10 @@ impl Whole {
         self.join.counter(own) < clock.counter(own) && are_beyond(self.chunks.as_slice(), clock)
     }
 
-    /// Merges one version in place. Returns false unless it clearly conflicts with each and its group's chunk is
-    /// unshared.
+    /// Adds one version in place. Returns false unless `is_beside` holds and the chunk of its group is there, unshared.
     ///
-    /// Costs two joins' entries, and a look at each chunk's group, or at its versions' own entries if the version
-    /// counts there.
+    /// Reads the entries of two joins, and each chunk's group, or its versions' own entries if the version counts
+    /// there.
     pub fn add(&mut self, version: &Version) -> Result<bool, Refusal>
         requires { IsApart self.old }
         ensures added { IfOk result (λ done. done ≡ true → IsMerge self.old (version.now ∷ []) self.new) }
