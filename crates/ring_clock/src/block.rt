@@ -51,8 +51,7 @@ impl Form {
         }
     }
 
-    // Raises a full form to the other's counters, in place. Returns false if it is not full, or a counter is 2^31 or
-    // more.
+    // Raises a full form in place. Returns false if it is not full, or a counter is 2^31 or more.
     fn raise(&mut self, other: &Form) -> bool
         requires first { IsBlock (entries_in self.old) }
         requires second { IsBlock (entries_in other.now) }
@@ -186,7 +185,7 @@ impl Block {
         }
     }
 
-    /// Whether each counter is at most the other's. The groups may differ. Fast if both are full, the usual case.
+    /// Whether each counter is at most the other's. The groups may differ. Fast if both are full, as usual.
     pub fn passes(&self, other: &Block) -> bool
         requires first { IsBlock self.now }
         requires second { IsBlock other.now }

@@ -40,7 +40,7 @@ impl Model for Clock {
     ghost invariant = { λ a. AreBlocks (listed a.blocks) };
 }
 
-// Explicit, so that crates above need not check the cases of `Blocks`.
+// Explicit: crates above need not check the cases of `Blocks`.
 impl Drop for Clock {
     fn drop(self) {
         let Clock {
@@ -138,8 +138,8 @@ impl Clock {
         })
     }
 
-    // Raises in place the group of the other's `own` writer. Returns false and changes nothing if the list is shared or
-    // other groups are less.
+    // Raises in place the group of the other's `own` writer. Returns false if the list is shared or other groups are
+    // less.
     fn raise_own(&mut self, other: &Clock) -> Result<bool, Refusal>
         ensures raised { IfOk result (λ done. done ≡ true
             → (w : ℕ) → counter self.new w ≡ max (counter self.old w) (counter other.now w)) }
@@ -161,7 +161,7 @@ impl Clock {
     ///
     /// Takes memory as `join` does, but none if one clock is at most the other.
     ///
-    /// If both have the group of the other's `own` writer and only it is less, an unshared list stays. Then only that
+    /// If both have the other's `own` writer's group and only it is less, an unshared list stays. Then only that
     /// block takes memory, and none if full and unshared.
     pub fn raise(&mut self, other: &Clock) -> Result<(), Refusal>
         ensures ok { OnOk result ((w : ℕ) → counter self.new w ≡ max (counter self.old w) (counter other.now w)) }

@@ -11,9 +11,10 @@ use std::alloc::Global;
 use std::collections::BTreeSet;
 use store_maps::{KeyId, KeyMap, SlotMap};
 
-/// Stand-ins' versions for slots with unreachable nodes, by keeper, slot and key. Refused calls change no reading.
+/// Versions that stand-ins keep for slots with unreachable nodes, by keeper, slot and key. Refused calls change nothing
+/// visible.
 ///
-/// A look-up costs the logarithm of the pairs and of the chunk's keys.
+/// A look-up takes logarithmic time in pairs and the chunk's keys.
 #[derive(Drop)]
 pub struct Hints {
     kept: Maps,
@@ -36,7 +37,7 @@ impl Hints {
     ghost use Rattle.ring_hints.specs.Hints.{AddsHints, AreSameHints, Keeps, TakesHints};
     ghost use Rattle.ring_hints.specs.Views.{pair_of, in_keepers};
 
-    /// Starts empty.
+    /// Returns an empty map.
     pub fn new(alloc: Global) -> Hints
         ensures { (x : ℕ) (s : Slot) (k : KeyId) → hinted_at result x s k ≡ [] }
     {
@@ -46,7 +47,7 @@ impl Hints {
         }
     }
 
-    /// Whether the node keeps anything for the slot. Costs one look-up.
+    /// Whether the node keeps anything for the slot.
     pub fn keeps(&self, keeper: NodeId, slot: Slot) -> bool
         ensures { (result ≡ false) ↔ ((k : KeyId) → hinted_at self.now keeper.0 slot k ≡ []) }
     {
@@ -114,7 +115,7 @@ impl Hints {
         self.kept.chunk_map(pair, chunk)
     }
 
-    /// Whether the node keeps anything of a chunk for the slot. Costs one look-up.
+    /// Whether the node keeps anything of a chunk for the slot.
     pub fn keeps_chunk(&self, keeper: NodeId, slot: Slot, chunk: u32) -> bool
         ensures { (result ≡ false) ↔ ((n : ℕ) → hinted_at self.now keeper.0 slot (id chunk n) ≡ []) }
     {

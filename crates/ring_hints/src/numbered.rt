@@ -14,8 +14,8 @@ use std::alloc::Global;
 use std::collections::BTreeMap;
 use std::marker::Model;
 
-/// Pairs, numbered by place from 0. Texts choose them: they are ordered, not hashed, and a look-up always costs the
-/// logarithm of their number.
+/// Pairs of keeper and slot, numbered from 0. Texts choose them, so they are ordered, not hashed: each look-up takes
+/// logarithmic time.
 #[derive(Drop)]
 pub(crate) struct Numbered {
     pairs: Vec<KeptFor>,
@@ -57,7 +57,6 @@ impl Numbered {
         self.pairs.get(number as usize).copied()
     }
 
-    /// Appends the pair.
     pub(crate) fn push(&mut self, pair: KeptFor) -> Result<(), Refusal>
         requires { in_order pair.keeper.0 pair.slot self.old ≡ false }
         ensures ok { OnOk result (self.new ≡ self.old ++ pair ∷ []) }
@@ -70,7 +69,7 @@ impl Numbered {
         Ok(())
     }
 
-    /// Removes the pair, if present; the last one takes its number.
+    /// Removes the pair, if present. The last pair takes its number.
     pub(crate) fn swap_remove(&mut self, pair: KeptFor)
         ensures pairs { (x : ℕ) (s : Slot) → in_order x s self.new ≡ (not (is_of pair x s) && in_order x s self.old) }
         ensures numbers { (n : ℕ) → slice_get self.old n ≡ Some pair → self.new ≡ swap_remove self.old n pair }

@@ -9,8 +9,7 @@ use ring_names::{NodeId, Refusal, Slot};
 use std::alloc::Global;
 use std::collections::BTreeSet;
 
-/// Keepers with their slots, numbered, and found by either. Calls cost a few look-ups, each at most the logarithm of
-/// the pairs.
+/// Pairs of keeper and slot, numbered, and found by either. Calls cost a few look-ups of at most logarithmic time.
 #[derive(Drop)]
 pub struct Pairs {
     order: Numbered,
@@ -27,7 +26,7 @@ impl Pairs {
     ghost use Rattle.ring_hints.specs.Pairs.{is_pair, keepers_of, pair_count, pairs_of};
     ghost use Rattle.ring_hints.specs.Views.{is_of};
 
-    /// Starts empty.
+    /// Returns an empty set.
     pub fn new(alloc: Global) -> Pairs
         ensures { (x : ℕ) (s : Slot) → is_pair result x s ≡ false }
     {
@@ -71,7 +70,7 @@ impl Pairs {
         self.keepers.values(&slot)
     }
 
-    /// Returns the n-th pair. The order stays while the pairs do.
+    /// Returns the n-th pair. The order stays until a pair is added or removed.
     pub fn nth(&self, n: u32) -> Option<KeptFor>
         ensures value { result ≡ slice_get (pairs_of self.now) n }
         ensures some { IfSome result (λ pair. is_pair self.now pair.keeper.0 pair.slot ≡ true) }
@@ -103,7 +102,7 @@ impl Pairs {
         Ok(())
     }
 
-    /// Removes the pair; the last one takes its number.
+    /// Removes the pair. The last pair takes its number.
     pub fn remove(&mut self, pair: KeptFor)
         ensures pairs { (x : ℕ) (s : Slot) → is_pair self.new x s ≡ (not (is_of pair x s) && is_pair self.old x s) }
         ensures count { pair_count self.new + (if is_pair self.old pair.keeper.0 pair.slot then 1 else 0)

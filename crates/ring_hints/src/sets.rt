@@ -20,7 +20,7 @@ pub struct Sets<K: Eq + Hash, V: Ord> {
 }
 
 impl<K: Eq + Hash + Drop, V: Ord + Drop> Sets<K, V> {
-    /// Starts with empty sets.
+    /// Returns empty sets.
     pub fn new(alloc: Global) -> Sets<K, V>
         ensures { (key : K) → set_at K.eq result key ≡ [] }
     {

@@ -6,7 +6,7 @@ use std::alloc::Global;
 use std::collections::{BTreeSet, HashMap};
 use store_maps::{Holders, KeyId, SlotMap};
 
-/// Each key's keepers, by slot: a search for one key sees only its keepers.
+/// The keepers of each slot's keys. A search for a key sees only its keepers.
 #[derive(Drop)]
 pub(crate) struct SlotHolders {
     alloc: Global,
@@ -33,7 +33,6 @@ impl SlotHolders {
         }
     }
 
-    /// The key's keepers for the slot, ascending.
     pub(crate) fn of(&self, slot: Slot, key: KeyId) -> Option<&BTreeSet<NodeId>>
         ensures some { IfSome result (λ nodes. (x : ℕ) → is_among x nodes.now.keys ≡ holds_for self.now slot key x) }
         ensures none { IfNone result ((x : ℕ) → holds_for self.now slot key x ≡ false) }

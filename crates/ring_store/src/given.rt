@@ -161,8 +161,8 @@ impl Stores {
         self.give_from(0, slot, owner, mirror, other)
     }
 
-    // Merges a slot's maps, from this chunk's on, into a node and its mirror, if any. Completes the chunk's merge after
-    // all later ones.
+    // Merges a slot's maps into a node, then its mirror, from this chunk on. Completes a chunk's merge only after all
+    // later ones.
     fn give_from(
         &mut self,
         chunk: u32,

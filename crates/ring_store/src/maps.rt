@@ -18,7 +18,6 @@ impl Stores {
     ghost use Rattle.store_maps.specs.Merges.{MergesAll, at_number, AreFreshFor};
     ghost use Rattle.ring_store.specs.Stores.{map_on, Changes, IsReadyIn, AreReadyIn, IsPlaceOn};
 
-    // Returns the place of the seat's map, made if missing.
     fn open(&mut self, row: usize, seat: Seat) -> Result<usize, Refusal>
         requires { row < length self.old.rows.items }
         ensures only { Changes row seat self.old self.new }
@@ -84,7 +83,6 @@ impl Stores {
         }
     }
 
-    // Merges a whole map. Costs `KeyMap::take_in`.
     pub(crate) fn take_in(&mut self, row: usize, seat: Seat, other: &KeyMap) -> Result<(), Refusal>
         requires { row < length self.old.rows.items }
         ensures only { Changes row seat self.old self.new }
@@ -130,7 +128,7 @@ impl Stores {
         }
     }
 
-    // Copies the seat's map, which shares its keys from now on, or makes an empty one.
+    // Copies the seat's map, so that both share its keys. Without a map, makes an empty one.
     pub(crate) fn copy_of(&mut self, row: usize, seat: Seat) -> Result<KeyMap, Refusal>
         requires { row < length self.old.rows.items }
         ensures only { Changes row seat self.old self.new }

@@ -28,7 +28,7 @@ impl Row {
         }
     }
 
-    // The place of the seat's map, or where it would be.
+    // Returns the place of the seat's map, or where to insert it as `Err`.
     pub(crate) fn place(&self, seat: Seat) -> Result<usize, usize>
         ensures found { IfOk result (IsThere seat_cmp seat self.now.maps.items) }
         ensures missing { IfErr result (GoesAt seat_cmp seat self.now.maps.items) }
@@ -46,7 +46,7 @@ impl Row {
         }
     }
 
-    // Returns the place of the seat's map, made if missing.
+    // Adds the seat's map if missing.
     pub(crate) fn open(&mut self, alloc: Global, seat: Seat) -> Result<usize, Refusal>
         ensures at { IfOk result (IsThere seat_cmp seat self.new.maps.items) }
         ensures same { (n : ℕ)

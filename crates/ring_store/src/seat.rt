@@ -1,4 +1,4 @@
-//! The place of a node's map among its chunk's.
+//! Seats: how a chunk's maps are ordered.
 
 use ring_names::NodeId;
 

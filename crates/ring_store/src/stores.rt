@@ -10,7 +10,7 @@ use ring_versions::Versions;
 use std::alloc::Global;
 use store_maps::KeyMap;
 
-/// The nodes' versions, by node, slot and key. Refused calls change no reading.
+/// The nodes' versions, by node, slot and key. Refused calls change nothing visible.
 ///
 /// A look-up costs a binary search among the chunk's maps, and one in a map.
 #[derive(Drop)]
@@ -31,7 +31,7 @@ impl Stores {
     ghost use Rattle.store_maps.specs.declared.key_id.KeyId.{KeyId};
     ghost use Rattle.ring_store.specs.Stores.{shared_space, held_at};
 
-    /// Starts empty, in a hash space of q partitions.
+    /// Returns empty stores, for q partitions.
     pub fn start(alloc: Global, q: u32) -> Result<Stores, Refusal>
         ensures space { IfOk result (λ a. shared_space a ≡ q) }
         ensures versions { IfOk result (λ a. (x : ℕ) (s : Slot) (k : KeyId) → held_at a x s k ≡ []) }

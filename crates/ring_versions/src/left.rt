@@ -25,7 +25,7 @@ pub struct Left {
     pub made: Vec<Part>,
 }
 
-// Returns the place of the group's part. Adds the part if it is missing.
+// Adds the group's part if missing.
 fn place_for(alloc: Global, made: &mut Vec<Part>, group: u32) -> Result<usize, Refusal>
     ensures same { all_of made.new.items ≡ all_of made.old.items }
     ensures ok { IfOk result (λ place. place < length made.new.items) }

@@ -94,7 +94,7 @@ impl Part {
         }
     }
 
-    /// Keeps only these of the part's versions.
+    /// Returns the part reduced to these versions.
     pub fn with(&self, alloc: Global, versions: Vec<Version>) -> Result<Part, Refusal>
         requires { (v : TheVersion) → IsIn v versions.items → IsIn v self.now }
         ensures ok { IfOk result (λ p. p ≡ versions.items) }

@@ -32,8 +32,8 @@ const MANY: usize = 8;
 
 /// A set of concurrent versions, shared by copies.
 ///
-/// Costs are for clocks of puts, and eight versions or more. A put's clock covers a version exactly if it reaches the
-/// counter of that version's writer. Other clocks may cost a comparison with each version.
+/// Costs are for eight versions or more, and for clocks of puts. These cover a version exactly if they reach its own
+/// writer's counter. Other clocks may cost a comparison with each version.
 ///
 /// From eight versions on, each is in the chunk of its writer's group. A set takes 16 bytes for each chunk.
 ///
@@ -56,7 +56,7 @@ impl Model for Versions {
     ghost invariant = { λ a. IsApart (shared_versions a.shared) };
 }
 
-// Explicit, so that crates above need not check the cases of `Shared`.
+// Explicit: crates above need not check the cases of `Shared`.
 impl Drop for Versions {
     fn drop(self) {
         let Versions { alloc: _, shared } = self;
@@ -89,7 +89,6 @@ impl Versions {
         Versions::of_left(alloc, join_of(alloc, list.as_slice())?, Left { kept, made })
     }
 
-    // Makes the set with the join of its clocks.
     pub(crate) fn of_left(alloc: Global, join: Clock, left: Left) -> Result<Versions, Refusal>
         requires apart { IsApart (all_left left) }
         requires join { RaisesTo [] (IsClockIn (all_left left)) join }
@@ -174,9 +173,6 @@ impl Versions {
     ///
     /// Takes no memory if this set covers the other. If no other set shares this one, a version concurrent with all is
     /// added in place, for its memory.
-    ///
-    /// Then a set below eight compares it at most twice with each version; a larger set raises two joins
-    /// (`Clock::raise`).
     ///
     /// Otherwise copies new and staying versions. From eight on, copies only changed chunks, the list of chunks and the
     /// join.

@@ -18,8 +18,8 @@ use std::collections::BTreeMap;
 
 const FEW: usize = 32;
 
-// Versions by key, ascending. Up to 32 are in a vector, at first with room for one. Most keepers of hints have one key
-// of a chunk; a tree's smallest node has room for several.
+// Versions by key, ascending. A vector holds up to 32, at first with room for one, as most keepers of hints have one
+// key of a chunk. A tree's smallest node has room for several.
 #[derive(Drop)]
 pub(crate) enum Entries {
     Few(Vec<(usize, Versions)>),
@@ -77,7 +77,7 @@ impl Entries {
         }
     }
 
-    // Counts the entries: a hint without a contract.
+    // Counts the entries, for estimates.
     pub(crate) fn len(&self) -> usize {
         match self {
             Entries::Few(list) => list.len(),

@@ -7,7 +7,7 @@ use ring_names::Refusal;
 use ring_versions::Fresh;
 use std::collections::BTreeMap;
 
-/// What a map brings: the keys that get uncovered versions.
+/// A prepared merge with a map: by key, what is new.
 #[derive(Drop)]
 pub struct FreshKeys {
     pub(crate) map: BTreeMap<usize, Fresh>,

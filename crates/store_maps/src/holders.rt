@@ -1,4 +1,4 @@
-//! Which nodes have something of which keys.
+//! Which nodes have versions of which keys.
 
 use crate::key_id::KeyId;
 use crate::key_map::KeyMap;
@@ -8,7 +8,7 @@ use ring_names::{NodeId, Refusal};
 use std::alloc::Global;
 use std::collections::{BTreeMap, BTreeSet};
 
-/// Nodes by key. A look-up costs the logarithm of the keys.
+/// For each key, the nodes that have it. A look-up takes logarithmic time.
 #[derive(Drop)]
 pub struct Holders {
     alloc: Global,
@@ -27,7 +27,7 @@ impl Holders {
     ghost use Rattle.store_maps.specs.Trees.{has_entry};
     ghost use Rattle.store_maps.specs.declared.key_id.KeyId.{KeyId};
 
-    /// Starts empty.
+    /// Returns an empty map.
     pub fn new(alloc: Global) -> Holders
         ensures { (k : KeyId) → holders_at result k ≡ [] }
     {
@@ -54,7 +54,7 @@ impl Holders {
         Ok(())
     }
 
-    /// Adds the node to the key's.
+    /// Adds the node to the key's nodes.
     pub fn add(&mut self, key: KeyId, node: NodeId) -> Result<(), Refusal>
         ensures ok { OnOk result ((k : KeyId) (x : ℕ)
             → holds self.new k x ≡ ((same_key key k && (node.0 == x)) || holds self.old k x)) }
@@ -70,7 +70,7 @@ impl Holders {
         self.put(key, nodes)
     }
 
-    /// Removes the node from the key's.
+    /// Removes the node from the key's nodes.
     pub fn remove(&mut self, key: KeyId, node: NodeId)
         ensures { (k : KeyId) (x : ℕ)
             → holds self.new k x ≡ (not (same_key key k && (node.0 == x)) && holds self.old k x) }
@@ -111,7 +111,7 @@ impl Holders {
         }
     }
 
-    /// Removes the node from all keys of the slot. Costs a look-up for each.
+    /// Removes the node from each key of the slot's map. Costs a look-up for each.
     pub fn forget(&mut self, node: NodeId, map: &SlotMap)
         ensures others { (k : KeyId) (x : ℕ) → x ≢ node.0 → holds self.new k x ≡ holds self.old k x }
         ensures gone { (k : KeyId) → has_place_for map.now k ≡ true → holds self.new k node.0 ≡ false }

@@ -9,22 +9,21 @@ use std::collections::BTreeMap;
 use std::mem;
 use std::sync::Arc;
 
-/// Versions by a key's number. A key may have an empty place, made before a merge that must not fail; readers cannot
-/// see it.
+/// Versions by key number. A key may have an empty place, made for a merge that must not fail. Readers do not see it.
 ///
-/// A look-up costs the logarithm of the places. Preparations and refused calls change no reading.
+/// A look-up takes logarithmic time. Preparations and refused calls change nothing visible.
 ///
-/// Maps are copy-on-write: the first change of a shared key copies it, not its versions, into the map's own tree, an
+/// Maps are copy-on-write. The first change of a shared key copies it, not its versions, into the map's own tree, an
 /// overlay.
 ///
-/// A look-up searches at most two trees, and a copy takes only the own tree.
+/// A look-up searches at most two trees. Copying a map copies only its overlay.
 pub struct KeyMap {
     pub(crate) own: KeyTree,
     // Read for keys without a place in the own tree.
     pub(crate) shared: Option<Arc<KeyTree>>,
 }
 
-// So crates above need not check both trees.
+// Explicit: crates above need not check both trees.
 impl Drop for KeyMap {
     fn drop(self) {
         let KeyMap { own, shared } = self;
@@ -44,7 +43,7 @@ impl KeyMap {
     ghost use Rattle.store_maps.specs.Merges.{MergesAll, at_number, AreFreshFor, AreReady, has_fresh};
     ghost use Rattle.store_maps.specs.Trees.{kept, tree_entry, has_entry};
 
-    /// Starts empty.
+    /// Returns an empty map.
     pub fn new(alloc: Global) -> KeyMap
         ensures versions { (k : ℕ) → held result k ≡ [] }
         ensures places { (k : ℕ) → has_place result k ≡ false }
@@ -76,7 +75,7 @@ impl KeyMap {
         }
     }
 
-    /// Whether no key has a place, for callers without empty places.
+    /// Whether no key has a place, for maps without empty places.
     pub fn is_empty(&self) -> bool
         ensures { IsTrue result ↔ ((k : ℕ) → has_place self.now k ≡ false) }
     {
@@ -96,7 +95,7 @@ impl KeyMap {
         }
     }
 
-    // Makes one tree of all keys. Costs a copy of each.
+    // Copies all keys into one tree.
     fn flat(&self) -> Result<KeyTree, Refusal>
         ensures same { IfOk result (λ t. (k : ℕ) → tree_entry t k ≡ map_entry self.now k) }
         ensures memory { IfErr result (λ e. e ≡ OutOfMemory) }
@@ -109,7 +108,7 @@ impl KeyMap {
         Ok(flat)
     }
 
-    // Removes sharing. Costs a copy of each key if shared.
+    // Ends sharing. Copies each key if the map is shared.
     fn unshare(&mut self) -> Result<(), Refusal>
         ensures same { (k : ℕ) → map_entry self.new k ≡ map_entry self.old k }
         ensures ok { OnOk result (self.new.shared ≡ None) }
@@ -122,7 +121,7 @@ impl KeyMap {
         Ok(())
     }
 
-    // Moves the overlay into the shared tree if no other map has it, and says whether.
+    // Moves the overlay into the shared tree if no other map shares it. Returns whether it did.
     fn put_down(&mut self) -> Result<bool, Refusal>
         ensures same { (k : ℕ) → map_entry self.new k ≡ map_entry self.old k }
         ensures memory { IfErr result (λ e. e ≡ OutOfMemory) }
@@ -138,7 +137,7 @@ impl KeyMap {
         Ok(true)
     }
 
-    // Whether copying the overlay beats sharing a new tree of all keys.
+    // Estimates whether copying the overlay is cheaper than sharing a new tree of all keys.
     fn lies_thinly(&self) -> bool {
         let over = self.own.len();
         match &self.shared {
@@ -147,7 +146,7 @@ impl KeyMap {
         }
     }
 
-    /// Lets copies share the map. Costs nothing if empty, and an allocation if nothing is shared yet.
+    /// Lets copies share the map. Free if the overlay is empty; one allocation if nothing is shared yet.
     ///
     /// Otherwise costs a look-up for each key of the overlay if no other map shares, and at most a copy of each key.
     pub fn share(&mut self) -> Result<(), Refusal>
@@ -193,9 +192,7 @@ impl KeyMap {
         self.own.put(key, brought)
     }
 
-    /// Copies the map.
-    ///
-    /// Costs a copy of each key changed since the map was shared, or of all if never.
+    /// Copies the map: only keys changed since it was shared, or all if it never was.
     pub fn try_copy(&self) -> Result<KeyMap, Refusal>
         ensures same { IfOk result (λ m. (k : ℕ) → held m k ≡ held self.now k) }
         ensures places { IfOk result (λ m. (k : ℕ) → has_place m k ≡ has_place self.now k) }
@@ -211,7 +208,8 @@ impl KeyMap {
         })
     }
 
-    /// Prepares a merge at one key, and makes a missing place. Costs `Versions::fresh_of`, and a copy of a shared key.
+    /// Prepares a merge at one key, and makes its place if missing. Costs `Versions::fresh_of`, and a copy of a shared
+    /// key.
     pub fn prepare(&mut self, key: usize, more: &Versions) -> Result<Fresh, Refusal>
         ensures same { (k : ℕ) → held self.new k ≡ held self.old k }
         ensures stays { (k : ℕ) → has_place self.old k ≡ true → has_place self.new k ≡ true }
@@ -252,7 +250,7 @@ impl KeyMap {
         self.own.merge(key, more)
     }
 
-    // Prepares a merge at one key, which changes only if something new comes.
+    // Prepares a merge at one key. Copies a shared key only if something is new.
     fn prepare_new(&mut self, key: usize, more: &Versions) -> Result<Fresh, Refusal>
         ensures same { (k : ℕ) → held self.new k ≡ held self.old k }
         ensures stays { (k : ℕ) → has_place self.old k ≡ true → has_place self.new k ≡ true }
@@ -299,7 +297,7 @@ impl KeyMap {
 
     /// Prepares a merge with a whole map, and makes missing places.
     ///
-    /// Costs two look-ups and a merge for each key of the other map, and a copy of its keys if its overlay changed
+    /// Costs two look-ups and a merge for each key of the other map, and a copy of its keys if both its trees have
     /// some.
     pub fn prepare_all(&mut self, other: &KeyMap) -> Result<FreshKeys, Refusal>
         ensures same { (k : ℕ) → held self.new k ≡ held self.old k }
@@ -352,10 +350,10 @@ impl KeyMap {
         Ok(())
     }
 
-    /// Merges a whole map. An empty map costs a copy of the other, others `prepare_all`.
+    /// Merges a whole map. If this map is empty, costs a copy of the other; otherwise `prepare_all`.
     ///
-    /// If only the other map shares, and more keys than this has, costs such a copy. Each own key then costs two
-    /// look-ups and a merge.
+    /// If only the other map shares, and more keys than this has, costs a copy of the other. Each own key then costs
+    /// two look-ups and a merge.
     pub fn take_in(&mut self, other: &KeyMap) -> Result<(), Refusal>
         ensures ok { OnOk result (MergesAll (held self.old) (held other.now) (held self.new)) }
         ensures err { OnErr result ((k : ℕ) → held self.new k ≡ held self.old k) }

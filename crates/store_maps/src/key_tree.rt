@@ -8,7 +8,7 @@ use ring_names::Refusal;
 use ring_versions::Versions;
 use std::alloc::Global;
 
-/// Versions by key, ascending: a map's own or shared part.
+/// Versions by key, ascending: a map's overlay or its shared tree.
 #[derive(Drop)]
 pub struct KeyTree {
     pub(crate) alloc: Global,
@@ -27,7 +27,7 @@ impl KeyTree {
     ghost use Rattle.store_maps.specs.Sorted.{PutsAt};
     ghost use Rattle.store_maps.specs.Trees.{tree_entry, kept, has_entry};
 
-    /// Starts empty.
+    /// Returns an empty tree.
     pub fn new(alloc: Global) -> KeyTree
         ensures { (k : ℕ) → tree_entry result k ≡ None }
     {
@@ -47,7 +47,7 @@ impl KeyTree {
         Ok(copy)
     }
 
-    /// Sets all keys of the other to its versions. If refused, some may be set already.
+    /// Copies all keys from `other`. If refused, some may be copied already.
     pub fn put_all(&mut self, other: &KeyTree) -> Result<(), Refusal>
         ensures ok { OnOk result ((k : ℕ)
             → tree_entry self.new k ≡ option_or (tree_entry other.now k) (tree_entry self.old k)) }
@@ -60,7 +60,7 @@ impl KeyTree {
         Ok(())
     }
 
-    /// Counts keys with places: a hint without a contract.
+    /// Counts keys with places, for estimates.
     pub fn len(&self) -> usize {
         self.entries.len()
     }

@@ -13,7 +13,7 @@ impl KeyTree {
     ghost use Rattle.store_maps.specs.Trees.{kept, has_entry, IsReadyIn};
     ghost use Rattle.store_maps.specs.Merges.{MergesAll, at_number, AreFreshFor, AreReadyIn};
 
-    /// Prepares a merge at one key, and makes a missing place.
+    /// Prepares a merge at one key, and makes its place if missing.
     pub fn prepare(&mut self, key: usize, more: &Versions) -> Result<Fresh, Refusal>
         ensures same { (k : ℕ) → kept self.new k ≡ kept self.old k }
         ensures stays { (k : ℕ) → has_entry self.old k ≡ true → has_entry self.new k ≡ true }

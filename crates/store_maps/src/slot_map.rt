@@ -13,8 +13,7 @@ use ring_names::Refusal;
 use ring_versions::Versions;
 use std::alloc::Global;
 
-/// The versions of a slot's keys, in a map for each of sixteen chunks that got something. Refused calls change no
-/// reading.
+/// The versions of a slot's keys, by chunk. A chunk that got nothing has no map. Refused calls change nothing visible.
 #[derive(Drop)]
 pub struct SlotMap {
     alloc: Global,
@@ -38,7 +37,7 @@ impl SlotMap {
     ghost use Rattle.store_maps.specs.Slots.{held_for, has_place_for};
     ghost use Rattle.store_maps.specs.declared.key_id.KeyId.{KeyId};
 
-    /// Starts empty.
+    /// Returns an empty map.
     pub fn new(alloc: Global) -> SlotMap
         ensures versions { (k : KeyId) → held_for result k ≡ [] }
         ensures places { (k : KeyId) → has_place_for result k ≡ false }
@@ -50,7 +49,7 @@ impl SlotMap {
         }
     }
 
-    // Returns the place of a chunk's map, made if missing.
+    // Adds the chunk's map if missing.
     fn open(&mut self, chunk: u32) -> Result<usize, Refusal>
         requires { chunk < 16 }
         ensures same { (k : KeyId) → held_for self.new k ≡ held_for self.old k }
@@ -105,7 +104,7 @@ impl SlotMap {
         self.chunks[place].1.merge(key.number, more)
     }
 
-    /// Whether no key has a place, for callers without empty places.
+    /// Whether no key has a place, for maps without empty places.
     pub fn is_empty(&self) -> bool
         ensures { IsTrue result ↔ ((k : KeyId) → has_place_for self.now k ≡ false) }
     {
