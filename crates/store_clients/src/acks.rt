@@ -65,7 +65,7 @@ fn refusal_by(acked: bool, needed: u32, current: u32) -> Option<Refusal>
     None
 }
 
-/// Returns why a put is not acknowledged now: unknown, already acknowledged, or fewer than W current tickets.
+/// Returns why a put cannot be acknowledged now: unknown, already acknowledged, or fewer than W current tickets.
 ///
 /// Costs a few look-ups for each slot of a partition.
 pub fn ack_refusal(parts: &Parts, put: u32) -> Option<Refusal>

@@ -50,7 +50,7 @@ fn refusal_of(gets: &Gets, needed: u32, get: u32) -> Option<Refusal>
     None
 }
 
-/// Returns why a get does not end now: unknown, already ended, or fewer than R slots read.
+/// Returns why a get cannot end now: unknown, already ended, or fewer than R slots read.
 pub fn end_refusal(parts: &Parts, get: u32) -> Option<Refusal>
     requires { IsSound parts.now }
     ensures { Tests parts.now (EndGet get) result }
@@ -76,7 +76,7 @@ pub fn end_get(parts: &mut Parts, get: u32) -> Result<Reply, Refusal>
     Ok(Reply::Answer(reply))
 }
 
-/// Ends the get as `end_get`, and copies the reply.
+/// Ends the get as `end_get` does, and returns the reply twice.
 pub fn end_get_with_copy(parts: &mut Parts, get: u32) -> Result<(Reply, Reply), Refusal>
     requires sound { IsSound parts.old }
     requires passes { Passes parts.old (EndGet get) }

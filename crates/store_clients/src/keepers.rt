@@ -47,8 +47,8 @@ pub fn keeper_refusal(nodes: &Nodes, hints: &Hints, place: &SlotKey) -> Option<R
     }
 }
 
-// Whether the join of the held clocks is at most that of all, if both are kept. For puts of one key, all then cover the
-// held.
+// Whether both sets keep a join, and the held join is at most that of all. For puts of one key, `all` then covers
+// `held`.
 fn is_told(all: &Versions, held: &Versions) -> bool
     ensures { IsTrue result → JoinIsAtMost held.now all.now }
 {

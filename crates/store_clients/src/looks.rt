@@ -30,7 +30,7 @@ fn owner_versions(parts: &Parts, at: &SlotKey) -> Result<Versions, Refusal>
     Ok(all)
 }
 
-// The slot's versions of the key: the owner's and the hints', merged aside.
+// Merges the owner's and the hints' versions of the slot's key into a new set.
 fn slot_versions(parts: &Parts, at: &SlotKey) -> Result<Versions, Refusal>
     requires { JoinsTell (owned_at parts.now.slots (held_at parts.now.stores) at.now.slot at.now.key)
         (λ x. hinted_at parts.now.hints x at.now.slot at.now.key) }
@@ -46,7 +46,7 @@ fn slot_versions(parts: &Parts, at: &SlotKey) -> Result<Versions, Refusal>
     Ok(all)
 }
 
-/// Returns what the get has found after the slot, and the puts found there.
+/// Returns what the get has found after reading the slot, and the puts found there.
 pub fn look(parts: &Parts, get: u32, index: u32) -> Result<(Found, Listed<u32>), Refusal>
     requires sound { IsSound parts.now }
     requires passes { Passes parts.now (Read get index) }

@@ -65,7 +65,7 @@ fn seen_refusal(gets: &Gets, key: usize, seen: &[u32]) -> Option<Refusal>
     None
 }
 
-/// Returns why a put does not start now: a named get is unknown, of another key, or has not ended.
+/// Returns why a put cannot start now: a named get is unknown, of another key, or has not ended.
 ///
 /// Costs a look-up for each named get.
 pub fn put_refusal(

@@ -15,7 +15,6 @@ use ring_names::{Listed, Refusal, Slot};
 use ring_store::SlotKey;
 use store_parts::Parts;
 
-// The refusal if the owner or a keeper of the key is down.
 fn down_refusal(parts: &Parts, at: &SlotKey) -> Option<Refusal>
     ensures { StopsRead parts.now.slots (is_up_at parts.now.nodes)
         (λ x. hinted_at parts.now.hints x at.now.slot at.now.key) at.now.slot result }
@@ -28,7 +27,7 @@ fn down_refusal(parts: &Parts, at: &SlotKey) -> Option<Refusal>
     keeper_refusal(&parts.nodes, &parts.hints, at)
 }
 
-/// Returns why a slot is not read for a get now. Costs a look-up for each of the slot's keepers.
+/// Returns why a get cannot read a slot now. Costs a look-up for each keeper of the key.
 ///
 /// Get or slot is unknown, the get has ended or read the slot, or the owner or a keeper of the key is down.
 pub fn read_refusal(parts: &Parts, get: u32, index: u32) -> Option<Refusal>
@@ -59,7 +58,7 @@ pub fn read_refusal(parts: &Parts, get: u32, index: u32) -> Option<Refusal>
 /// Costs a merge of the slot's versions with those found before, and a sort. Each keeper of the key costs a look-up and
 /// a merge.
 ///
-/// Such a merge is one comparison of clocks if the keeper has nothing new, and one version or at least eight.
+/// Such a merge is one comparison of clocks if nothing is new, and both sets have one version or at least eight.
 pub fn read(parts: &mut Parts, get: u32, index: u32) -> Result<Reply, Refusal>
     requires sound { IsSound parts.old }
     requires passes { Passes parts.old (Read get index) }
@@ -73,7 +72,7 @@ pub fn read(parts: &mut Parts, get: u32, index: u32) -> Result<Reply, Refusal>
     Ok(Reply::Found(puts))
 }
 
-/// Reads the slot as `read`, and copies the reply.
+/// Reads the slot as `read` does, and returns the reply twice.
 pub fn read_with_copy(parts: &mut Parts, get: u32, index: u32) -> Result<(Reply, Reply), Refusal>
     requires sound { IsSound parts.old }
     requires passes { Passes parts.old (Read get index) }

@@ -14,7 +14,7 @@ use ring_names::{NodeId, Slot};
 use std::collections::BTreeSet;
 use store_parts::Parts;
 
-// The lesser of `least` and the keeper, if down and keeping some of the chunk for the slot.
+// Returns the lesser of `least` and the keeper, if the keeper is down and keeps some of the chunk.
 fn with_keeper(
     parts: &Parts,
     least: Option<NodeId>,

@@ -24,7 +24,6 @@ fn has_chunk(parts: &Parts, step: u32, chunk: u32) -> bool
     has_copy(parts, step) && chunk < 16
 }
 
-// The refusal of the least down keeper of the chunk for a listed slot.
 fn keeper_refusal(parts: &Parts, step: u32, chunk: u32) -> Option<Refusal>
     requires chunk { chunk < 16 }
     requires sized { IsSized parts.now }
@@ -43,9 +42,9 @@ fn keeper_refusal(parts: &Parts, step: u32, chunk: u32) -> Option<Refusal>
 
 /// Returns why a chunk cannot be copied now. Looks only at listed slots' keepers.
 ///
-/// First `UnknownNumber` without such a copy or chunk, then `NotOpen`, then `AlreadyDone` if marked.
+/// First `UnknownNumber` if there is no such copy or chunk, then `NotOpen`, then `AlreadyDone` if the chunk is marked.
 ///
-/// Then `NodeDown`, with the copy's least down node, then with the least down keeper of a listed slot.
+/// Then `NodeDown`: the copy's least down node, then the least down keeper of a listed slot.
 pub fn chunk_refusal(parts: &Parts, step: u32, chunk: u32) -> Option<Refusal>
     requires { IsSound parts.now }
     ensures { Tests parts.now (ChunkCopy step chunk) result }
@@ -67,8 +66,8 @@ pub fn chunk_refusal(parts: &Parts, step: u32, chunk: u32) -> Option<Refusal>
 
 /// Copies a chunk to the slot's mirror, and marks it.
 ///
-/// From the owner, costs `KeyMap::take_in` of its map at the mirror. Otherwise costs that for each map read, merged
-/// aside, and again at the mirror.
+/// From the owner, costs `Stores::copy_chunk`. Otherwise merges each map read into a new map by `KeyMap::take_in`, and
+/// this into the mirror's.
 pub fn chunk_copy(parts: &mut Parts, step: u32, chunk: u32) -> Result<Reply, Refusal>
     requires sound { IsSound parts.old }
     requires passes { Passes parts.old (ChunkCopy step chunk) }

@@ -34,7 +34,7 @@ fn raise_partition(slots: &mut Slots, hints: &Hints, n: u32, partition: u32, nod
     }
 }
 
-// Raises each slot's generation if its group has the node.
+// Raises the generation of each slot whose group has the node.
 pub(crate) fn raise_groups(slots: &mut Slots, hints: &Hints, ring: &Ring, node: NodeId)
     requires { (t : TheSlot) → IfSome (slot_now slots.old t) (λ x. x.generation < 4294967295) }
     ensures { RaisesGroups (hinted_at hints.now) node.0 (λ t. is_ring_slot ring.now t) slots.old slots.new }

@@ -26,7 +26,7 @@ fn serves_in(parts: &Parts, partition: u32, node: NodeId) -> bool
 
 /// Returns why a hint is refused now: put or slot is unknown, or the node is not a member or is down.
 ///
-/// Or the node serves a slot of the partition, or keeps hints for another.
+/// Or the node serves a slot of the partition, or keeps hints for another slot.
 pub fn hint_refusal(parts: &Parts, put: u32, index: u32, node: NodeId) -> Option<Refusal>
     requires { IsSound parts.now }
     ensures { Tests parts.now (Hint put index node) result }

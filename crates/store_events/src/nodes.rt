@@ -22,7 +22,7 @@ pub fn down_refusal(parts: &Parts, node: NodeId) -> Option<Refusal>
     None
 }
 
-/// Takes the node down, with its data.
+/// Marks the node as down. Its data stays.
 pub fn down(parts: &mut Parts, node: NodeId) -> Reply
     requires sound { IsSound parts.old }
     requires passes { Passes parts.old (Down node) }
@@ -47,7 +47,7 @@ pub fn up_refusal(parts: &Parts, node: NodeId) -> Option<Refusal>
     None
 }
 
-/// Takes the node up, with its data.
+/// Marks the node as up, with its data.
 pub fn up(parts: &mut Parts, node: NodeId) -> Reply
     requires sound { IsSound parts.old }
     requires passes { Passes parts.old (Up node) }
@@ -72,9 +72,9 @@ pub fn lose_refusal(parts: &Parts, node: NodeId) -> Option<Refusal>
     None
 }
 
-/// Removes the node's data and hints; it stays up or down. Walks all slots of the ring and the node's data.
+/// Removes the node's data and hints. The node stays up or down. Walks all slots of the ring and the node's data.
 ///
-/// Each slot that it serves, or keeps hints for, gets the next generation.
+/// Each slot that the node serves, or keeps hints for, gets the next generation.
 pub fn lose(parts: &mut Parts, node: NodeId) -> Reply
     requires sound { IsSound parts.old }
     requires passes { Passes parts.old (Lose node) }

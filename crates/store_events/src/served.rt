@@ -19,7 +19,7 @@ pub(crate) fn is_served(slots: &Slots, slot: Slot, node: NodeId) -> bool
     }
 }
 
-/// The refusal if the slot's owner is down, then if its mirror is.
+/// Returns the refusal if the slot's owner is down, then if its mirror is.
 pub(crate) fn served_refusal(parts: &Parts, slot: Slot) -> Option<Refusal>
     ensures { result ≡ first_failing (served_up_kept parts.now.nodes parts.now.slots slot) }
 {

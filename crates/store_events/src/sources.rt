@@ -104,7 +104,6 @@ fn add_slots(
     Ok(())
 }
 
-// Reads the chunk of these slots, merged aside.
 fn read_slots(parts: &Parts, slot: Slot, from: &[u8], chunk: u32) -> Result<KeyMap, Refusal>
     requires chunk { chunk < 16 }
     requires sized { IsSized parts.now }
@@ -155,7 +154,7 @@ fn give_owner(parts: &mut Parts, mirror: NodeId, slot: Slot, chunk: u32) -> Resu
     parts.stores.copy_chunk(owner, mirror, slot, chunk)
 }
 
-/// Gives the mirror a copy's chunk: the owner's map directly, or the listed slots' maps, merged aside.
+/// Gives the mirror a copy's chunk: the owner's map directly, or a map merged from the listed slots'.
 pub(crate) fn give_source(
     parts: &mut Parts,
     mirror: NodeId,

@@ -15,7 +15,7 @@ use plan_text::Step;
 use ring_names::Refusal;
 use store_parts::Parts;
 
-/// Returns why the step cannot be done now: `UnknownNumber` without such a step or for a copy, or `AlreadyDone`.
+/// Returns why the step cannot be done now: `UnknownNumber` if there is no such step or it is a copy, or `AlreadyDone`.
 ///
 /// Then `NotReady` if a dependency is not finished, and `NodeDown` if a node that is to mirror or drop is down.
 ///
@@ -66,8 +66,8 @@ fn kind_refusal(parts: &Parts, step: &Step) -> Option<Refusal>
     }
 }
 
-/// Finishes the step. A node joins and is up, a slot is mirrored in the next generation or switched, or a node drops or
-/// retires.
+/// Does the step. A node joins and is up, a slot gets a mirror and the next generation or is switched, or a node drops
+/// or retires.
 ///
 /// A drop walks the slot's data at the node.
 pub fn do_step(parts: &mut Parts, step: u32) -> Reply

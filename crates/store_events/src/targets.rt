@@ -7,7 +7,7 @@ ghost use Rattle.store_parts.specs.Parts.{ring_of, Meets, IsSound};
 use ring_names::Slot;
 use store_parts::Parts;
 
-/// Returns the indexed slot of the put's partition, if both exist.
+/// Returns slot `index` of the put's partition, if both exist.
 pub(crate) fn put_slot(parts: &Parts, put: u32, index: u32) -> Option<Slot>
     requires { IsSound parts.now }
     ensures { (w : World) → Meets parts.now w → IsPutSlot (ring_of parts.now) w put index result }

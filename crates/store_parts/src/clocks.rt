@@ -17,23 +17,23 @@ ghost use Rattle.plan_runs.specs.Reached.{Reached};
 ghost use Rattle.plan_runs.specs.Leaves.{starts_put};
 ghost use Rattle.store_parts.specs.Clocks.{AreClocksOf, IsLastOf, IsInputOf};
 
-/// A key's put has a clock at most another's exactly if the other succeeds it.
+/// A put's clock is at most another's of its key exactly if the other succeeds it.
 pub fn clocks_tell_succession()
     ensures { (w : World) (clock : ℕ → List TheEntry) → AreClocksOf w clock
         → (u v : ℕ) → u < length w.puts → v < length w.puts → key_of_put w u ≡ key_of_put w v
         → IsAtMost (clock v) (clock u) ↔ Succeeds w u v }
 {}
 
-/// A put's clock that reaches another's own counter, for one key, is at least the other's.
+/// For two puts of one key, the first's clock is at most the second's if its writer's counter is.
 pub fn own_counters_tell()
     ensures { (w : World) (clock : ℕ → List TheEntry) → AreClocksOf w clock
         → (u v : ℕ) → u < length w.puts → v < length w.puts → key_of_put w u ≡ key_of_put w v
         → counter (clock v) (writer_of w v) ≤ counter (clock u) (writer_of w v) → IsAtMost (clock v) (clock u) }
 {}
 
-/// At the start any clocks will do. An event that starts no put keeps all clocks.
+/// At the start any clocks are right. An event that starts no put keeps them right.
 ///
-/// A started put keeps the others, if its clock comes from its inputs'.
+/// So does a started put, if its clock is made from its inputs' clocks.
 pub fn clocks_are_kept()
     ensures opening { (ring : RingValue) (clock : ℕ → List TheEntry) → AreClocksOf (opening_world ring) clock }
     ensures stay { (ring : RingValue) (plan : List Planned) (w u : World) (e : TheEvent) (r : TheReply)

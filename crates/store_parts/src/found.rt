@@ -22,8 +22,8 @@ ghost use Rattle.store_parts.specs.Clocks.{AreClocksOf, IsInputOf};
 ghost use Rattle.store_parts.specs.GetsFind.{can_find, found_by, is_of_get};
 ghost use Rattle.store_parts.specs.Found.{IsJoinOfFound};
 
-/// A read finds the puts of the slot's versions of the key. Merged with the get's earlier ones, they show what it found
-/// then.
+/// A read finds the puts of the slot's versions of the key. Merged with the get's versions, these show what the get has
+/// found.
 pub fn reads_are_merged()
     ensures shows { (ring : RingValue) (plan : List Planned) (w u : World) (clock : ℕ → List TheEntry)
         (value : ℕ → List ℕ) (g : ℕ) (r : TheReply)
@@ -38,7 +38,7 @@ pub fn reads_are_merged()
         → ArePuts at_slot ns → r ≡ Found ns }
 {}
 
-/// An ended get returns the puts of its versions, which then show its reply.
+/// A get that ends replies with its versions' puts, which these versions then show.
 pub fn ended_gets_show_replies()
     ensures shows { (ring : RingValue) (plan : List Planned) (w u : World) (clock : ℕ → List TheEntry)
         (value : ℕ → List ℕ) (g : ℕ) (r : TheReply) (found : List TheVersion)
@@ -52,16 +52,16 @@ pub fn ended_gets_show_replies()
         → (ns : List ℕ) → ArePuts found ns → r ≡ Answer ns }
 {}
 
-/// Other events keep what the get found, and its reply.
+/// Events that are not the get's keep what it found, and its reply.
 pub fn gets_are_kept()
     ensures { (ring : RingValue) (plan : List Planned) (w u : World) (e : TheEvent) (r : TheReply) (g : ℕ)
         → answer ring plan w e ≡ Ok (u, r) → is_of_get g e ≡ false
         → (v : ℕ) → (found_by ring u g v ≡ found_by ring w g v) × (replied u.gets g v ≡ replied w.gets g v) }
 {}
 
-/// The versions that gets found must show their replies.
+/// Joining found clocks joins a put's inputs: the gets that it names, and its writer's last put.
 ///
-/// Then their clocks and that of the writer's last put join to the inputs' join of a put that names these gets.
+/// The versions found must show these gets' replies.
 pub fn found_clocks_join()
     ensures { (w : World) (clock : ℕ → List TheEntry) (value : ℕ → List ℕ) (found : ℕ → List TheVersion) (seen : List ℕ)
         (last : Option ℕ) (d : List TheEntry)

@@ -19,11 +19,11 @@ use std::marker::Model;
 pub struct GetNow {
     /// Its key's number.
     pub key: usize,
-    /// The slots that it has read, by index.
+    /// The slots that the get has read, by index.
     pub read: Marks,
-    /// Their versions, merged.
+    /// The versions found there, merged.
     pub found: Found,
-    /// The returned puts, ascending, once ended.
+    /// The puts returned, ascending, if the get has ended.
     pub reply: Option<Listed<u32>>,
 }
 
@@ -43,7 +43,7 @@ impl Model for Gets {
 }
 
 impl Gets {
-    /// Starts empty.
+    /// Returns an empty list.
     pub fn new(alloc: Global) -> Gets
         ensures { result ≡ [] }
     {
@@ -96,7 +96,7 @@ impl Gets {
         Ok(())
     }
 
-    /// Sets the slot as read, and the versions found.
+    /// Marks the slot as read, and sets the versions found.
     #[tactic(auto, using(crate::proofs::Writing::writing))]
     pub fn set_found(&mut self, number: u32, index: u32, found: Found)
         requires { index < 7 }

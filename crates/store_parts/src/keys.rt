@@ -15,9 +15,9 @@ use std::alloc::Global;
 use std::marker::Model;
 use store_maps::KeyId;
 
-/// The keys of puts and gets, numbered by first sight from 0. A look-up costs as in `Numbered`.
+/// The keys of puts and gets, numbered from 0 when first seen. A look-up costs as in `Numbered`.
 ///
-/// Keeps their places among q partitions: a key's digest is computed once.
+/// Keeps each key's place among q partitions, so that its digest is computed once.
 #[derive(Drop)]
 pub struct Keys {
     q: u32,
@@ -38,7 +38,7 @@ impl Model for Keys {
 }
 
 impl Keys {
-    /// Starts empty, in a space of q partitions.
+    /// Returns an empty list, for q partitions.
     pub fn new(alloc: Global, q: u32) -> Keys
         requires { is_space q ≡ true }
         ensures { result ≡ record { q = q; keys = [] } }
@@ -64,7 +64,7 @@ impl Keys {
         self.keys.number_of(key)
     }
 
-    /// Returns the key's number, old or new. Only a new key can fail.
+    /// Returns the key's number, perhaps a new one. Fails only for a new key.
     pub fn add(&mut self, key: &[u8]) -> Result<usize, Refusal>
         ensures number { IfOk result (λ n. number_in self.new.keys key.now ≡ Some n) }
         ensures keys { OnOk result (self.new ≡ record self.old { keys = with_name self.old.keys key.now }) }

@@ -44,7 +44,7 @@ impl Row {
     }
 }
 
-/// Each writer's last put on each key, by numbers. A look-up costs the logarithm of the key's writers.
+/// Each writer's last put on each key. A look-up is a binary search of the key's writers.
 #[derive(Drop)]
 pub struct Lasts {
     alloc: Global,
@@ -54,7 +54,7 @@ pub struct Lasts {
 impl Lasts {
     ghost use Rattle.store_parts.specs.Lasts.{last_of};
 
-    /// Starts empty.
+    /// Returns an empty list.
     pub fn new(alloc: Global) -> Lasts
         ensures { (k w : ℕ) → last_of result k w ≡ None }
     {

@@ -1,7 +1,7 @@
 //! What a running store keeps besides versions: nodes, steps, slots, keys, and puts and gets in order of their start.
 //! A function without a `Result` takes no memory. A refused call changes nothing.
 //!
-//! Laws relate these parts to the world of the definitions, which has no clocks, before and after each event.
+//! Laws relate these parts, before and after each event, to the world that `plan_runs` defines, which has no clocks.
 #![tactic(auto)]
 
 mod clocks;

@@ -11,7 +11,7 @@ pub struct Marks {
 }
 
 impl Marks {
-    /// The empty set.
+    /// Returns the empty set.
     pub fn none() -> Marks
         ensures set { result ≡ no_marks }
         ensures numbers { (m : ℕ) → has_mark result m ≡ false }
@@ -26,7 +26,7 @@ impl Marks {
         number < 16 && (self.bits >> number) & 1 == 1
     }
 
-    /// Returns the set with the number.
+    /// Returns the set with this number added.
     #[tactic(auto, using(crate::proofs::Bits::has_with))]
     pub fn with(self, number: u32) -> Marks
         requires { number < 16 }

@@ -21,7 +21,7 @@ pub struct NodeNow {
     pub retired: bool,
 }
 
-/// A ring's nodes, by number, 1 to 1,024. Each call except `start` costs one look-up.
+/// A ring's 1 to 1,024 nodes, by number. Each call except `start` costs one look-up.
 #[derive(Drop)]
 pub struct Nodes {
     nodes: Vec<NodeNow>,
@@ -37,7 +37,7 @@ impl Model for Nodes {
 }
 
 impl Nodes {
-    /// The nodes before a plan: those declared `in` are up and joined.
+    /// Returns the nodes before a plan: those declared `in` are up and joined.
     pub fn start(alloc: Global, ring: &Ring) -> Result<Nodes, Refusal>
         ensures start { IfOk result (λ nodes. nodes ≡ map node_at_start ring.now.nodes) }
         ensures memory { IfErr result (λ e. e ≡ OutOfMemory) }
@@ -73,7 +73,7 @@ impl Nodes {
         }
     }
 
-    /// Takes the node up.
+    /// Marks the node as up.
     #[tactic(auto, using(crate::proofs::Writing::writing))]
     pub fn raise(&mut self, node: NodeId)
         ensures { self.new ≡ changed self.old node.0 (λ x. record x { up = true }) }
@@ -85,7 +85,7 @@ impl Nodes {
         }
     }
 
-    /// Takes the node down.
+    /// Marks the node as down.
     #[tactic(auto, using(crate::proofs::Writing::writing))]
     pub fn lower(&mut self, node: NodeId)
         ensures { self.new ≡ changed self.old node.0 (λ x. record x { up = false }) }
@@ -96,7 +96,7 @@ impl Nodes {
         }
     }
 
-    /// Lets the node join, and be up.
+    /// Marks the node as joined and up.
     #[tactic(auto, using(crate::proofs::Writing::writing))]
     pub fn join(&mut self, node: NodeId)
         ensures { self.new ≡ changed self.old node.0 (λ x. record x { up = true; joined = true }) }

@@ -39,7 +39,7 @@ pub struct Parts<'a> {
 }
 
 impl<'a> Parts<'a> {
-    /// Starts before the first event: members are up, and there is nothing else.
+    /// Returns the parts before the first event: members are up, and all else is empty.
     pub fn start(alloc: Global, approved: &'a Approved) -> Result<Parts<'a>, Refusal>
         ensures approved { IfOk result (λ a. a.approved.now ≡ approved.now) }
         ensures opening { IfOk result (λ a. Meets a (opening_world approved.now.ring)) }

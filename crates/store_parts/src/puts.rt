@@ -17,7 +17,7 @@ use std::marker::Model;
 pub struct PutNow {
     /// Its key's number.
     pub key: usize,
-    /// Its one version.
+    /// The put's version.
     pub version: Versions,
     /// By slot, the generation of the last write or hint.
     pub tickets: [Option<u32>; 7],
@@ -51,7 +51,7 @@ fn with_ticket(mut tickets: [Option<u32>; 7], index: u32, generation: u32) -> [O
 }
 
 impl Puts {
-    /// Starts empty.
+    /// Returns an empty list.
     pub fn new(alloc: Global) -> Puts
         ensures { result ≡ [] }
     {

@@ -18,10 +18,10 @@ ghost use Rattle.plan_runs.specs.Reached.{Reached};
 ghost use Rattle.store_parts.specs.Shows.{Shows, OfOneKey, ArePutsOf};
 ghost use Rattle.store_parts.specs.Clocks.{AreClocksOf};
 
-/// No version shows no put, one version its own, and a merge what the merged sets show. A merge with no version may
-/// change nothing.
+/// An empty set shows no put, one version its own put, a merge what both sets show. Merging an empty set can change
+/// nothing.
 ///
-/// Only the tested numbers, and the clocks and values of those that pass, matter.
+/// What is shown depends only on which numbers pass the test, and on their clocks and values.
 pub fn shown_sets_merge()
     ensures merge { (clock : ℕ → List TheEntry) (value : ℕ → List ℕ) (a b c : List TheVersion) (f g : ℕ → Bool)
         → Shows clock value a f → Shows clock value b g → IsMerge a b c → Shows clock value c (λ v. f v || g v) }
@@ -42,7 +42,7 @@ pub fn shown_sets_merge()
         → ArePutsOf w test → Shows clock value held test → Shows (with_clock clock (length w.puts) c) value held test }
 {}
 
-/// Versions that show a key's puts have the latest ones' numbers, ascending, and show these alike.
+/// Versions that show puts of one key have the latest ones' numbers, ascending, and show these too.
 pub fn shown_numbers_are_the_latest()
     ensures numbers { (w : World) (clock : ℕ → List TheEntry) (value : ℕ → List ℕ) (held : List TheVersion)
         (test : ℕ → Bool)

@@ -19,7 +19,7 @@ pub struct SlotNow {
     pub owner: NodeId,
     /// The node that also takes its writes, and owns it after the switch.
     pub mirror: Option<NodeId>,
-    /// How many mirrors it had, plus how often a node of the group lost its data.
+    /// How many mirrors the slot had, plus how often a node of its group lost its data.
     pub generation: u32,
 }
 
@@ -100,7 +100,7 @@ impl Model for Slots {
 }
 
 impl Slots {
-    /// The slots before a plan: the ring's owners, no mirrors, generation 0.
+    /// Returns the slots before a plan: the ring's owners, no mirrors, generation 0.
     pub fn start(alloc: Global, ring: &Ring) -> Result<Slots, Refusal>
         ensures start { IfOk result
             (λ slots. (t : TheSlot) → slot_now slots t ≡ option_map slot_at_start (owner_of ring.now t)) }
@@ -161,7 +161,7 @@ impl Slots {
         }
     }
 
-    /// Raises the slot's generation.
+    /// Raises the slot's generation by one.
     pub fn raise(&mut self, slot: Slot)
         requires { IfSome (slot_now self.old slot) (λ x. x.generation < 4294967295) }
         ensures { ChangesSlot self.old self.new slot (λ x. record x { generation = x.generation + 1 }) }

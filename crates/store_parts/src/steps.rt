@@ -15,9 +15,9 @@ use std::marker::Model;
 /// A step's state.
 #[derive(Clone, Copy, Debug, PartialEq, Eq)]
 pub struct StepNow {
-    /// Whether finished.
+    /// Whether the step is finished.
     pub done: bool,
-    /// Whether an open copy.
+    /// Whether the step is an open copy.
     pub is_open: bool,
     /// The chunks given to the mirror. They stay marked after an abort.
     pub marks: Marks,
@@ -43,7 +43,7 @@ impl Model for Steps {
 }
 
 impl Steps {
-    /// Starts with no step done or open, and no chunk marked.
+    /// Returns steps that are neither done nor open, without marked chunks.
     pub fn start(alloc: Global, count: u32) -> Result<Steps, Refusal>
         ensures start { IfOk result (λ steps. steps ≡ replicate count step_at_start) }
         ensures memory { IfErr result (λ e. e ≡ OutOfMemory) }
@@ -112,7 +112,7 @@ impl Steps {
         self.left
     }
 
-    /// Finishes the step, no longer open.
+    /// Marks the step as done and not open.
     #[tactic(auto, using(crate::proofs::Writing::writing))]
     pub fn finish(&mut self, step: u32)
         ensures { self.new ≡ changed self.old step (λ x. record x { done = true; is_open = false }) }

@@ -18,7 +18,7 @@ ghost use Rattle.store_parts.specs.Shows.{ArePutsOf};
 ghost use Rattle.store_parts.specs.Stored.{ShowAll, MergeAll, at_node, at_mirror, at_served, written, handed, copied};
 ghost use Rattle.store_parts.specs.Stored.{kept_by};
 
-/// Each node's versions, by slot and key, merged with new ones, show both.
+/// If each node's versions are merged with new ones, by slot and key, they show both.
 pub fn stored_sets_grow()
     ensures { (w : World) (clock : ℕ → List TheEntry) (old more new : ℕ → TheSlot → List ℕ → List TheVersion)
         (test extra : ℕ → TheSlot → ℕ → Bool)
@@ -26,7 +26,7 @@ pub fn stored_sets_grow()
         → ShowAll w clock new (λ x s v. extra x s v || test x s v) }
 {}
 
-/// What versions show of existing puts stays so in the next world, and when one more put has a clock.
+/// Versions that show existing puts show them also after an event, or if one more put has a clock.
 pub fn stored_sets_last()
     ensures event { (ring : RingValue) (plan : List Planned) (w u : World) (e : TheEvent) (r : TheReply)
         (clock : ℕ → List TheEntry)
@@ -38,7 +38,7 @@ pub fn stored_sets_last()
         → ShowAll w (with_clock clock (length w.puts) c) held test }
 {}
 
-/// What a write, a handoff, a chunk or a hint brings comes first: at a node, a mirror, or both.
+/// Puts that a write, handoff, chunk or hint brings come first: at a node, a mirror, or both.
 pub fn puts_come_in_front()
     ensures node { (test : ℕ → TheSlot → ℕ → Bool) (x : TheNode) (s : TheSlot) (more : ℕ → Bool) (y : ℕ) (t : TheSlot)
         (v : ℕ)
