@@ -51,7 +51,6 @@ fn are_clients(
     Ok(true)
 }
 
-// A drive's plan, clients' scripts, and number of workers.
 #[derive(Clone, Copy)]
 struct Cast<'a> {
     steps: u32,
@@ -83,11 +82,10 @@ fn agrees_behind(
     Ok(interleaved && finished && served && worked && handed && all)
 }
 
-/// Whether a drive's threads have these receipts, and the history interleaves them. Each step's finisher must be the
-/// worker whose list has its `do` or `close`.
+/// Whether a drive's threads can have these receipts. The history must interleave the lists, and each step's finisher
+/// be the worker whose list has its `do` or `close`.
 ///
-/// The last lists are the workers', with events of steps only, the clients', with a block for each line, and the
-/// handoffs'.
+/// The last lists are the workers' (only events of steps), the clients' (a block for each line) and the handoffs'.
 ///
 /// Takes a byte for each entry and step, and the keys of a script's gets.
 pub fn agrees(

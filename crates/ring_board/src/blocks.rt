@@ -1,4 +1,4 @@
-//! The block of a script's line, which begins receipts.
+//! Blocks: the receipts of a script's line.
 
 ghost use Rattle.std.specs.Prelude.{◌≡◌, List, true, IfOk, IfErr, IfSome, IfNone};
 ghost use Rattle.ring_names.specs.declared.refusal.Refusal.TheVariants.{OutOfMemory};
@@ -15,7 +15,7 @@ use crate::starts::{PutLine, all_ended, get_started, put_started};
 use plan_runs::{Event, Key, is_same_event};
 use ring_names::Refusal;
 
-// The list after the put's writes and hints, and at most one acknowledgement.
+// Skips the put's writes and hints, then an acknowledgement, if any.
 fn behind_put(put: u32, list: &[Receipt]) -> &[Receipt]
     ensures { result.now ≡ behind_one (λ r. acknowledges put r.event) (behind (λ r. sends put r.event) list.now) }
 {
@@ -46,7 +46,7 @@ fn behind_reads(get: u32, list: &[Receipt]) -> &[Receipt]
     rest
 }
 
-// Whether the list begins with the get's end, and the rest.
+// Returns whether the list begins with the get's end, and what follows.
 fn behind_end(get: u32, list: &[Receipt]) -> (bool, &[Receipt])
     ensures ends { result.0 ≡ begins_with (λ r. ends get r.event) list.now }
     ensures rest { result.1.now ≡ behind_one (λ r. ends get r.event) list.now }
@@ -83,7 +83,7 @@ fn behind_put_line<'a>(
     }
 }
 
-// The list after the block of a get's line, if any. Adds the get.
+// Skips the block of a get's line, and adds the get. None without a block.
 fn behind_get_line<'a>(
     asked: &mut Vec<Asked>,
     key: &Key,
@@ -106,7 +106,7 @@ fn behind_get_line<'a>(
     Ok(Some(rest))
 }
 
-// The list after the block of a line that takes a node down or up.
+// Skips the block of a `down` or `up` line, if any.
 fn behind_node_line<'a>(line: &Event, list: &'a [Receipt]) -> &'a [Receipt]
     requires { turns_a_node line.now ≡ true }
     ensures { (asked : List TheAsked) → Leaves asked line.now list.now result.now asked }
@@ -121,7 +121,7 @@ fn behind_node_line<'a>(line: &Event, list: &'a [Receipt]) -> &'a [Receipt]
     }
 }
 
-/// Returns the list after the line's block, if any. Adds a line's get.
+/// Skips the line's block, and adds the line's get. None if a needed block is missing.
 pub(crate) fn behind_line<'a>(
     asked: &mut Vec<Asked>,
     line: &Event,

@@ -42,7 +42,7 @@ impl Model for Board {
 }
 
 impl Board {
-    /// A board of free steps, and its first seat, which has no worker and makes the workers' seats.
+    /// Makes a board of free steps, and a first seat without a worker, from which workers' seats are split.
     pub fn new(alloc: Global, steps: u32, workers: u32) -> Result<(Board, Seat), Refusal>
         requires { workers ≤ 65 }
         ensures board { IfOk result (λ r. (r.0.steps ≡ steps) × (r.0.workers ≡ workers)) }

@@ -5,6 +5,6 @@
 pub enum Claim {
     /// The step was free, and is now held.
     Won,
-    /// The step was claimed or finished before; its word.
+    /// The step was claimed or finished before, and has this word.
     Taken(u64),
 }

@@ -1,4 +1,4 @@
-//! Checks that receipts are a script's client's.
+//! Checks the receipts of a script's client.
 
 ghost use Rattle.std.specs.Prelude.{◌≡◌, ◌↔◌, IfOk, IfErr, IsTrue};
 ghost use Rattle.ring_names.specs.declared.refusal.Refusal.TheVariants.{OutOfMemory};

@@ -16,7 +16,7 @@ use atomic_table::{Closed, Seat as TableSeat, Shared};
 use ring_names::Refusal;
 use std::alloc::Global;
 
-// A seat with the knowledge of all seats.
+// Joins the seats into one with all their knowledge.
 fn join(
     shared: &Shared<Option<()>, View, Size, Rule>,
     mut seats: Vec<Seat>,
@@ -62,7 +62,6 @@ fn step_words(
     Ok(words)
 }
 
-// Frees the table. Its slots are empty.
 fn free(mut closed: Closed<Option<()>, Global>)
     requires { IsFull closed.slots }
 {
@@ -94,7 +93,7 @@ impl Board {
         words
     }
 
-    /// Closes the board as `close`, with its words in a value that nothing else makes.
+    /// Closes the board as `close` does. Only this call makes a `ClosedBoard`.
     pub fn end(self, seats: Vec<Seat>) -> Result<ClosedBoard, Refusal>
         requires some { 0 < vec_len seats }
         requires boards { All (λ s. s.board ≡ self.id) seats.items }

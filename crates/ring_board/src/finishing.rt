@@ -10,7 +10,7 @@ use crate::receipt::Receipt;
 use ring_names::{Listed, Refusal};
 use std::alloc::Global;
 
-// Marks the steps that the list finishes. Returns whether all have that finisher.
+// Marks the steps that the list finishes. Returns whether `worker` is the finisher of all.
 fn mark(finishers: &[u32], marks: &mut Vec<bool>, worker: usize, list: &[Receipt]) -> bool
     requires { vec_len marks.old ≡ length finishers.now }
     ensures len { vec_len marks.new ≡ vec_len marks.old }
@@ -34,7 +34,7 @@ fn mark(finishers: &[u32], marks: &mut Vec<bool>, worker: usize, list: &[Receipt
     true
 }
 
-// The worker of the list at the place; the number of workers for earlier lists.
+// Returns the list's worker; for the first `front` lists the number of workers.
 fn worker_of(front: usize, workers: u32, place: usize) -> usize
     ensures { result ≡ worker_at front workers place }
 {
@@ -47,7 +47,7 @@ fn worker_of(front: usize, workers: u32, place: usize) -> usize
 
 /// Whether each step ends in some list, and its finisher is the worker of each such list. Takes a byte for each step.
 ///
-/// Steps that end in the `front` lists have the number of workers as finisher.
+/// Steps that end in the first `front` lists have the number of workers as finisher.
 pub(crate) fn are_finishers(
     alloc: Global,
     finishers: &[u32],

@@ -1,6 +1,6 @@
 //! The lock-free board on which workers claim the steps of a plan. Each step has an atomic word: 0 if free, `w + 1` if
-//! worker `w` has claimed it, `128 + w` if worker `w` has finished it. A worker uses its own seat, which knows what it
-//! holds, finished, and saw finished.
+//! worker `w` has claimed it, `128 + w` if worker `w` has finished it. A worker's seat knows which steps the worker
+//! holds, has finished, and saw finished.
 //!
 //! Receipts are judged by their history: replies, order, and who finished each step.
 #![tactic(auto)]

@@ -7,7 +7,7 @@ use ring_names::Listed;
 
 /// A drive's history, each thread's receipts, each step's finisher, and the closed board.
 ///
-/// Lists are for earlier events, if any, the workers by number, the clients by script, and the handoffs.
+/// The lists: earlier events, if any, then workers by number, clients by script, and handoffs.
 #[derive(Debug, Drop)]
 pub struct Outcome {
     pub history: Vec<Entry>,

@@ -6,7 +6,7 @@ use crate::view::View;
 use atomic_table::Seat as TableSeat;
 use std::marker::Model;
 
-/// A thread's knowledge of a board's steps, with the right to change the held ones. One thread has it at a time.
+/// What a thread knows of a board's steps, and its right to change those held. Only one thread has a seat.
 #[derive(Drop)]
 pub struct Seat {
     pub(crate) seat: TableSeat<Option<()>, View>,

@@ -28,7 +28,7 @@ pub fn all_ended(asked: &[Asked], key: &Key, seen: &Seen) -> bool
     )
 }
 
-/// Returns the history's number of the script's n-th get, or 0.
+/// Returns the number, in the history, of the script's n-th get, or 0.
 pub fn number_of(asked: &[Asked], n: u32) -> u32
     ensures { result ≡ number_at asked.now n }
 {

@@ -16,13 +16,13 @@ pub struct Mark {
     pub worker: u32,
 }
 
-/// A step, and its word read by a lost claim.
+/// A step, and the word that a lost claim read.
 pub struct Sight {
     pub step: u32,
     pub word: u64,
 }
 
-/// What a seat holds, finished, knows to be done, and read by lost claims; and its parts.
+/// A seat's steps: held, finished, known to be done, and read by lost claims. Also its parts of the board.
 ///
 /// Part e is one of 2^e equal parts. All seats together have the board once.
 pub struct View {

@@ -18,7 +18,6 @@ use store_events::{
 };
 use store_parts::Parts;
 
-/// Returns the event's refusal now.
 #[inline(always)]
 pub(crate) fn refusal(parts: &Parts, event: &Event) -> Option<Refusal>
     requires { IsSound parts.now }
@@ -44,7 +43,7 @@ pub(crate) fn refusal(parts: &Parts, event: &Event) -> Option<Refusal>
     }
 }
 
-/// Applies an event that passes.
+/// Applies an event that is not refused.
 pub(crate) fn happen(parts: &mut Parts, event: &Event) -> Result<Reply, Refusal>
     requires sound { IsSound parts.old }
     requires number { HasNumber parts.old event.now }
@@ -88,7 +87,7 @@ fn copy_of(reply: &Reply) -> Reply
     }
 }
 
-/// Applies as `happen`, and copies the reply.
+/// Applies the event as `happen` does, and returns the reply twice.
 pub(crate) fn happen_with_copy(parts: &mut Parts, event: &Event) -> Result<(Reply, Reply), Refusal>
     requires sound { IsSound parts.old }
     requires number { HasNumber parts.old event.now }

@@ -36,7 +36,7 @@ impl<'a> World<'a> {
         }
     }
 
-    /// Returns the indexed slot of the put's partition.
+    /// Returns slot `index` of the put's partition.
     pub fn put_slot(&self, put: u32, index: u32) -> Slot
         requires { put < length self.now.parts.puts }
         ensures slot { (w : TheWorld) → Meets self.now w → result ≡ put_slot (ring_of self.now) w put index }
@@ -53,7 +53,7 @@ impl<'a> World<'a> {
         }
     }
 
-    /// Whether the node stores the put or a successor for the indexed slot of the put's partition. Hints do not count.
+    /// Whether the node stores the put or a successor for slot `index` of the put's partition. Hints do not count.
     /// Costs a look-up.
     pub fn is_stored(&self, node: NodeId, put: u32, index: u32) -> bool
         requires { put < length self.now.parts.puts }

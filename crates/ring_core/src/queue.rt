@@ -1,13 +1,13 @@
-//! Items given up one after another.
+//! Items to take, one after another.
 
 ghost use Rattle.std.specs.Prelude.{◌≡◌, ◌∷◌, [], length, MatchOption};
 
 use std::marker::Model;
 
-// After so many items, their memory is freed.
+// After this many items are taken, their memory is freed.
 const MANY: usize = 65536;
 
-/// Items that are taken in order. Now and then frees taken items' memory, for things that grow.
+/// Items that are taken in order. Now and then frees taken items' memory, for other data that grows.
 #[derive(Drop)]
 pub struct Queue<T> {
     last_first: Vec<T>,

@@ -67,7 +67,7 @@ impl<'a> World<'a> {
         self.parts.steps.left()
     }
 
-    /// Returns the n-th node with a slot for which it keeps a hint. The order stays while the hints do.
+    /// Returns the n-th pair of a node and a slot whose hints it keeps. The order stays until hints change.
     pub fn hint_at(&self, n: u32) -> Option<(NodeId, Slot)>
         ensures some { IfSome result (λ pair. (w : TheWorld) → Meets self.now w → keeps w pair.0.0 pair.1 ≡ true) }
         ensures value { result

@@ -45,7 +45,7 @@ fn follow_given(world: &mut World, place: u32, entry: Entry) -> Result<(), Refus
     }
 }
 
-/// Follows all entries in order, and frees each. If it fails as `replay`, the entries before have changed the store.
+/// Follows all entries in order, and frees each. If it fails, as `replay` does, earlier entries have changed the store.
 pub fn follow_queue(world: &mut World, entries: &mut Queue<Entry>) -> Result<(), Refusal>
     requires few { length entries.old ≤ 1000000 }
     requires puts { put_count world.old ≡ 0 }
@@ -62,7 +62,7 @@ pub fn follow_queue(world: &mut World, entries: &mut Queue<Entry>) -> Result<(),
     Ok(())
 }
 
-/// Returns the store after the history, if a run of the plan.
+/// Returns the store after the history, if this is a run of the plan.
 ///
 /// Otherwise fails with `Mismatch`: the place, from 0, of the first entry refused or with another reply, and the
 /// refusal's number or 0. Each entry costs a `World::apply`. Out of memory comes last at each entry.

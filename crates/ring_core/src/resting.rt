@@ -6,7 +6,7 @@ use ring_store::Stores;
 use std::alloc::Global;
 use store_parts::{Gets, Keys, Lasts, Nodes, Parts, Puts, Slots, Steps};
 
-/// A store at rest. It borrows nothing, and `World::resume` makes a store of it.
+/// A store at rest: without its plan, it borrows nothing. `World::resume` makes it a running store.
 pub struct Rest {
     pub(crate) alloc: Global,
     pub(crate) nodes: Nodes,
@@ -21,7 +21,7 @@ pub struct Rest {
     pub(crate) losses: u32,
 }
 
-// So crates above need not check the parts.
+// Explicit: crates above need not check the parts.
 impl Drop for Rest {
     fn drop(self) {
         let Rest {
@@ -53,7 +53,7 @@ impl Rest {
     ghost use Rattle.std.specs.Prelude.{◌≡◌};
     ghost use Rattle.ring_core.specs.Resting.{rest_in};
 
-    /// Parts a store from its plan.
+    /// Returns a store's parts without the plan.
     pub(crate) fn of(parts: Parts) -> Rest
         ensures { result ≡ rest_in parts.entry }
     {
@@ -86,7 +86,6 @@ impl Rest {
         }
     }
 
-    /// Returns the parts of a store of this plan.
     pub(crate) fn parts(self, approved: &Approved) -> Parts<'_>
         ensures approved { result.approved.now ≡ approved.now }
         ensures rest { rest_in result ≡ self }

@@ -11,7 +11,7 @@ use ring_names::Refusal;
 use std::alloc::Global;
 use store_parts::Parts;
 
-/// A store of all nodes of a ring in one process, which follows an approved plan.
+/// A store of all nodes of a ring, in one process, which follows an approved plan.
 pub struct World<'a> {
     pub(crate) parts: Parts<'a>,
     ghost sound: { IsSound parts },
@@ -19,7 +19,7 @@ pub struct World<'a> {
     ghost gets: { length parts.gets ≤ 4294967295 },
 }
 
-// So crates above need not check the parts.
+// Explicit: crates above need not check the parts.
 impl Drop for World<'_> {
     fn drop(self) {
         let World { parts } = self;
@@ -38,7 +38,7 @@ impl<'a> World<'a> {
     ghost use Rattle.ring_core.specs.Numbers.{may_need_memory};
     ghost use Rattle.ring_core.specs.Promises.{IsFresh};
 
-    /// Starts before the first event: members are up, nothing is stored, and no step is done.
+    /// Returns the store before the first event: members are up, nothing is stored, and no step is done.
     pub fn start(alloc: Global, approved: &'a Approved) -> Result<World<'a>, Refusal>
         ensures ring { IfOk result (λ a. ring_of a ≡ approved.now.ring) }
         ensures plan { IfOk result (λ a. plan_of a ≡ approved.now.plan) }
@@ -50,7 +50,7 @@ impl<'a> World<'a> {
         Ok(World { parts })
     }
 
-    /// Returns the event's refusal now, if any, apart from lack of memory.
+    /// Fails with the event's refusal now, if any, except out of memory.
     #[inline(always)]
     pub fn allows(&self, event: &Event) -> Result<(), Refusal>
         ensures ok { OnOk result (Passes self.now event.now) }
@@ -84,7 +84,7 @@ impl<'a> World<'a> {
         happen(&mut self.parts, event)
     }
 
-    /// Applies an allowed event, and returns the reply twice: to note one and give the other.
+    /// Applies an allowed event, and returns the reply twice: one to note, one to give.
     pub fn apply_with_copy(&mut self, event: &Event) -> Result<(Reply, Reply), Refusal>
         requires number { HasNumber self.old event.now }
         requires passes { Passes self.old event.now }
@@ -100,7 +100,7 @@ impl<'a> World<'a> {
         happen_with_copy(&mut self.parts, event)
     }
 
-    /// Parts the store from its plan.
+    /// Returns the store without its plan.
     pub fn rest(self) -> Rest
         ensures rest { result ≡ rest_of self.entry }
         ensures ready { IsReady (ring_of self.entry) (plan_of self.entry) result }
@@ -109,7 +109,7 @@ impl<'a> World<'a> {
         Rest::of(parts)
     }
 
-    /// Makes a store of one at rest. With the same ring and plan, it is in each world of the earlier store.
+    /// Makes a running store of one at rest. With the same ring and plan, it continues in the earlier store's world.
     pub fn resume(approved: &'a Approved, rest: Rest) -> World<'a>
         requires { IsReady approved.now.ring approved.now.plan rest }
         ensures ring { ring_of result ≡ approved.now.ring }

@@ -70,10 +70,7 @@ impl<'a, L: RunLedger> Executor<'a, L> {
         Ok((executor, share))
     }
 
-    /// Restores the store as `Ledgered::restore`, with its ledger's only share, which counts all entries.
-    ///
-    /// Over 1,000,000 entries are refused first; then `Mismatch` names the first entry outside a run. Lack of memory
-    /// comes last at each entry.
+    /// Restores the store as `Ledgered::restore` does, with the ledger's only share, and fails as it does.
     pub fn restore(
         alloc: Global,
         blank: Blank,
@@ -107,7 +104,7 @@ impl<'a, L: RunLedger> Executor<'a, L> {
         self.approved
     }
 
-    /// Applies the event under the lock, as `Ledgered::apply`. If refused, the share stays.
+    /// Applies the event under the lock, as `Ledgered::apply` does. A refusal leaves the share as it was.
     pub fn submit<R: Wait>(
         &self,
         rt: &R,
@@ -124,9 +121,9 @@ impl<'a, L: RunLedger> Executor<'a, L> {
         self.inside.lock(rt).apply(event, share)
     }
 
-    /// Applies the events in order under one lock, up to the first refusal, and keeps earlier receipts.
+    /// Applies the events in order under one lock, up to the first refusal, and keeps the receipts.
     ///
-    /// Reserves room before locking; without room, applies nothing.
+    /// Reserves memory before locking; without memory, applies nothing.
     pub fn submit_row<R: Wait>(
         &self,
         rt: &R,
@@ -144,8 +141,7 @@ impl<'a, L: RunLedger> Executor<'a, L> {
         self.inside.lock(rt).apply_row(events, share, receipts)
     }
 
-    /// Returns the least step from `from` on that could begin at that moment: neither done nor open, with its
-    /// dependencies done.
+    /// Returns the least step from `from` on that could begin at that moment.
     pub fn ready<R: Wait>(&self, rt: &R, from: u32) -> Option<u32>
         ensures { IfSome result (λ n. (from ≤ n) × (n < length L.plan)) }
     {
@@ -159,7 +155,7 @@ impl<'a, L: RunLedger> Executor<'a, L> {
         self.inside.lock(rt).world().left()
     }
 
-    /// Returns the n-th pair, at that moment, of a node and a slot of its hints.
+    /// Returns the n-th pair, at that moment, of a node and a slot whose hints it keeps.
     pub fn hint_at<R: Wait>(&self, rt: &R, n: u32) -> Option<(NodeId, Slot)>
         ensures { IfSome result (λ pair. (pair.0.0 < length L.ring.nodes) × (is_ring_slot L.ring pair.1 ≡ true)) }
     {
@@ -182,10 +178,10 @@ impl<'a, L: RunLedger> Executor<'a, L> {
         self.inside.lock(rt).entries().len() as u32
     }
 
-    /// Gives up store and history, for example if threads could not start.
+    /// Drops store and history, for example if threads could not start.
     pub fn give_up(self) {}
 
-    /// Returns the store and its history, if the shares count its events, as all parts of the ledger do. Otherwise
+    /// Returns the store and its history, if the shares count all its events, as all shares together do. Otherwise
     /// fails with 70.
     pub fn finish(self, shares: Vec<Share<L>>) -> Result<Ledgered<'a, L>, Refusal>
         ensures ok { IfOk result (λ a. vec_len a.history ≡ sum_by (λ s. s.count) shares.items) }

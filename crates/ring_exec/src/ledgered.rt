@@ -191,7 +191,7 @@ impl<'a, L: RunLedger> Ledgered<'a, L> {
         })
     }
 
-    /// Applies the events in order, up to the first refusal, and appends receipts, without memory.
+    /// Applies the events in order, up to the first refusal. `receipts` must have room for all.
     pub(crate) fn apply_row(
         &mut self,
         events: &[Event],

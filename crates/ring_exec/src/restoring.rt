@@ -46,7 +46,6 @@ fn retell_all(world: &mut World, history: &mut Vec<Entry>, entries: &[Entry]) ->
     Ok(())
 }
 
-/// Returns the store after the entries, and their copy.
 pub(crate) fn retold<'a>(
     alloc: Global,
     approved: &'a Approved,

@@ -22,7 +22,7 @@ impl<L: Ledger> Share<L> {
         self.count
     }
 
-    /// Splits off a share without events, with one part. This one keeps the rest.
+    /// Splits off a share with no events and one part of the ledger. This share keeps the rest.
     pub fn split(&mut self) -> Share<L>
         requires { 2 ≤ self.old.token.parts }
         ensures new { (result.count ≡ 0) × (result.token.parts ≡ 1) }
@@ -34,7 +34,7 @@ impl<L: Ledger> Share<L> {
     }
 }
 
-/// Returns the shares' count of events. With all parts of the ledger, it is the book's total.
+/// Returns the shares' count of events: the book's total, if they have all parts of the ledger.
 pub(crate) fn count_of<L: Ledger>(book: &mut Book<L>, mut shares: Vec<Share<L>>) -> u64
     requires { book.old.total ≤ 1000000 }
     ensures count { result ≡ sum_by (λ s. s.count) shares.items }
