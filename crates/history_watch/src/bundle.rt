@@ -10,7 +10,8 @@ use ring_script::{Kind, read_bundle};
 use std::alloc::Global;
 use std::io::{Read, Write};
 
-/// Judges a history by a bundle's plan, as `watch_history`. First refuses texts or plans as `check`, before reading.
+/// Judges a history by a bundle's plan, as `watch_history` does. Before reading, refuses texts or plans as `check`
+/// does.
 pub fn watch_bundle<R: Read + Drop, W: Write>(
     alloc: Global,
     bytes: &[u8],
@@ -32,7 +33,7 @@ pub fn watch_bundle<R: Read + Drop, W: Write>(
     }
 }
 
-/// Begins a judge by a bundle's plan. Refuses a text or a plan as `check`.
+/// Begins a judge by a bundle's plan. Refuses a text or a plan as `check` does.
 pub fn start_judge(alloc: Global, bytes: &[u8]) -> Result<Judge, Refusal>
     ensures { StartsJudge bytes.now result }
 {

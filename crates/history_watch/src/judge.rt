@@ -24,7 +24,7 @@ pub struct Judge {
     ghost ready: { IsReadyState approved.ring approved.plan count state } by { Prim.hlevel props },
 }
 
-// So crates above need not check the parts.
+// Explicit: crates above need not check the parts.
 impl Drop for Judge {
     fn drop(self) {
         let Judge {
@@ -40,7 +40,7 @@ impl Drop for Judge {
 impl Judge {
     ghost use Rattle.history_watch.specs.Judging.{IsJudging, IsOver, HasRefused, IsUnchanged};
 
-    /// Starts before a history's first byte.
+    /// Returns a judge before a history's first byte.
     pub fn start(alloc: Global, approved: Approved) -> Result<Judge, Refusal>
         ensures ok { IfOk result (λ j. IsJudging approved.ring approved.plan [] j) }
         ensures first { IfOk result (λ j. j.count ≡ 0) }

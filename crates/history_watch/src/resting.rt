@@ -27,7 +27,7 @@ pub struct Paused {
     pub stage: Stage,
     /// How many puts and gets started.
     pub started: u32,
-    /// The start of a line.
+    /// An unfinished line's bytes.
     pub left: Vec<u8>,
 }
 
@@ -36,12 +36,11 @@ pub struct Paused {
 pub enum State {
     /// Follows their entries.
     Going(Paused),
-    /// Answers this refusal.
+    /// Returns this refusal.
     Refused(Refusal),
 }
 
 impl State {
-    /// Returns the refusal, if any.
     pub(crate) fn answer(&self) -> Result<(), Refusal>
         ensures { result ≡ answer_in self.now }
     {
@@ -51,7 +50,6 @@ impl State {
         }
     }
 
-    /// Whether the line `end` has come.
     pub(crate) fn is_over(&self) -> bool
         ensures { IsTrue result ↔ IsOverAt self.now }
     {
@@ -103,7 +101,6 @@ impl<'a> Watch<'a> {
         }
     }
 
-    /// Makes a watch of one at rest.
     pub(crate) fn resume(
         alloc: Global,
         approved: &'a Approved,
@@ -144,14 +141,13 @@ impl<'a> Watch<'a> {
     }
 }
 
-/// The effect of bytes.
+/// A judge's state after bytes.
 #[derive(Drop)]
 pub(crate) struct Taken {
     pub(crate) state: State,
     pub(crate) count: u32,
 }
 
-/// Takes bytes with a watch at rest.
 pub(crate) fn take_more(
     alloc: Global,
     approved: &Approved,
@@ -188,7 +184,6 @@ pub(crate) struct Ended {
     pub(crate) found: Result<Vec<u8>, Refusal>,
 }
 
-/// Asks a watch at rest for its answer.
 pub(crate) fn finish(alloc: Global, approved: &Approved, paused: Paused, count: u32) -> Ended
     requires { IsReady approved.now.ring approved.now.plan count paused }
     ensures paused { result.paused ≡ paused }

@@ -27,7 +27,7 @@ const MOST: u32 = u32::MAX - 1;
 pub struct Watch<'a> {
     pub ring: &'a Ring,
     pub reader: Reader<'a>,
-    /// The start of a line.
+    /// An unfinished line's bytes.
     pub left: Vec<u8>,
     pub world: World<'a>,
     /// How many entries were followed.
@@ -68,7 +68,7 @@ fn follow_all(
 }
 
 impl<'a> Watch<'a> {
-    /// Starts before a history's first byte.
+    /// Returns a watch before a history's first byte.
     pub fn start(alloc: Global, approved: &'a Approved) -> Result<Watch<'a>, Refusal>
         ensures ok { IfOk result (λ w. IsWatching approved.now.ring approved.now.plan [] w) }
         ensures room { IfOk result HasRoom }

@@ -45,11 +45,11 @@ fn read_parts(alloc: Global, lines: &mut Lines) -> Result<DriveBundle, Refusal>
     })
 }
 
-/// Reads a drive's bundle, which must end there. The first faulty line decides. `OutOfMemory` comes only after the
-/// ring's first four lines.
+/// Reads a drive's bundle, which must end after the scripts. The first faulty line decides. `OutOfMemory` comes only
+/// after the ring's first four lines.
 ///
-/// Lines of scripts begin with `put`, `get`, `down` or `up`; others are `BadLine`. Numbers writers by first sight over
-/// all scripts.
+/// Lines of scripts begin with `put`, `get`, `down` or `up`; others are `BadLine`. Writers are numbered as they first
+/// appear.
 pub fn read_drive(alloc: Global, bytes: &[u8]) -> Result<DriveBundle, Refusal>
     ensures read { Gives result (whole_text drive_at bytes.now) }
     ensures parts { IfOk result IsDrive }

@@ -9,7 +9,6 @@ use ring_names::Refusal;
 use std::alloc::Global;
 use std::sync::Wait;
 
-/// A thread's receipts and end.
 #[derive(Drop)]
 pub(crate) struct Done<L: RunLedger> {
     pub receipts: Vec<Receipt>,
@@ -43,7 +42,7 @@ impl<L: RunLedger> Done<L> {
         note(store, &mut self.share, &mut self.receipts, event)
     }
 
-    /// Submits under one lock, up to the first refusal. Keeps earlier receipts.
+    /// Submits events under one lock, up to the first refusal. Keeps their receipts.
     pub fn note_row<R: Wait>(
         &mut self,
         store: &LockedStore<L, R>,

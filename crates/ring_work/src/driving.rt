@@ -68,7 +68,7 @@ fn end_of(board: Board, first: Seat, last: Seat, seats: Vec<Seat>) -> Result<Clo
     board.end(seats)
 }
 
-// Refused if a step is unfinished.
+// Returns the finishers. Refused if a step is unfinished.
 fn finishers_of(alloc: Global, words: &[u64]) -> Result<Vec<u32>, Refusal>
     ensures { IfOk result (λ v. map finished_word v.items ≡ words.now) }
 {
@@ -112,7 +112,7 @@ pub(crate) fn history_of<'a, L: RunLedger>(
     (ledgered.into_entries(), finished)
 }
 
-/// Maps a refusal to that of a drive.
+/// Maps a refusal to a drive's.
 pub(crate) fn fault_kind(refusal: Refusal) -> Refusal
     ensures fault { IsFault result }
     ensures spent { result ≡ TurnsSpent → refusal ≡ TurnsSpent }
@@ -136,7 +136,7 @@ pub(crate) fn empty_fault(alloc: Global, approved: &Approved, refusal: Refusal) 
     }
 }
 
-// Returns the outcome's failure; a stopped thread first.
+// Returns the outcome's failure. A stopped thread comes first.
 fn judge<'a, R: Wait, G: Gate>(
     job: &Job<'a, R, G>,
     lists: usize,
@@ -222,7 +222,6 @@ fn with_room(front: Vec<Listed<Receipt>>, threads: usize) -> Result<Vec<Listed<R
     Ok(front)
 }
 
-// Workers, clients, and one for handoffs.
 fn threads_of<'a, R: Wait, G: Gate>(job: &Job<'a, R, G>) -> usize
     requires workers { job.now.workers ≤ 64 }
     requires scripts { length job.now.scripts.now ≤ 8 }
@@ -376,7 +375,7 @@ fn finish_drive<'a, L: RunLedger, R: Wait, G: Gate>(
     }
 }
 
-/// Runs the threads on a store with these entries. Their lists follow `front`.
+/// Runs the threads on a store with these entries. The threads' lists follow `front`.
 pub(crate) fn drive_on<'a, L: RunLedger + Send + Sync, R: Threads + Wait + Sync, G: Gate + Sync>(
     job: &Job<'a, R, G>,
     executor: Executor<'a, L>,
@@ -438,7 +437,7 @@ fn drive_as<'a, L: RunLedger + Send + Sync, R: Threads + Wait + Sync, G: Gate + 
     }
 }
 
-/// Runs the plan: 1 to 64 workers, 1 to 8 scripts.
+/// Runs the plan with 1 to 64 workers and 1 to 8 scripts.
 ///
 /// A client runs each script, and a thread hands off hints.
 ///

@@ -1,4 +1,4 @@
-//! What came before a resumed drive's threads.
+//! What precedes a resumed drive's threads.
 
 ghost use Rattle.std.specs.Prelude.{◌≡◌, ◌==◌, ◌<◌, ◌≤◌, ℕ, true, false, cond, is_some, length, vec_len};
 ghost use Rattle.std.specs.Prelude.{slice_index_or, IfOk, IfErr, OnOk};
@@ -167,7 +167,7 @@ fn finish(board: &Board, seat: &mut Seat, step: u32)
     }
 }
 
-/// Claims and finishes the entries' finished steps.
+/// Claims and finishes the steps that the entries finish.
 pub(crate) fn finish_all(board: &Board, seat: &mut Seat, entries: &[Entry])
     requires board { seat.old.board ≡ board.now.id }
     requires worker { is_some seat.old.worker ≡ true }

@@ -24,7 +24,6 @@ fn entry_value(alloc: Global, ring: &Ring, writers: &Names, entry: &Entry) -> Re
     Ok(json!(in alloc; [event, reply])?)
 }
 
-/// Returns a history's pairs, in order.
 pub(crate) fn entry_values(
     alloc: Global,
     ring: &Ring,

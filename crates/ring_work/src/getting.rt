@@ -147,7 +147,7 @@ fn read_rounds<L: RunLedger, R: Wait>(
     Ok(())
 }
 
-/// Reads slots for a started get and ends it. Otherwise returns the last refusal.
+/// Reads slots for a started get, and ends the get. Returns the refusal if this fails.
 pub(crate) fn finish_get<L: RunLedger, R: Wait>(
     store: &LockedStore<L, R>,
     share: &mut Share<L>,
@@ -186,7 +186,7 @@ fn get_on<L: RunLedger, R: Wait>(
 
 /// Gets the key: starts, reads R slots in order, and ends.
 ///
-/// Reads in at most 64 rounds. Repeats one without replies only if the history grew.
+/// Reads in at most 64 rounds. Repeats a round without replies only if the history grew.
 ///
 /// A refused start, a full history or lack of memory ends the get at once.
 pub fn get_all<'a, L: RunLedger, R: Wait>(
@@ -196,7 +196,7 @@ pub fn get_all<'a, L: RunLedger, R: Wait>(
     share: &mut Share<L>,
     key: Key,
 ) -> Attempt
-    // Ended exactly if nothing is refused; empty if the start is.
+    // The get ends exactly if nothing is refused; no receipts if its start is.
     ensures block { IsGetAttempt key result.receipts.items result.refusal }
     ensures count { share.new.count ≡ share.old.count + vec_len result.receipts }
     ensures parts { share.new.token.parts ≡ share.old.token.parts }

@@ -12,7 +12,6 @@ use ring_names::{NodeId, Refusal, Slot};
 use std::sync::Wait;
 use std::thread;
 
-// Returns whether the handoff succeeded.
 fn hand<L: RunLedger, R: Wait, G: Gate>(
     site: &Site<L, R, G>,
     done: &mut Done<L>,
@@ -28,8 +27,8 @@ fn hand<L: RunLedger, R: Wait, G: Gate>(
     }
 }
 
-// Walks over the hints until a walk that began after all other threads had ended. After an empty walk, the next waits
-// for the bell.
+// Walks over the hints. The last walk begins after all other threads have ended. If no hints are left, the next walk
+// waits for the bell.
 //
 // A successful handoff leaves the next hint at n; a refused one raises n.
 fn walks<L: RunLedger, R: Wait, G: Gate>(

@@ -10,7 +10,7 @@ use ring_exec::{RunLedger, Share};
 use ring_names::{Listed, Refusal};
 use std::alloc::Global;
 
-/// The threads' results, by join, and the worst refusal. Reserves room first, to lose none.
+/// The threads' results, as joined, and the worst refusal.
 #[derive(Drop)]
 pub(crate) struct Left<L: RunLedger> {
     pub seats: Vec<Seat>,
@@ -46,7 +46,7 @@ pub(crate) fn worse(one: Option<Refusal>, other: Option<Refusal>) -> Option<Refu
 }
 
 impl<L: RunLedger> Left<L> {
-    /// Reserves room for all results, the first seat and share.
+    /// Reserves room for all results, the first seat and share, to lose none.
     pub fn with_room(alloc: Global, workers: usize, clients: usize) -> Result<Left<L>, Refusal>
         ensures none { IfOk result (λ l. (vec_len l.seats ≡ 0) × (l.refusal ≡ None)) }
         ensures memory { IfErr result (λ e. e ≡ OutOfMemory) }

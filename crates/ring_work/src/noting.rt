@@ -16,7 +16,7 @@ use std::sync::Wait;
 /// The most rounds of a put or a get.
 pub(crate) const MAX_ROUNDS: u32 = 64;
 
-/// The history's length before a round without replies. Until it grows, another would be refused.
+/// The history's length before a round without replies. Until the history grows, another round would be refused.
 #[derive(Drop)]
 pub(crate) struct Idle {
     length: Option<u32>,
@@ -98,7 +98,7 @@ pub(crate) fn get_number(reply: &Reply) -> u32
     }
 }
 
-/// Returns refusals that end all: full history, lack of memory.
+/// Fails only if all must end: full history, out of memory.
 pub(crate) fn go_on(refusal: Refusal) -> Result<(), Refusal>
     ensures { IfErr result (λ e. (e ≡ HistoryFull) ⊎ (e ≡ OutOfMemory)) }
 {
@@ -109,7 +109,7 @@ pub(crate) fn go_on(refusal: Refusal) -> Result<(), Refusal>
     }
 }
 
-/// Returns the refusal. Store and board know no limit of turns.
+/// Returns the refusal. Store and board never give `TurnsSpent`.
 pub(crate) fn no_limit(refusal: Refusal) -> Refusal
     ensures { result ≢ TurnsSpent }
 {

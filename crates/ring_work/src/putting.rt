@@ -67,7 +67,7 @@ fn leave_hint<L: RunLedger, R: Wait>(
     Ok(())
 }
 
-// Leaves a hint if a node of the slot is down.
+// Writes to the slot. Leaves a hint if one of its nodes is down.
 fn send<L: RunLedger, R: Wait>(
     store: &LockedStore<L, R>,
     share: &mut Share<L>,
@@ -201,7 +201,7 @@ pub(crate) fn put_on<L: RunLedger, R: Wait>(
 ///
 /// For a slot with a node down, tries hints at the nodes by number.
 ///
-/// Too few current tickets lead to another round; after one without replies, only if the history grew.
+/// Too few current tickets lead to another round; after a round without replies, only if the history grew.
 ///
 /// A refused start, a full history or lack of memory ends the put at once.
 pub fn put_all<'a, L: RunLedger, R: Wait>(
@@ -214,7 +214,7 @@ pub fn put_all<'a, L: RunLedger, R: Wait>(
     value: Value,
     seen: Seen,
 ) -> Attempt
-    // Acknowledged exactly if nothing is refused; empty if the start is.
+    // The put is acknowledged exactly if nothing is refused; no receipts if its start is.
     ensures block { IsPutAttempt (StartPut writer key value seen) result.receipts.items result.refusal }
     ensures count { share.new.count ≡ share.old.count + vec_len result.receipts }
     ensures parts { share.new.token.parts ≡ share.old.token.parts }

@@ -42,7 +42,7 @@ fn line_of(alloc: Global, value: &Value) -> Result<Vec<u8>, AllocError>
     Ok(line)
 }
 
-/// Writes the report as one line of compact JSON. Fails as `report`.
+/// Writes the report as one line of compact JSON. Fails as `report` does.
 pub fn write_report(
     alloc: Global,
     approved: &Approved,

@@ -37,7 +37,7 @@ fn one_list(alloc: Global, list: Listed<Receipt>) -> Result<Vec<Listed<Receipt>>
     Ok(front)
 }
 
-// Also aborts the open copies.
+// Aborts open copies, and lists earlier events.
 fn front_of<'a, L: RunLedger, R: Wait, G: Gate>(
     job: &Job<'a, R, G>,
     executor: &Executor<'a, L>,
@@ -177,13 +177,13 @@ fn resume_as<'a, L: RunLedger + Send + Sync, R: Threads + Wait + Sync, G: Gate +
 
 /// Resumes a run from a history.
 ///
-/// Restores the store, aborts open copies by step number, then does as `drive`.
+/// Restores the store, aborts open copies by step number, then runs as `drive` does.
 ///
 /// The first list of receipts has the entries, then these aborts. Steps that the entries finished have the number of
 /// workers as finisher.
 ///
-/// Over 1,000,000 entries are refused first, then `Mismatch` names the first entry outside a run; both with an empty
-/// history.
+/// Over 1,000,000 entries are refused first, then `Mismatch` names the first entry outside a run. Both leave the
+/// fault's history empty.
 ///
 /// Later refusals are those of `drive`, with 70 also if an abort does not fit the history. Lack of memory comes last at
 /// each entry.
@@ -206,7 +206,7 @@ pub fn resume<R: Threads + Wait + Sync, G: Gate + Sync>(
     ensures board { IfOk result (λ o. map finished_word o.finishers.items ≡ o.board) }
     ensures turned { MustTurn (G.must_refuse gate.now) scripts.now → OnOk result ⊥ }
     ensures refusal { IfErr result (λ f. IsStop approved.now.ring approved.now.plan entries.now f.refusal) }
-    // Only too many entries come before all else, then, memory aside, the first entry outside a run.
+    // Too many entries are refused first; then, memory aside, the first entry outside a run.
     ensures full { IfErr result (λ f. (f.refusal ≡ HistoryFull) ↔ (1000000 < length entries.now)) }
     ensures fault { IfErr result (λ f. TellsFault approved.now.ring approved.now.plan entries.now f.refusal) }
     ensures spent { IfErr result

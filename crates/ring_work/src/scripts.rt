@@ -52,7 +52,7 @@ fn read_more(
     Ok(())
 }
 
-/// Reads one client's script, and up to seven more while lines are left. Numbers writers by first sight over all.
+/// Reads one client's script, and up to seven more while lines are left. Numbers writers as they first appear.
 #[tactic(auto, unfolding(crate::specs::Drives::scripts_at))]
 pub fn read_scripts(
     alloc: Global,

@@ -55,7 +55,6 @@ impl<L: RunLedger> Promise<Done<L>> for Never {
     ghost kept_by = { λ p r. IsSpent r.stopped → ⊥ };
 }
 
-// Workers' and clients' handles, and what all threads leave.
 #[derive(Drop)]
 struct Room<L: RunLedger, G: Gate> {
     sitting: Vec<PromisedHandle<Sat<L>, AtBoard>>,
@@ -125,7 +124,7 @@ fn start_worker<'s, 'x, 'e, 'a, L: RunLedger + Send + Sync, R: Wait + Sync, G: G
     }
 }
 
-// Starts the last first, to join the first first. Returns whether one was refused.
+// Starts the last worker first, to join the first first. Returns whether a start was refused.
 fn start_workers<'s, 'x, 'e, 'a, L: RunLedger + Send + Sync, R: Wait + Sync, G: Gate + Sync>(
     scope: &Scope<'s, &'x ()>,
     site: &'s Site<'e, 'a, L, R, G>,

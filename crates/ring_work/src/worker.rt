@@ -116,7 +116,7 @@ impl Walk {
         }
     }
 
-    // Shows walks the steps that wait for this one.
+    // Lets walks see the steps that wait for this one.
     fn wake(&mut self, step: u32) {
         let mut next = match self.waiting.get_mut(step as usize) {
             Some(first) => mem::replace(first, NONE),
@@ -159,7 +159,7 @@ fn is_finished(board: &Board, seat: &mut Seat, walk: &mut Walk, step: u32) -> bo
     finished
 }
 
-// A step with an unfinished dependency waits.
+// Whether the step can be done. With unfinished dependencies it waits.
 fn is_next(board: &Board, seat: &mut Seat, walk: &mut Walk, step: u32, others: &[u32]) -> bool
     requires board { seat.old.board ≡ board.now.id }
     requires step { step < board.now.steps }
@@ -182,7 +182,7 @@ fn is_next(board: &Board, seat: &mut Seat, walk: &mut Walk, step: u32, others: &
     true
 }
 
-// Returns whether the step, not a copy, is done.
+// Does a step that is not a copy. Returns whether it is done.
 fn do_step<L: RunLedger, R: Wait, G: Gate>(
     site: &Site<L, R, G>,
     done: &mut Done<L>,
@@ -197,7 +197,7 @@ fn do_step<L: RunLedger, R: Wait, G: Gate>(
     }
 }
 
-// Returns an open copy's chunks and close.
+// Returns the events of an open copy's chunks and close.
 fn rest_of(alloc: Global, step: u32) -> Result<Vec<Event>, Refusal> {
     let mut rest = Vec::with_capacity(alloc, CHUNKS as usize + 1)?;
     for chunk in 0..CHUNKS {
@@ -207,8 +207,8 @@ fn rest_of(alloc: Global, step: u32) -> Result<Vec<Event>, Refusal> {
     Ok(rest)
 }
 
-// Submits under one lock, from after the marked chunks on. Returns whether the copy was closed; if a node is down it
-// must be aborted.
+// Submits the rest of a copy under one lock, but for marked chunks. Returns false if a node is down: then the copy must
+// be aborted.
 fn copy_rest<L: RunLedger, R: Wait, G: Gate>(
     site: &Site<L, R, G>,
     done: &mut Done<L>,
@@ -316,7 +316,7 @@ fn claim_from<L: RunLedger, R: Wait, G: Gate>(
     None
 }
 
-// Searches once round from the last claimed step.
+// Searches all steps once, beginning after the last claimed.
 fn claim_next<L: RunLedger, R: Wait, G: Gate>(
     site: &Site<L, R, G>,
     seat: &mut Seat,
@@ -341,7 +341,7 @@ fn claim_next<L: RunLedger, R: Wait, G: Gate>(
     found
 }
 
-// Walks over the steps once. Returns whether one was finished.
+// Returns whether a step was finished.
 fn turn<L: RunLedger, R: Wait, G: Gate>(
     site: &Site<L, R, G>,
     sat: &mut Sat<L>,
@@ -412,7 +412,7 @@ fn work_on<L: RunLedger, R: Wait, G: Gate>(
 
 /// Runs a worker until every step is finished.
 ///
-/// Stops all threads on a full history, lack of memory, a refusing gate, or 1,000,000 turns without finishing a step.
+/// Stops all threads on a full history, lack of memory, a refusing gate, or `MAX_TURNS`.
 pub(crate) fn work<L: RunLedger, R: Wait, G: Gate>(site: &Site<L, R, G>, sat: Sat<L>) -> Sat<L>
     requires board { sat.seat.board ≡ site.now.board.now.id }
     requires worker { is_some sat.seat.worker ≡ true }
