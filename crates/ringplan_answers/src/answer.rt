@@ -25,7 +25,7 @@ pub fn status_of(refusal: &Refusal) -> u8
     }
 }
 
-/// The answer to a job: its text, or the refusal's line.
+/// Returns the answer to a job: its text, or the refusal's line.
 pub fn answer_of(alloc: Global, found: Result<Vec<u8>, Refusal>) -> Result<Answer, AllocError>
     ensures output { IfOk result (λ answer. answer.output.items ≡ output_of (texts_of found)) }
     ensures status { IfOk result (λ answer. answer.status ≡ status_of (texts_of found)) }

@@ -35,7 +35,7 @@ use std::mem::forget;
 use std::sync::Wait;
 use std::thread::Threads;
 
-// If the program `ends` then, the system frees an accepted plan.
+// Frees an accepted plan, unless the program `ends` then.
 fn check_plan(alloc: Global, ring: Ring, plan: Plan, cert: &Cert, ends: bool) -> Result<(), Refusal>
     requires { Suits ring plan }
     ensures answer { Gives result (judged (first_refusal ring plan cert.now)) }
@@ -112,7 +112,7 @@ fn write_parts(alloc: Global, ring: &Ring, plan: &[u8], cert: &Cert) -> Result<V
     Ok(out)
 }
 
-// A bundle's texts with the migrated ring. A plan's text names nodes, which stay.
+// Writes a bundle's texts with the migrated ring. The plan's text stays, as it names nodes.
 fn write_migrated(alloc: Global, bundle: Bundle) -> Result<Vec<u8>, Refusal>
     requires { IsOfRing bundle }
     ensures text { IfOk result (λ v. v.items ≡ migrated_text bundle) }
@@ -140,7 +140,7 @@ pub fn migrate_bundle(alloc: Global, bytes: &[u8]) -> Result<Vec<u8>, Refusal>
     }
 }
 
-// If the program `ends` then, the system frees the store.
+// Frees the store, unless the program `ends` then.
 fn play_checked(alloc: Global, bundle: Bundle, ends: bool) -> Result<Vec<u8>, Refusal>
     requires { IsOfRing bundle }
     ensures { Gives (texts_of result) (shown bundle) }

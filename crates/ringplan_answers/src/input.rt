@@ -8,7 +8,7 @@ use ring_names::Refusal;
 use std::alloc::Global;
 use std::io::{ErrorKind, Read};
 
-// The bytes of a read.
+// The most bytes of one read.
 const CHUNK: usize = 65_536;
 
 /// Reads until the input ends. Fails with `TooLarge(0)` above `MAX_INPUT` bytes, `ReadFailed` or `OutOfMemory`. Repeats

@@ -17,7 +17,7 @@ use ring_names::Refusal;
 use ring_script::replay_history;
 use std::alloc::Global;
 
-// If the program `ends` then, the system frees the store.
+// Frees the store, unless the program `ends` then.
 fn replay_approved(
     alloc: Global,
     approved: &Approved,

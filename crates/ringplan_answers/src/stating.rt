@@ -93,7 +93,7 @@ fn yes_object(alloc: Global) -> Result<Value, AllocError>
     Ok(Value::Object(map))
 }
 
-/// The members of a refusal's object: `answer`, then the refusal's name, number and values.
+/// Returns the members of a refusal's object: `answer`, then the refusal's name, number and values.
 pub fn refusal_members(alloc: Global, refusal: &Refusal) -> Result<Map<String, Value>, AllocError>
     ensures { IfOk result (λ map. members_view map.entries ≡ refusal_members refusal.now) }
 {

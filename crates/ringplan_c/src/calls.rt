@@ -1,4 +1,4 @@
-//! The calls. `c/ringplan.h` shows them as C sees them, and says what a caller owes. A refused job prints the refusal's
+//! The calls. `c/ringplan.h` shows them as C sees them, and what a caller must do. A refused job prints the refusal's
 //! line.
 
 ghost use Rattle.std.specs.Prelude.{◌≡◌};
@@ -17,7 +17,7 @@ pub(crate) const NO_MEMORY: &[u8; 6] = b"no 60\n";
 /// The status if memory failed.
 pub(crate) const FAILED: u8 = 3;
 
-// An input's outcome. Refuses an input that is too large, as the program does.
+// Does a job. Refuses an input that is too large, as the program does.
 fn outcome(alloc: Global, job: Job, input: &[u8]) -> Result<Vec<u8>, Refusal>
     ensures { Comes job input.now (texts_of result) }
 {
@@ -36,7 +36,7 @@ fn reply(alloc: Global, job: Job, input: &[u8], output: &mut [u8], length: &mut 
     }
 }
 
-/// The version of the calls. It changes if a call or its parameters change meaning.
+/// Returns the version of the calls. It changes if a call or its parameters change meaning.
 #[unsafe(no_mangle)]
 pub extern "C" fn ringplan_version() -> u32
     ensures { result ≡ 2 }

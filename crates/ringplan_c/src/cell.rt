@@ -10,7 +10,7 @@ use std::alloc::Global;
 use std::marker::Model;
 use std::ptr::null_mut;
 
-/// A pointer to a judge, or null. A drop frees nothing, so `Handle::take` first returns the judge.
+/// A pointer to a judge, or null. Dropping it frees nothing: `Handle::take` first takes the judge out.
 #[repr(C)]
 #[derive(Drop)]
 pub struct Cell {
@@ -36,7 +36,6 @@ impl Cell {
         Cell { at: at as *mut u8 }
     }
 
-    /// Returns the judge.
     pub(crate) fn into_loose(self, alloc: Global) -> Loose<Judge, Global>
         requires { self.value ≢ None }
         ensures { self.value ≡ Some result.value }

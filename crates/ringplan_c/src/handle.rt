@@ -8,7 +8,7 @@ use history_watch::Judge;
 use std::alloc::Global;
 use std::mem::replace;
 
-/// Holds a judge, or none. C begins with all bytes 0.
+/// Holds a judge or none. In C, an empty handle has all bytes 0.
 #[repr(C)]
 #[derive(Drop)]
 pub struct Handle {
@@ -37,7 +37,6 @@ impl Handle {
         self.is_held
     }
 
-    /// Takes the judge out.
     pub(crate) fn take(&mut self, alloc: Global) -> Box<Judge>
         requires { HasWatch self.old }
         ensures taken { held self.old ≡ Some result.value }
@@ -49,7 +48,6 @@ impl Handle {
             .into_box()
     }
 
-    /// Puts a judge in.
     pub(crate) fn put(&mut self, judge: Box<Judge>)
         requires { IsEmpty self.old }
         ensures { held self.new ≡ Some judge.value }

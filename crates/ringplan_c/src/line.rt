@@ -46,7 +46,6 @@ fn write_line<'a>(
     Ok(line)
 }
 
-/// Reads what the command line asks for, and its files.
 pub(crate) fn read_line(
     alloc: Global,
     command: &str,

@@ -1,4 +1,4 @@
-//! A call for people gives the program's standard output, then its standard error.
+//! The call for people's commands, which returns standard output followed by standard error.
 
 ghost use Rattle.std.specs.Prelude.{◌≡◌, ◌++◌, List, ℕ, IfOk};
 ghost use Rattle.ringplan_c.specs.Speaking.{IsSaid, IsTurnedAway, Reports, Says, Speaks};
@@ -111,7 +111,7 @@ struct Said {
     status: u8,
 }
 
-// A call's texts, as far as memory suffices.
+// Returns a call's texts. Fails if memory runs out.
 fn answer(alloc: Global, command: &[u8], options: &[u8], input: &[u8]) -> Result<Said, Refusal>
     ensures { IfOk result (λ s. IsSaid command.now options.now input.now s.both.items s.errors s.status) }
 {

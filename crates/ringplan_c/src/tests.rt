@@ -1,4 +1,4 @@
-//! Each call with room, too small a room, no room, an empty input, a refused bundle and refused options.
+//! Tests each call with enough room, too little and none, an empty input, a refused bundle and refused options.
 
 use crate::handle::Handle;
 use crate::{

@@ -75,7 +75,7 @@ fn painted(making: Making, screen: Screen) -> Making
 }
 
 impl Request {
-    /// Decides when words have colours.
+    /// Decides whether words have colours on this screen.
     pub fn on(self, screen: Screen) -> Request
         ensures { (asked : Asked) → Answers asked self → Answers asked result }
     {
@@ -103,7 +103,7 @@ pub fn parse<S: AsStr>(alloc: Global, words: &[S]) -> CommandLine
     ensures kinds { Answers (asked (map S.text words.now)) result.request }
     ensures job { (job : Job) → drop 1 (map S.text words.now) ≡ word_of job ∷ []
         → (result.request ≡ Request.Do job) ⊎ (result.request ≡ Request.OutOfMemory) }
-    // A line without a job names none.
+    // A line without a job names no files.
     ensures files { (files_in result.files ≡ files_of (map S.text words.now))
         ⊎ ((files_in result.files ≡ no_files) × (IsJob result.request → ⊥)) }
 {
@@ -331,7 +331,7 @@ pub(crate) fn format_of(options: &ArgMatches) -> Format
     }
 }
 
-// Refuses an unknown form.
+// Refuses an unknown format.
 fn in_format(
     alloc: Global,
     format: Format,

@@ -5,7 +5,7 @@ ghost use Rattle.ringplan_command.specs.Numbers.{MeansCount};
 
 use clap::ArgMatches;
 
-/// A history's most parts.
+/// The most parts of a history.
 pub const MOST_PARTS: u32 = 4_096;
 
 pub(crate) const MOST_WORKERS: u32 = 64;

@@ -71,7 +71,7 @@ fn are_dashes(texts: &[String]) -> bool
     each_is_dash(texts)
 }
 
-/// An argument's text. None if `-`, a standard stream.
+/// Returns an argument's text. None for `-`, a standard stream.
 pub(crate) fn named(
     alloc: Global,
     options: &ArgMatches,

@@ -174,7 +174,7 @@ pub(crate) const NO_DETOUR: &[u8; 138] =
 pub(crate) const NO_SLOT: &[u8; 121] =
     b"error: invalid value for '--leave <P.I>': not a partition and an index, such as 3.1\n\nFor more information, try '--help'.\n";
 
-/// The answer to words that are not text.
+/// The answer to arguments that are not text.
 pub const NO_WORDS: &[u8; 123] =
     b"error: invalid UTF-8 was detected in one or more arguments\n\nUsage: ringplan <COMMAND>\n\nFor more information, try '--help'.\n";
 
@@ -183,7 +183,7 @@ pub(crate) const NO_SHELL: &[u8; 95] =
 
 /// Former words, and what replaced them.
 ///
-/// How the error begins, its command if the word is an option, and the line to print.
+/// Each has how the error begins, its command if the word is an option, and the line to print.
 pub(crate) const SUCCESSORS: &[(&str, &str, &str); 6] = &[
     (
         "error: unrecognized subcommand 'judge'",

@@ -258,7 +258,7 @@ fn around_line(alloc: Global, matches: &ArgMatches) -> Result<Request, AllocErro
     around_of(alloc, matches, options)
 }
 
-// Refuses a line that changes nothing: without a dead node, a layout that may name one, a staying slot, and `--rest`.
+// Refuses a line that changes nothing: without `--dead`, `--layout`, `--leave` and `--rest`.
 fn around_of(alloc: Global, matches: &ArgMatches, options: Options) -> Result<Request, AllocError>
     requires known { MeansKnown (rows_of (found_of matches.now)) options }
     requires left { AreSlots (left_texts (rows_of (found_of matches.now))) options.left.items }
@@ -319,7 +319,6 @@ fn exit_of(matches: &ArgMatches) -> Exit
     Exit::Printed
 }
 
-// None if neither one character nor a known word.
 fn racks_of(options: &ArgMatches) -> Option<RackRule>
     ensures { MatchOption result (HasNoRacks (rows_of (found_of options.now)))
         (MeansRacks (first_of (codes "racks-behind") (rows_of (found_of options.now)))) }

@@ -6,7 +6,7 @@ ghost use Rattle.clap.specs.Words.{all_of, found_of, rows_of};
 use clap::ArgMatches;
 use std::alloc::{AllocError, Global};
 
-/// A repeated option's texts, in order.
+/// Returns a repeated option's texts, in order.
 pub(crate) fn names_of(
     alloc: Global,
     matches: &ArgMatches,
@@ -24,7 +24,7 @@ pub(crate) fn names_of(
     Ok(names)
 }
 
-/// A repeated argument's strings, in order.
+/// Returns a repeated argument's strings, in order.
 pub(crate) fn texts_of(
     alloc: Global,
     matches: &ArgMatches,

@@ -17,7 +17,7 @@ const MOST_ENTRY: u32 = 999_999;
 pub struct PartWish {
     /// The part's partitions.
     pub choice: Choice,
-    /// An entry, 0 to 999,999. Its place in the whole is printed instead of the part.
+    /// An entry of the part, 0 to 999,999. Its place in the whole history is printed instead of the part.
     pub entry: Option<u32>,
 }
 
@@ -40,7 +40,7 @@ fn share_of(options: &ArgMatches) -> Option<Choice>
     }
 }
 
-// From `A-B`.
+// Reads `A-B`.
 fn range_of(text: &str) -> Option<Choice>
     ensures { MatchOption result
         ((first last : ℕ) → IsRange text.now first last → ⊥)

@@ -46,7 +46,6 @@ fn script(alloc: Global, shell: Shell, program: &Command) -> Result<Vec<u8>, All
 
 // ---- commands and arguments
 
-// Whether the argument names a file.
 fn names_file(arg: &Arg) -> bool {
     matches!(arg.get_id(), "file" | "output" | "layout")
 }
@@ -251,7 +250,7 @@ fn push_zsh(out: &mut Words, program: &Command) {
     out.text(ZSH_END);
 }
 
-// The option may be repeated.
+// For an option that may be repeated.
 const ZSH_OPTION: &[u8] = b" \\\n                '*";
 
 const ZSH_BEGIN: &[u8] = b"\

@@ -9,7 +9,7 @@ use clap::ArgMatches;
 use ring_names::Slot;
 use std::alloc::{AllocError, Global};
 
-// From `P.I`.
+// Reads `P.I`.
 fn slot_named(text: &str) -> Option<Slot>
     ensures { MatchOption result ((slot : TheSlot) → IsSlot text.now slot → ⊥) (IsSlot text.now) }
 {
@@ -23,7 +23,7 @@ fn slot_named(text: &str) -> Option<Slot>
     Some(Slot { partition, index })
 }
 
-/// The slots of `--leave`. None if one is malformed.
+/// Returns the slots of `--leave`. None if one is malformed.
 pub(crate) fn slots_of(alloc: Global, matches: &ArgMatches) -> Result<Option<Vec<Slot>>, AllocError>
     ensures { IfOk result (λ o. MatchOption o (HasNoSlot (unwrap_or (all_of (codes "leave") (rows_of (found_of matches.now))) []))
         (λ slots. AreSlots (unwrap_or (all_of (codes "leave") (rows_of (found_of matches.now))) []) slots.items)) }

@@ -139,7 +139,7 @@ fn job<'a>(alloc: Global, word: &'a str, about: &'a str, streams: &'a str) -> Ma
     with_arg(with_arg(Ok(command), file(alloc)), output(alloc))
 }
 
-// Reads no bundle.
+// A subcommand that reads no bundle.
 fn guide<'a>(alloc: Global, word: &'a str, about: &'a str, streams: &'a str) -> Made<'a>
     ensures { IfOk result (IsApp (guide_app word.entry.now)) }
 {

@@ -27,7 +27,6 @@ pub enum Guide {
     Manual,
 }
 
-/// The text that the subcommand asks for, if any.
 pub(crate) fn guide_of(matches: &ArgMatches) -> Option<Guide>
     ensures { result ≡ guide_named (subcommand_rows_of matches.now) }
 {
@@ -40,7 +39,6 @@ pub(crate) fn guide_of(matches: &ArgMatches) -> Option<Guide>
     }
 }
 
-/// The subcommand's command for people, if any.
 pub(crate) fn people_word(matches: &ArgMatches) -> Option<Word>
     ensures { result ≡ word_named (subcommand_rows_of matches.now) }
 {

@@ -18,7 +18,7 @@ pub enum Screen {
 /// Whether a text for people has colours.
 #[derive(Clone, Copy, Debug, PartialEq, Eq)]
 pub enum Color {
-    /// If the output is known to have them.
+    /// If the output is known to have colours.
     Auto,
     /// On every output.
     Always,
@@ -57,7 +57,7 @@ pub struct Wish {
 }
 
 impl Wish {
-    /// The wish with its colours on that screen.
+    /// Decides the wish's colours for that screen.
     pub fn on(self, screen: Screen) -> Wish
         ensures same { (result.shape ≡ self.shape) × (result.rate ≡ self.rate) }
         ensures color { self.color ≢ Color.Auto → result.color ≡ self.color }
@@ -93,7 +93,7 @@ pub struct Cut {
 pub enum Exit {
     /// That a plan is printed: 0.
     Printed,
-    /// Whether it has steps: 4 for yes, 0 for no.
+    /// Whether the plan has steps: 4 for yes, 0 for no.
     Steps,
 }
 

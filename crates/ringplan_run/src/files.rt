@@ -11,7 +11,6 @@ use std::path::PathBuf;
 use std::rt::Files;
 use std::{fmt, fs, io};
 
-/// An input file's greatest length.
 #[derive(Clone, Copy, Debug, PartialEq, Eq)]
 pub(crate) enum Limit {
     /// At most `MAX_INPUT` bytes, since it is read whole.
@@ -86,7 +85,7 @@ fn sized<RT: Files + Eprint>(
     Ok(file)
 }
 
-// As in Linux.
+// The most links followed, as in Linux.
 const MOST_LINKS: u32 = 40;
 
 const MOST_BESIDE: u32 = 1_000;
@@ -175,7 +174,7 @@ fn exchange<RT: Files + AllocGlobal>(
     Err(io::Error::from(ErrorKind::AlreadyExists))
 }
 
-// Replaces the file atomically: it has all the text or what it had. Links and permissions stay.
+// Replaces the file atomically: it has all of the new text or its old content. Links and permissions stay.
 //
 // Writes directly to anything but a plain file, such as a terminal.
 #[inline(never)]

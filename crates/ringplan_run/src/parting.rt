@@ -14,7 +14,7 @@ use ringplan_command::{MOST_PARTS, PartWish};
 use std::io::{Read, Write};
 use texts::Fields;
 
-// How many times as many parts are small enough, at least 2.
+// Returns the factor, at least 2, by which more parts are small enough.
 fn times(many: u64, most: u64) -> u64 {
     (many.saturating_sub(1) / most.max(1))
         .saturating_add(1)

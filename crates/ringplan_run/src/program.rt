@@ -57,8 +57,8 @@ const STEPS: u8 = 4;
 /// `plan`, `check`, `play`, `drive`, `replay` and `migrate` print refusals of a bundle on the output, other commands on
 /// standard error. Faults of a command line go to standard error.
 ///
-/// Words for people have colours if screen or line says so. Named files are read in order instead of the input; `-`
-/// names the input.
+/// Texts for people have colours if screen or command line says so. Named files are read in order instead of the input;
+/// `-` names the input.
 ///
 /// With `-o`, output with status 0 or 4 goes to the file.
 ///
