@@ -141,7 +141,6 @@ impl<'a> Watch<'a> {
     }
 }
 
-/// A judge's state after bytes.
 #[derive(Drop)]
 pub(crate) struct Taken {
     pub(crate) state: State,

@@ -6,7 +6,7 @@ use crate::view::View;
 use atomic_table::Seat as TableSeat;
 use std::marker::Model;
 
-/// What a thread knows of a board's steps, and its right to change those held. Only one thread has a seat.
+/// What a thread knows of a board's steps, and its right to change those held. A seat belongs to one thread at a time.
 #[derive(Drop)]
 pub struct Seat {
     pub(crate) seat: TableSeat<Option<()>, View>,

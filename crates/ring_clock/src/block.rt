@@ -237,7 +237,7 @@ impl Block {
 
     /// Raises the counters to the other's. Reads the entries of both.
     ///
-    /// Takes memory as `join` does, but none if the block is full and unshared and each counter fits.
+    /// Takes memory as `join` does, but none if the block is full and unshared and each counter is below 2^31.
     pub fn raise(&mut self, alloc: Global, other: &Block) -> Result<(), AllocError>
         requires first { IsBlock self.old }
         requires second { IsBlock other.now }

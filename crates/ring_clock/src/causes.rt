@@ -129,7 +129,7 @@ fn push_clocks(
 
 /// Returns the clocks of a key's puts, by start. Joins once for each cause.
 ///
-/// A put's clock joins the causes' clocks, and raises the writer's counter by one (DeCandia et al. 2007, section 4.4).
+/// A put's clock joins the causes' clocks, and raises the writer's counter by one.
 pub fn clocks(alloc: Global, causes: &[Cause]) -> Result<Vec<Clock>, Refusal>
     requires { IsEarlier causes.now }
     ensures each { IfOk result (λ clocks. length clocks.items ≡ length causes.now) }

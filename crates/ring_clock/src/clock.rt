@@ -92,16 +92,14 @@ impl Clock {
         self.own
     }
 
-    /// Returns the writer's counter. Costs two binary searches, or two looks if all lesser writers have some.
+    /// Returns the writer's counter. Costs two binary searches, or two looks if all lesser writers have counters.
     pub fn counter(&self, writer: WriterId) -> u64
         ensures { result ≡ counter self.now writer.0 }
     {
         counter_in(self.blocks(), writer)
     }
 
-    /// Whether this clock's version equals the other's or is its ancestor.
-    ///
-    /// No counter exceeds the other's (DeCandia et al. 2007, section 4.4).
+    /// Whether this clock's version equals the other's or is its ancestor: no counter exceeds the other's.
     ///
     /// Reads the entries of both, and looks up each group as `has_group` does.
     ///
@@ -161,7 +159,7 @@ impl Clock {
     ///
     /// Takes memory as `join` does, but none if one clock is at most the other.
     ///
-    /// If both have the other's `own` writer's group and only it is less, an unshared list stays. Then only that
+    /// If only the group of the other's `own` writer is less, and both have it, an unshared list stays. Then only that
     /// block takes memory, and none if full and unshared.
     pub fn raise(&mut self, other: &Clock) -> Result<(), Refusal>
         ensures ok { OnOk result ((w : ℕ) → counter self.new w ≡ max (counter self.old w) (counter other.now w)) }

@@ -66,7 +66,7 @@ impl Full {
         }
     }
 
-    /// Returns the group of its writers.
+    /// Returns the writers' group.
     pub fn group(&self) -> u32
         ensures { result ≡ group_in self.now }
     {

@@ -12,8 +12,10 @@ use ring_names::Refusal;
 
 /// Applies the entry's event. Returns the reply if the entry has the same.
 ///
-/// Otherwise fails with `Mismatch`: the place, and the refusal's number, or 0 if the replies differ. Only differing
-/// replies change the store. Out of memory comes last. Costs a `World::apply`.
+/// Otherwise fails with `Mismatch`: the place, and the refusal's number, or 0 if the replies differ. Only with 0
+/// has the store changed.
+///
+/// Out of memory comes last. Costs a `World::apply`.
 pub fn follow(world: &mut World, place: u32, entry: &Entry) -> Result<Reply, Refusal>
     requires { HasNumber world.old entry.now.event }
     ensures ok { IfOk result (λ r. (r ≡ entry.now.reply) × Answers world.old entry.now.event r world.new) }

@@ -7,7 +7,7 @@ use std::marker::Model;
 // After this many items are taken, their memory is freed.
 const MANY: usize = 65536;
 
-/// Items that are taken in order. Now and then frees taken items' memory, for other data that grows.
+/// Items to take in order. Now and then frees taken items' memory, for data that grows.
 #[derive(Drop)]
 pub struct Queue<T> {
     last_first: Vec<T>,

@@ -216,7 +216,7 @@ impl<'a> World<'a> {
         !(steps.is_done(step) || steps.is_open(step)) && is_ready(&self.parts, step)
     }
 
-    /// Returns the least step from that number on that can begin: neither done nor open, with its dependencies done.
+    /// Returns the least step from `from` on that can begin: neither done nor open, with its dependencies done.
     /// Looks at each step up to it.
     pub fn ready(&self, from: u32) -> Option<u32>
         ensures some { IfSome result (λ n. (w : TheWorld) → Meets self.now w → IsNextStep (plan_of self.now) w from n) }

@@ -23,7 +23,7 @@ pub struct Executor<'a, L: RunLedger> {
     ghost plan: { approved.now.plan ≡ L.plan },
 }
 
-// The first node in the range that may keep the put as a hint for the slot.
+// Returns the first node in the range that may keep the hint.
 fn first_keeper(world: &World, put: u32, index: u32, from: u32, end: u32) -> Option<NodeId>
     ensures { IfSome result (λ x. (from ≤ x.0) × (x.0 < end)) }
 {

@@ -46,7 +46,7 @@ impl Row {
         }
     }
 
-    // Adds the seat's map if missing.
+    // Finds or adds the seat's map.
     pub(crate) fn open(&mut self, alloc: Global, seat: Seat) -> Result<usize, Refusal>
         ensures at { IfOk result (IsThere seat_cmp seat self.new.maps.items) }
         ensures same { (n : ℕ)

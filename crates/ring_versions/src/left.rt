@@ -25,7 +25,7 @@ pub struct Left {
     pub made: Vec<Part>,
 }
 
-// Adds the group's part if missing.
+// Finds or adds the group's part.
 fn place_for(alloc: Global, made: &mut Vec<Part>, group: u32) -> Result<usize, Refusal>
     ensures same { all_of made.new.items ≡ all_of made.old.items }
     ensures ok { IfOk result (λ place. place < length made.new.items) }

@@ -155,7 +155,7 @@ impl Versions {
         }
     }
 
-    /// Whether some version covers the clock. Looks at the join.
+    /// Whether some version covers the clock. First looks at the join.
     ///
     /// If the join reaches the clock, also looks at each chunk's group and one chunk's entries, and compares once.
     pub fn covers(&self, clock: &Clock) -> bool

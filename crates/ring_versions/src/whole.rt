@@ -139,7 +139,7 @@ impl Whole {
         self.join.counter(own) < clock.counter(own) && are_beyond(self.chunks.as_slice(), clock)
     }
 
-    /// Adds one version in place. Returns false unless `is_beside` holds and the chunk of its group is there, unshared.
+    /// Adds one version in place. Returns false unless `is_beside` holds and the version's group has an unshared chunk.
     ///
     /// Reads the entries of two joins, and each chunk's group, or its versions' own entries if the version counts
     /// there.

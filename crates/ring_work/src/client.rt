@@ -28,7 +28,7 @@ fn numbers(alloc: Global, asked: &[Asked], seen: &Seen) -> Result<Vec<u32>, Refu
     Ok(numbers)
 }
 
-// Makes a put's start, with the history's numbers of gets.
+// Makes a put's start. Its gets have the history's numbers.
 fn start_of(alloc: Global, asked: &[Asked], line: &Event) -> Result<Event, Refusal>
     ensures { IfOk result (λ start. starts_put start ≡ true) }
 {

@@ -248,7 +248,7 @@ fn prepare<'a, R: Wait, G: Gate>(
     Ok((board, first, last, front))
 }
 
-// Complete if all threads started and ran all lines.
+// `complete` if all threads started and ran all lines.
 #[derive(Drop)]
 struct Ran<L: RunLedger> {
     shares: Vec<Share<L>>,

@@ -150,7 +150,6 @@ fn another_round<L: RunLedger, R: Wait>(
     came
 }
 
-// Returns the last refusal if unacknowledged.
 fn send_rounds<L: RunLedger, R: Wait>(
     store: &LockedStore<L, R>,
     share: &mut Share<L>,

@@ -341,7 +341,7 @@ fn claim_next<L: RunLedger, R: Wait, G: Gate>(
     found
 }
 
-// Returns whether a step was finished.
+// Claims and does a step. Returns whether it is finished.
 fn turn<L: RunLedger, R: Wait, G: Gate>(
     site: &Site<L, R, G>,
     sat: &mut Sat<L>,

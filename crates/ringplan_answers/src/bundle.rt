@@ -183,7 +183,6 @@ fn check_given(alloc: Global, bytes: Vec<u8>) -> Result<(), Refusal>
     }
 }
 
-// For a program that ends then.
 fn play_given(alloc: Global, bytes: Vec<u8>) -> Result<Vec<u8>, Refusal>
     ensures { Gives (texts_of result) (plays bytes.items) }
 {

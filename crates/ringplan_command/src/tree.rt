@@ -107,7 +107,6 @@ fn file<'a>(alloc: Global) -> Arg<'a>
         .action(ArgAction::Append)
 }
 
-// `help` says what a dead node is.
 fn dead<'a>(alloc: Global, help: &'a str) -> Arg<'a>
     ensures rule { rule_of result ≡ list_option (codes "dead") }
     ensures local { result.global ≡ false }

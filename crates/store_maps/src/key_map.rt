@@ -352,7 +352,7 @@ impl KeyMap {
 
     /// Merges a whole map. If this map is empty, costs a copy of the other; otherwise `prepare_all`.
     ///
-    /// If only the other map shares, and more keys than this has, costs a copy of the other. Each own key then costs
+    /// If only the other map shares a tree, larger than this map, costs a copy of the other. Each own key then costs
     /// two look-ups and a merge.
     pub fn take_in(&mut self, other: &KeyMap) -> Result<(), Refusal>
         ensures ok { OnOk result (MergesAll (held self.old) (held other.now) (held self.new)) }

@@ -49,7 +49,7 @@ impl SlotMap {
         }
     }
 
-    // Adds the chunk's map if missing.
+    // Finds or adds the chunk's map.
     fn open(&mut self, chunk: u32) -> Result<usize, Refusal>
         requires { chunk < 16 }
         ensures same { (k : KeyId) → held_for self.new k ≡ held_for self.old k }
