@@ -127,7 +127,7 @@ fn push_clocks(
     Ok(())
 }
 
-/// Returns the clocks of a key's puts, by start. Joins once for each cause.
+/// Returns the clocks of a key's puts, by start. Costs a join for each put and each put seen.
 ///
 /// A put's clock joins the causes' clocks, and raises the writer's counter by one.
 pub fn clocks(alloc: Global, causes: &[Cause]) -> Result<Vec<Clock>, Refusal>

@@ -99,7 +99,7 @@ impl<'a> World<'a> {
         count
     }
 
-    /// Counts the node's open copies: at most its allowance for both directions, if any. Looks at each step.
+    /// Counts the node's open copies: at most its joint allowance, if any. Looks at each step.
     pub fn open_transfers(&self, node: NodeId) -> u32
         ensures most { (a : ℕ) → allowance_of (ring_of self.now) node.0 Both ≡ Some a → result ≤ a }
         ensures now { (w : TheWorld) → Meets self.now w

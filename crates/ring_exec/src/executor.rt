@@ -70,7 +70,7 @@ impl<'a, L: RunLedger> Executor<'a, L> {
         Ok((executor, share))
     }
 
-    /// Restores the store as `Ledgered::restore` does, with the ledger's only share, and fails as it does.
+    /// Restores the store as `Ledgered::restore` does, with the ledger's only share and the same refusals.
     pub fn restore(
         alloc: Global,
         blank: Blank,

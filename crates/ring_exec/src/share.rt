@@ -22,7 +22,7 @@ impl<L: Ledger> Share<L> {
         self.count
     }
 
-    /// Splits off a share with no events and one part of the ledger. This share keeps the rest.
+    /// Splits off a share with no events and one part of the ledger.
     pub fn split(&mut self) -> Share<L>
         requires { 2 ≤ self.old.token.parts }
         ensures new { (result.count ≡ 0) × (result.token.parts ≡ 1) }

@@ -28,7 +28,7 @@ impl Row {
         }
     }
 
-    // Returns the place of the seat's map, or where to insert it as `Err`.
+    // Returns the place of the seat's map, or as `Err` where to insert it.
     pub(crate) fn place(&self, seat: Seat) -> Result<usize, usize>
         ensures found { IfOk result (IsThere seat_cmp seat self.now.maps.items) }
         ensures missing { IfErr result (GoesAt seat_cmp seat self.now.maps.items) }

@@ -35,7 +35,7 @@ use std::mem::forget;
 use std::sync::Wait;
 use std::thread::Threads;
 
-// Frees an accepted plan, unless the program `ends` then.
+// Checks a plan, and frees it unless the program `ends` then.
 fn check_plan(alloc: Global, ring: Ring, plan: Plan, cert: &Cert, ends: bool) -> Result<(), Refusal>
     requires { Suits ring plan }
     ensures answer { Gives result (judged (first_refusal ring plan cert.now)) }
@@ -140,7 +140,7 @@ pub fn migrate_bundle(alloc: Global, bytes: &[u8]) -> Result<Vec<u8>, Refusal>
     }
 }
 
-// Frees the store, unless the program `ends` then.
+// Plays a script. Frees the store unless the program `ends` then.
 fn play_checked(alloc: Global, bundle: Bundle, ends: bool) -> Result<Vec<u8>, Refusal>
     requires { IsOfRing bundle }
     ensures { Gives (texts_of result) (shown bundle) }
@@ -172,7 +172,6 @@ fn read_given(alloc: Global, kind: Kind, bytes: Vec<u8>) -> Result<Bundle, Refus
     read_bundle(alloc, kind, bytes.as_slice())
 }
 
-// For a program that ends then.
 fn check_given(alloc: Global, bytes: Vec<u8>) -> Result<(), Refusal>
     ensures read { Gives result (verdict bytes.items) }
     ensures keeps { OnOk result (TextsKeepPromises bytes.items) }

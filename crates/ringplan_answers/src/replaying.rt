@@ -17,7 +17,7 @@ use ring_names::Refusal;
 use ring_script::replay_history;
 use std::alloc::Global;
 
-// Frees the store, unless the program `ends` then.
+// Replays a history. Frees the store unless the program `ends` then.
 fn replay_approved(
     alloc: Global,
     approved: &Approved,

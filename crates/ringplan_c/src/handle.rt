@@ -8,7 +8,7 @@ use history_watch::Judge;
 use std::alloc::Global;
 use std::mem::replace;
 
-/// Holds a judge or none. In C, an empty handle has all bytes 0.
+/// Holds a judge or none. In C, all bytes 0 make an empty handle.
 #[repr(C)]
 #[derive(Drop)]
 pub struct Handle {

@@ -17,7 +17,7 @@ pub fn lengthen<T>(list: &mut Vec<T>) -> Result<(), Refusal>
     Ok(())
 }
 
-/// Returns the key's place, or where to insert it as `Err`. Costs a binary search.
+/// Returns the key's place, or as `Err` where to insert it. Costs a binary search.
 pub fn place_of<K: Ord, X>(list: &[(K, X)], key: &K) -> Result<usize, usize>
     requires { Ascends K.cmp list.now }
     ensures found { IfOk result (IsThere K.cmp key.now list.now) }
