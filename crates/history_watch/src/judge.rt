@@ -24,7 +24,7 @@ pub struct Judge {
     ghost ready: { IsReadyState approved.ring approved.plan count state } by { Prim.hlevel props },
 }
 
-// Explicit: crates above need not check the parts.
+// Explicit, so that crates above need not check the parts.
 impl Drop for Judge {
     fn drop(self) {
         let Judge {

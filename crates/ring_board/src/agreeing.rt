@@ -82,7 +82,7 @@ fn agrees_behind(
     Ok(interleaved && finished && served && worked && handed && all)
 }
 
-/// Whether a drive's threads can have these receipts. The history must interleave the lists, and each step's finisher
+/// Whether a drive's threads can have these receipts. The history must interleave the lists. Each step's finisher must
 /// be the worker whose list has its `do` or `close`.
 ///
 /// The last lists are the workers' (only events of steps), the clients' (a block for each line) and the handoffs'.

@@ -40,7 +40,7 @@ impl Model for Clock {
     ghost invariant = { λ a. AreBlocks (listed a.blocks) };
 }
 
-// Explicit: crates above need not check the cases of `Blocks`.
+// Explicit, so that crates above need not check the cases of `Blocks`.
 impl Drop for Clock {
     fn drop(self) {
         let Clock {
@@ -108,7 +108,7 @@ impl Clock {
         ensures { IsTrue result ↔ IsAtMost self.now other.now }
     {
         let (blocks, others) = (self.blocks(), other.blocks());
-        // If each clock has one block, of at most 64 counters, skips this test.
+        // With one block each, of at most 64 counters, skips this test.
         if (blocks.len() > 1 || others.len() > 1)
             && counter_in(others, self.own) < counter_in(blocks, self.own)
         {
@@ -121,7 +121,7 @@ impl Clock {
     ///
     /// Shares a group's entries if one clock's are at least the other's.
     ///
-    /// Each other group takes 260 bytes, or 16 for each entry if few or a counter is 2^31 or more.
+    /// Each other group takes 260 bytes, or 16 for each entry if it has few or a counter is 2^31 or more.
     ///
     /// A list of several groups takes 8 more bytes for each, or up to 16 if neither clock has all.
     pub fn join(&self, other: &Clock) -> Result<Clock, Refusal>

@@ -21,7 +21,7 @@ pub struct Rest {
     pub(crate) losses: u32,
 }
 
-// Explicit: crates above need not check the parts.
+// Explicit, so that crates above need not check the parts.
 impl Drop for Rest {
     fn drop(self) {
         let Rest {

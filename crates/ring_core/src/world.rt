@@ -19,7 +19,7 @@ pub struct World<'a> {
     ghost gets: { length parts.gets ≤ 4294967295 },
 }
 
-// Explicit: crates above need not check the parts.
+// Explicit, so that crates above need not check the parts.
 impl Drop for World<'_> {
     fn drop(self) {
         let World { parts } = self;

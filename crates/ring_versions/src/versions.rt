@@ -56,7 +56,7 @@ impl Model for Versions {
     ghost invariant = { λ a. IsApart (shared_versions a.shared) };
 }
 
-// Explicit: crates above need not check the cases of `Shared`.
+// Explicit, so that crates above need not check the cases of `Shared`.
 impl Drop for Versions {
     fn drop(self) {
         let Versions { alloc: _, shared } = self;

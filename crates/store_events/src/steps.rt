@@ -66,8 +66,7 @@ fn kind_refusal(parts: &Parts, step: &Step) -> Option<Refusal>
     }
 }
 
-/// Does the step. A node joins and is up, a slot gets a mirror and the next generation or is switched, or a node drops
-/// or retires.
+/// Does the step. A joining node is up, and a mirrored slot gets the next generation.
 ///
 /// A drop walks the slot's data at the node.
 pub fn do_step(parts: &mut Parts, step: u32) -> Reply

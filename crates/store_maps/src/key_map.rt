@@ -23,7 +23,7 @@ pub struct KeyMap {
     pub(crate) shared: Option<Arc<KeyTree>>,
 }
 
-// Explicit: crates above need not check both trees.
+// Explicit, so that crates above need not check both trees.
 impl Drop for KeyMap {
     fn drop(self) {
         let KeyMap { own, shared } = self;
