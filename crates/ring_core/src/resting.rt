@@ -53,7 +53,6 @@ impl Rest {
     ghost use Rattle.std.specs.Prelude.{◌≡◌};
     ghost use Rattle.ring_core.specs.Resting.{rest_in};
 
-    /// Returns a store's parts without the plan.
     pub(crate) fn of(parts: Parts) -> Rest
         ensures { result ≡ rest_in parts.entry }
     {

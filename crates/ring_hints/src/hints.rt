@@ -47,7 +47,7 @@ impl Hints {
         }
     }
 
-    /// Whether the node keeps anything for the slot.
+    /// Whether the node keeps anything for the slot. Costs one look-up.
     pub fn keeps(&self, keeper: NodeId, slot: Slot) -> bool
         ensures { (result ≡ false) ↔ ((k : KeyId) → hinted_at self.now keeper.0 slot k ≡ []) }
     {
@@ -115,7 +115,7 @@ impl Hints {
         self.kept.chunk_map(pair, chunk)
     }
 
-    /// Whether the node keeps anything of a chunk for the slot.
+    /// Whether the node keeps anything of a chunk for the slot. Costs one look-up.
     pub fn keeps_chunk(&self, keeper: NodeId, slot: Slot, chunk: u32) -> bool
         ensures { (result ≡ false) ↔ ((n : ℕ) → hinted_at self.now keeper.0 slot (id chunk n) ≡ []) }
     {
