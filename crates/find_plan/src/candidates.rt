@@ -1,4 +1,4 @@
-//! Slots to swap.
+//! Finds slots to swap.
 
 use find_flow::{Grouped, Role, Seats};
 use ring_names::Refusal;
@@ -8,9 +8,9 @@ use texts::{at, quotient, set, small, swap};
 /// Each node's slots.
 #[derive(Drop)]
 pub struct Candidates {
-    // by node, its slots; the last group has those that staying members got by moves before any swap
+    // each node's slots; the last group has slots that staying members got by moves before any swap
     places: Grouped,
-    // by place, its position in its owner's group
+    // each place's position in its owner's group
     turns: Vec<u32>,
     // by group, the last look's position
     fingers: Vec<u32>,
@@ -81,7 +81,7 @@ impl Candidates {
         Ok(())
     }
 
-    // The group's next place, unless all came before.
+    // Returns the group's next place, unless all came before.
     fn next_of(&mut self, group: usize, round: u32) -> Option<usize> {
         let start = self.places.start(group);
         let count = self.places.end(group).saturating_sub(start);
@@ -96,8 +96,8 @@ impl Candidates {
         Some(self.places.item(start.saturating_add(finger)) as usize)
     }
 
-    /// Returns the next slot to exchange owners with. Turns alternate between slots of former owners, who regain their
-    /// own slots, and slots that members got by moves.
+    /// Returns the next slot to exchange owners with. Turns alternate between slots of former owners and slots that
+    /// members got by moves.
     pub fn next(&mut self, seats: &Seats, place: usize, turn: u32) -> Option<usize> {
         let ways = small(self.gone.len()).saturating_add(1);
         let round = quotient(turn, ways);

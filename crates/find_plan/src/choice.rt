@@ -68,7 +68,7 @@ fn wished_of(
 /// - The best balance: the least sum of squared slots by weight.
 /// - Few partitions with two joining nodes or two moving slots, and evenly shared partitions.
 ///
-/// If the search takes too long, the balance and rarely a part fall short. The last aim is met well, not always best.
+/// If the search takes too long, the balance falls short, and rarely a part. The last aim is met well, not always best.
 ///
 /// With sizes, joining nodes take up to their share of the stored size, and no slot moves only for racks. This is good,
 /// not always optimal: see `take_by_size`.

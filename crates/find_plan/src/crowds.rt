@@ -9,23 +9,23 @@ use texts::{at, lower, raise, set, small};
 /// A swap's cost, the most important part first. Negative is a gain.
 #[derive(Clone, Copy, PartialEq, Eq, PartialOrd, Ord, Drop)]
 pub struct Cost {
-    // by partition, 64 for each joining node after the first, and 1 for each pair of them; two partitions have at most
-    // 42 pairs
+    // for each partition, 64 for each joining node after the first, and 1 for each pair of these. Two partitions have
+    // at most 42 pairs
     joiners: i64,
     // moving slots after a partition's first
     moves: i64,
-    // squares of how many partitions two nodes share
+    // for each two nodes, the square of the number of partitions that they share
     shares: i64,
 }
 
-/// Above any swap with fewer joining nodes after the first, or with as many and fewer pairs.
+/// A limit for swaps that lower `joiners`.
 pub const FEWER_JOINERS: Cost = Cost {
     joiners: -1,
     moves: 100,
     shares: 0,
 };
 
-/// Above any gain.
+/// A limit for swaps that gain anything.
 pub const ANY_GAIN: Cost = Cost {
     joiners: 0,
     moves: 0,
@@ -87,7 +87,7 @@ pub struct Crowds {
     joiners: Vec<u32>,
     moves: Vec<u32>,
     pairs: PairCounts,
-    // by number of joining owners, how many partitions
+    // how many partitions have each number of joining owners
     levels: Vec<u32>,
     reads: u32,
 }
@@ -104,7 +104,7 @@ impl Crowds {
         }
     }
 
-    /// Counts all partitions' loads.
+    /// Counts joining owners, moving slots and pairs.
     pub fn fill(&mut self, alloc: Global, seats: &Seats) -> Result<(), Refusal> {
         self.joiners = vec![in alloc; 0u32; seats.partitions]?;
         self.moves = vec![in alloc; 0u32; seats.partitions]?;
@@ -184,8 +184,8 @@ impl Crowds {
     ///
     /// Checks that `one`'s owner may have `other`; the caller checked the reverse.
     ///
-    /// The partitions must have the same size. No move may be added, nor a copy that can read only its owner: that may
-    /// give little at once.
+    /// The partitions must have the same size. No move may be added, nor a copy that can read only its owner: an owner
+    /// may give few copies at once.
     pub fn cost(&self, seats: &Seats, one: usize, other: usize, limit: Cost) -> Option<Cost> {
         let (first, second) = (half_of(seats, one, other), half_of(seats, other, one));
         if seats.volumes.size(first.partition) != seats.volumes.size(second.partition) {

@@ -9,7 +9,7 @@ use std::cmp::Reverse;
 use std::collections::BinaryHeap;
 use texts::{at, raise};
 
-/// A giver's rank: greatest for most slots by weight, then most allowance left, then the smallest number.
+/// A giver's rank. The greatest has most slots by weight, then most allowance left, then the smallest number.
 #[derive(Clone, Copy, PartialEq, Eq, PartialOrd, Ord, Drop)]
 pub(crate) struct Giver {
     pub(crate) price: u64,

@@ -18,7 +18,7 @@ fn numbered(alloc: Global, nodes: &[NodeId]) -> Result<Vec<u32>, Refusal> {
     Ok(numbers)
 }
 
-/// Plans to join and remove these members, with a certificate.
+/// Finds a plan that joins and removes these nodes, and its certificate.
 ///
 /// Moves only leaving nodes' slots, and as many more as give each joining node its share, rounded down. Equal inputs
 /// give equal plans. Fails as `wished` does.

@@ -14,10 +14,10 @@ pub struct Half {
     pub new: u32,
 }
 
-/// By pair of nodes, how many partitions they share. At most 2 MB, for 1,024 nodes.
+/// How many partitions each two nodes share. At most 2 MB, for 1,024 nodes.
 #[derive(Drop)]
 pub struct PairCounts {
-    // by node, its counts with smaller nodes
+    // by node, its counts with nodes of smaller numbers
     counts: Vec<u32>,
 }
 
@@ -63,7 +63,7 @@ impl PairCounts {
         i64::from(at(&self.counts, place_of(one, other)))
     }
 
-    /// How much half a swap adds to the sum of squares.
+    /// Returns how much half a swap adds to the counts' sum of squares.
     pub fn growth(&self, seats: &Seats, half: Half) -> i64 {
         let start = seats.place(half.partition, 0);
         let mut growth = 0i64;

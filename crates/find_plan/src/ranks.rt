@@ -167,7 +167,7 @@ impl Ranks {
         }
     }
 
-    /// The first in a range of places.
+    /// The first rank in a range of places.
     pub fn first(&self, from: u32, end: u32) -> Rank {
         let mut first = NOBODY;
         let mut left = self.size.saturating_add(from);

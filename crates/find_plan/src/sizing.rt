@@ -35,7 +35,7 @@ fn split_full<'a>(seats: &Seats, order: &'a [u32]) -> (&'a [u32], &'a [u32]) {
     (order, &[])
 }
 
-// By member, its former slots with keys, the largest first.
+// Returns each member's former slots with keys, the largest first.
 fn owned_by(alloc: Global, seats: &Seats, order: &[u32]) -> Result<Grouped, Refusal> {
     let mut owned = Grouped::new(alloc);
     owned.begin(alloc, seats.members.count() as usize)?;
@@ -86,7 +86,7 @@ struct Sizing {
 }
 
 impl Sizing {
-    // Gives the slot to a joining member that lacks as much.
+    // Whether a joining member that lacks at least the slot took it.
     fn pass(&mut self, seats: &mut Seats, place: usize) -> Result<bool, Refusal> {
         let (owner, partition) = (seats.now(place), seats.partition(place));
         let rack = seats.members.racks.of(owner);
@@ -162,7 +162,7 @@ impl Sizing {
         Ok(false)
     }
 
-    // Lets members give that store most by weight, even below their levels.
+    // Lets members that store most by weight give, even below their levels.
     fn force(&mut self, alloc: Global, seats: &mut Seats, crowd: u32) -> Result<(), Refusal> {
         let mut heap = BinaryHeap::new(alloc);
         for node in 0..seats.members.count() {

@@ -1,7 +1,7 @@
 //! Spreads moving slots over partitions by swaps.
 //!
-//! A moving slot's owner leaves the partition. Its place goes to a former owner of the partition, or to a member that
-//! got the other slot by a move too. Longer exchanges help few rings and need most looks.
+//! A swap replaces a moving slot's owner by a former owner of the partition, or by another moving slot's owner. Longer
+//! exchanges help few rings and need most looks.
 
 use crate::candidates::Candidates;
 use crate::crowds::{ANY_GAIN, Cost, Crowds, FEWER_JOINERS};
@@ -20,7 +20,7 @@ const COMPARED: u32 = 16;
 struct Spread {
     crowds: Crowds,
     candidates: Candidates,
-    // looks left to joining nodes
+    // looks left for joining nodes
     looks: u32,
 }
 

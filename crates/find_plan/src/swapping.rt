@@ -28,7 +28,7 @@ fn suits(seats: &Seats, partition: usize, new: u32, old: u32) -> bool {
     to == from || seats.count(partition, to) < seats.count(partition, from)
 }
 
-// How much farther from its share `more` takes the node, by squared distance and weight.
+// Returns how much farther from its share `more` takes the node, by squared distance and weight.
 fn farther(seats: &Seats, node: u32, more: i64) -> i128 {
     let over = i128::from(seats.volumes.over(node));
     let more = i128::from(more);
@@ -47,7 +47,7 @@ fn parts(seats: &Seats, place: usize) -> i64 {
 }
 
 impl Swap {
-    // Whether no more slots share a rack, and no more joining owners a partition.
+    // Whether the swap lets no more slots share a rack, and no more joining owners a partition.
     fn is_possible(&self, seats: &Seats) -> bool {
         let (here, there) = (seats.partition(self.place), seats.partition(self.other));
         let (taker, giver) = (seats.now(self.place), seats.now(self.other));
@@ -59,8 +59,8 @@ impl Swap {
             && suits(seats, here, seats.first(self.place), taker)
     }
 
-    // How much farther from their shares both members are. The joining member must not exceed its share, nor newly lack
-    // more than `slack`.
+    // Returns how much farther from their shares the members get. The joining member must not exceed its share, nor
+    // newly lack more than `slack`.
     fn cost(&self, seats: &Seats, slack: i64) -> Option<i128> {
         let (here, there) = (parts(seats, self.place), parts(seats, self.other));
         let (taker, giver) = (seats.now(self.place), seats.now(self.other));

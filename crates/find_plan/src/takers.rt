@@ -10,7 +10,7 @@ use texts::NONE;
 #[derive(Drop)]
 pub struct Takers {
     ranks: Ranks,
-    // ranges in rack order that may not take
+    // ranges of members, in rack order, that may not take
     blocked: Vec<(u32, u32)>,
 }
 

@@ -4,7 +4,7 @@ use find_flow::Seats;
 use std::cmp::Reverse;
 use texts::NONE;
 
-// Which slot to free first, the greatest: in racks above their most, then of owners with many slots by weight.
+// A slot's urgency. The greatest is freed first: in racks above their most, then of owners with many slots by weight.
 #[derive(Clone, Copy, PartialEq, Eq, PartialOrd, Ord, Drop)]
 struct Urgency {
     is_above: bool,

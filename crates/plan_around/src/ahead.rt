@@ -1,4 +1,4 @@
-//! Mirrors ahead of their owners.
+//! Finds mirrors with puts that their owners lack.
 
 use crate::chunks::{Chunk, PutsByChunk};
 use crate::storing::{Mirrored, happen, has_put, mirrored_slot};
@@ -10,7 +10,7 @@ use ring_core::World;
 use ring_names::{Refusal, Slot};
 use std::alloc::Global;
 
-// Returns the slot of an unfinished copy from listed slots.
+// Returns the slot, if the step is an unfinished copy from listed slots.
 fn listing_slot(plan: &Plan, progress: &Progress, step: u32) -> Option<Slot> {
     if step >= plan.len() || progress.is_done(step) {
         return None;
@@ -53,7 +53,7 @@ impl Looking<'_> {
         Ok(())
     }
 
-    // Returns the chunk that the event gives by an unfinished copy from listed slots.
+    // Returns the chunk, if an unfinished copy from listed slots gives it.
     fn given(&self, event: &Event) -> Option<Given> {
         let Event::ChunkCopy(step, chunk) = event else {
             return None;
@@ -74,7 +74,7 @@ impl Looking<'_> {
         Ok(lacking)
     }
 
-    // Whether the mirror has a put that no write could have given.
+    // Whether the mirror got a put of `lacking` that no write could give.
     fn is_ahead(&self, given: &Given, lacking: &[u32]) -> bool {
         lacking.iter().any(|put| {
             has_put(&self.store, given.it.mirror, *put, given.it.slot.index)

@@ -58,7 +58,7 @@ fn is_step_apart(
     is_unasked(dead, ring, present, step) || is_over(store, step, number)
 }
 
-/// Whether no remaining step involves these nodes. Costs a pass over the plan.
+/// Whether no remaining step involves a dead node. Costs a pass over the plan.
 pub(crate) fn are_apart(
     alloc: Global,
     store: &World,

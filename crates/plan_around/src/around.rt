@@ -80,7 +80,7 @@ fn find(it: &Begun, reach: Reach) -> Result<Around, Refusal> {
     find_around(task_of(it, ahead.as_slice()), reach)
 }
 
-// Returns whether no remaining step moves some named slot. Reports these.
+// Reports named slots that no remaining step moves. Returns whether there are any.
 fn push_unmoved(it: &Begun, words: &mut Words) -> Result<bool, Refusal> {
     let unmoved = find_unmoved(&task_of(it, &[]))?;
     if !unmoved.is_empty() {
@@ -132,7 +132,7 @@ fn go_by(it: &Begun, before: &World, found: Around) -> Result<Vec<u8>, Refusal>
     go_on(it.alloc, plan, &going, before)
 }
 
-// Reports on slots and nodes.
+// Tries one reach. Reports on slots and nodes if it succeeds.
 fn go_so_far(
     it: &Begun,
     before: &World,
@@ -302,19 +302,19 @@ fn asked_for<'a>(
 
 /// Makes the bundle that continues a stopped one around dead nodes.
 ///
-/// It has the ring, another plan, a certificate, and the history by that plan. Executors find what they hold of a step
-/// by its kind, partition, slot and node.
+/// The bundle has the ring, another plan, a certificate, and the history by that plan. Executors find a step's data by
+/// its kind, partition, slot and node.
 ///
 /// Named slots stay with their owners, or go to mirrors to which a copy gave all chunks. Other mirrors are undone only
 /// if the detour allows it.
 ///
-/// If a second bundle follows, without a history, uses its plan. Adds to `words` what becomes of slots and nodes, or
-/// the reason for `NoPlan`.
+/// If a second bundle follows, without a history, its plan is used. Adds to `words` what becomes of slots and nodes,
+/// or the reason for `NoPlan`.
 ///
-/// Fails with the texts' first fault, or as `ask_layout`, `nodes_of`, `racks_of` and the checker do; as `replay` if the
-/// history is not a run.
+/// Fails with the first faulty line's least fault, or as `ask_layout`, `nodes_of`, `racks_of`, the checker or `replay`
+/// does.
 ///
-/// Fails with `NoPlan` if no remaining step moves a named slot, or if the history cannot go on.
+/// Fails with `NoPlan` if no remaining step moves some named slot, or if the history cannot go on.
 ///
 /// Costs about `check` and `replay` of both bundles, and again for each of at most two refused plans.
 pub fn around_bundle(

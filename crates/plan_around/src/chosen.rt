@@ -1,4 +1,4 @@
-//! Reads a stopped plan, and a chosen plan.
+//! Reads a stopped plan, and a plan chosen to continue it.
 
 ghost use Rattle.std.specs.Prelude.{◌≡◌, IfOk, IfSome, Ok};
 ghost use Rattle.texts.specs.Judging.{map_ok};

@@ -1,4 +1,4 @@
-//! What plans end with.
+//! Checks how a new plan ends.
 
 ghost use Rattle.std.specs.Prelude.{◌≡◌, ◌⊎◌, ℕ, ◌<◌, ◌||◌, true, false, length, Some, slice_get, IsTrue, IfOk};
 ghost use Rattle.std.specs.List.{list_any};
@@ -46,7 +46,7 @@ pub(crate) struct Endings<'a> {
     pub(crate) extent: Extent,
 }
 
-// Both plans' final owners, and partitions with hints on dead nodes or staying slots.
+// Both plans' final owners, partitions with hints on dead nodes, and partitions with staying slots.
 #[derive(Drop)]
 struct Ended<'a> {
     dead: Dead<'a>,
@@ -165,7 +165,7 @@ fn is_excused(it: &Endings, ended: &Ended, partition: u32) -> bool
     is_flagged(ended.left.as_slice(), partition as usize)
 }
 
-// Whether the node mirrors the slot, or is an owner that may stay.
+// Whether the node mirrors the slot, or owns it and may keep it.
 fn serves(before: &World, back: Back, slot: Slot, node: NodeId) -> bool
     requires { is_ring_slot (ring_of before.now) slot ≡ true }
     ensures { IsTrue result → (w : TheWorld) → Meets before.now w

@@ -1,4 +1,4 @@
-//! Checks and writes how to go on.
+//! Checks and writes the bundle that goes on.
 
 ghost use Rattle.std.specs.Prelude.{◌≡◌, ◌++◌, IsTrue, IfOk, OnOk};
 ghost use Rattle.plan_text.specs.Valid.{Suits as PlanSuits};
@@ -51,7 +51,7 @@ pub(crate) fn accepted(
     }
 }
 
-// Whether both stores are alike, and the rest involves no dead node.
+// Whether both stores are alike, and no remaining step involves a dead node.
 fn runs_on(
     alloc: Global,
     approved: &Approved,
@@ -82,7 +82,7 @@ fn runs_on(
     are_apart(alloc, store, ring, plan, it.dead)
 }
 
-// Fails with `NoPlan` if the history does not go on.
+// Returns the history's text. Fails with `NoPlan` unless `runs_on` holds.
 fn history_on(
     alloc: Global,
     approved: &Approved,
@@ -116,7 +116,7 @@ fn followed(text: Vec<u8>, more: &[u8]) -> Result<Vec<u8>, Refusal>
     Ok(text)
 }
 
-/// A begun plan, and its steps' numbers in another.
+/// A begun plan, and its steps' numbers in a new one.
 #[derive(Clone, Copy)]
 pub(crate) struct Going<'a> {
     pub(crate) old: &'a Approved,
@@ -126,9 +126,9 @@ pub(crate) struct Going<'a> {
     pub(crate) left: &'a [Slot],
     pub(crate) back: Back,
     pub(crate) extent: Extent,
-    /// By old step, its new number. None if entries are omitted.
+    /// Each old step's new number. None if its entries are omitted.
     pub(crate) numbers: &'a [Option<u32>],
-    /// By new step, its old number.
+    /// Each new step's old number.
     pub(crate) olds: &'a [u32],
     pub(crate) cert: &'a Cert,
 }
@@ -196,10 +196,8 @@ fn ask_ends(alloc: Global, it: &Going, before: &World, new: &Approved) -> Result
 
 /// Returns the bundle that goes on by the plan.
 ///
-/// The checker must accept the plan, and the stores be alike.
-///
 /// Fails with `NoPlan` if plan or certificate do not suit the ring, or the plan ends elsewhere or involves a dead node.
-/// The same if histories or stores differ.
+/// Fails likewise if histories or stores differ.
 ///
 /// Otherwise fails as the checker or the new store does.
 pub(crate) fn go_on(

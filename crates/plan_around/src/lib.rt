@@ -1,4 +1,4 @@
-//! Plans around nodes that died during a change. The checker accepts them, and the history follows them.
+//! Plans around nodes that died during a change. The checker accepts them, and the rewritten history follows them.
 #![tactic(auto)]
 
 mod ahead;

@@ -1,6 +1,6 @@
 //! Runs a history by another plan. That plan's store gives the replies.
 //!
-//! If a chunk is omitted, writes give what it gave, since its listed slots hold the same by both plans.
+//! Writes replace an omitted chunk, since its listed slots hold the same by both plans.
 
 ghost use Rattle.std.specs.Prelude.{IfOk, OnOk};
 ghost use Rattle.plan_around.specs.Led.{GoesFarther, IsLed};
@@ -20,7 +20,7 @@ use std::alloc::Global;
 #[derive(Drop)]
 pub(crate) struct Retold<'a> {
     pub(crate) led: Led<'a>,
-    /// How many new entries each old one has.
+    /// How many new entries replace each old one.
     pub(crate) counts: Vec<u32>,
     /// All puts, by chunk.
     pub(crate) order: Vec<u32>,
@@ -104,7 +104,7 @@ impl Retelling<'_, '_> {
         self.write_latest(&it, given.as_slice())
     }
 
-    // Returns the chunk's puts that the mirror lacks, ascending. None if the owner lacks one or is down.
+    // Returns the chunk's puts that the mirror lacks, ascending. No puts if the owner lacks one or is down.
     fn given(&self, it: &Mirrored, source: &Source, chunk: Chunk) -> Result<Vec<u32>, Refusal> {
         let store = &self.led.store;
         let mut given = Vec::new(self.alloc);
@@ -145,7 +145,7 @@ impl Retelling<'_, '_> {
 
 /// Runs the old history by the new plan. Fails as the new store does.
 ///
-/// Writes replace an omitted chunk, if the slot is still mirrored and its owner has all puts.
+/// Writes replace an omitted chunk only if the slot is still mirrored and its owner has all puts.
 ///
 /// Costs one run, and for each omitted chunk a look-up for each put of its keys.
 pub(crate) fn retell<'a>(

@@ -26,15 +26,15 @@ pub struct Aim<'a> {
 /// Why no plan can reach the goal.
 #[derive(Clone, Copy, Debug, PartialEq, Eq)]
 pub enum Unfit {
-    /// The rings have other partitions, slots, quorums or losses.
+    /// The rings differ in partitions, slots, quorums or losses.
     Space,
-    /// The node has another name or allowance, or only one ring has it.
+    /// The node's name or allowance differs, or only one ring has the node.
     Node(u32),
     /// A dead node should join.
     DeadJoiner(u32),
     /// The slot should go to a dead node.
     DeadOwner(Slot),
-    /// A dead node's slot in the partition should move, and fewer than R other slots can be read.
+    /// A dead node's slot in the partition should move, and fewer than R owners live.
     Unread(u32),
 }
 
@@ -55,7 +55,7 @@ fn other_node(ring: &Ring, wanted: &Ring) -> Option<u32> {
     None
 }
 
-// A partition's owners now and in the end.
+// Returns the partition's owners now and in the goal ring.
 fn rows<'a>(aim: &Aim<'a>, partition: usize) -> (&'a [NodeId], &'a [NodeId]) {
     let ours = match aim.ring.rows().get(partition) {
         Some(row) => row.as_slice(),
@@ -118,7 +118,7 @@ pub fn is_unread(reads: u32, dead: &Dead, before: &[NodeId], after: &[NodeId]) -
     live(dead, before) < reads as usize && is_left(dead, before, after)
 }
 
-/// Returns a known reason why no plan can lead there.
+/// Returns a known reason why no plan can reach the goal.
 pub fn why_unfit(aim: &Aim) -> Option<Unfit> {
     if !has_space(aim.ring, aim.wanted) {
         return Some(Unfit::Space);
@@ -142,7 +142,7 @@ pub fn why_unfit(aim: &Aim) -> Option<Unfit> {
     None
 }
 
-/// Returns the partitions, ascending, in which a dead node's slot should move and fewer than R owners live.
+/// Returns the partitions for which `is_unread` holds, ascending.
 pub fn unread_partitions(aim: &Aim) -> Result<Vec<u32>, Refusal> {
     let dead = Dead::of(aim.dead);
     let mut unread = Vec::new(aim.alloc);

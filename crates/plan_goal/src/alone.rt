@@ -1,4 +1,4 @@
-//! The plan of joins only.
+//! A plan that only joins nodes.
 
 ghost use Rattle.std.specs.Prelude.{◌≡◌, ◌≤◌, [], length, IfOk, IfErr};
 ghost use Rattle.ring_names.specs.declared.refusal.Refusal.TheVariants.{OutOfMemory};
@@ -36,7 +36,7 @@ fn no_claims(alloc: Global) -> Cert
     }
 }
 
-/// Proposes the plan of joins only, for a change without leaves.
+/// Proposes a plan that only joins nodes, for a change without leaves.
 pub fn propose_joins(alloc: Global, ring: Ring, change: &Change) -> Result<Proposed, Refusal>
     requires change { IsChange ring change.now }
     requires nobody { change.now.leaves ≡ [] }
@@ -44,7 +44,7 @@ pub fn propose_joins(alloc: Global, ring: Ring, change: &Change) -> Result<Propo
     ensures proposed { IfOk result (λ p. IsProposed ring change.now p.approved.plan p.cert) }
     ensures memory { IfErr result (λ e. e ≡ OutOfMemory) }
 {
-    // A ring has few nodes: few can join.
+    // A ring has few nodes, so few can join.
     let _ = ring.n();
     let plan = joins_alone(alloc, change.joins.as_slice())?;
     match judge(alloc, ring, change, plan, no_claims(alloc)) {

@@ -1,4 +1,4 @@
-//! Certificates for a ring and a plan. Ignores the rest.
+//! Finds certificates for a bundle's ring and plan. Ignores the rest.
 
 ghost use Rattle.std.specs.Prelude.{◌≡◌, IfOk};
 ghost use Rattle.texts.specs.Judging.{Gives, map_ok};
@@ -47,7 +47,7 @@ fn read_front(alloc: Global, bytes: &[u8]) -> Result<Front, Refusal>
     read_both(alloc, &mut lines)
 }
 
-// Does not ask the checker.
+// Finds a certificate. Does not ask the checker.
 fn found(alloc: Global, ring: &Ring, plan: &Plan) -> Result<Candidate, Refusal>
     requires { PlanSuits ring.now plan.now }
     ensures { IfOk result (λ f. f.text.items ≡ front_text ring.now plan.now f.found.cert) }
@@ -71,10 +71,10 @@ fn certified(alloc: Global, front: Front) -> Result<Vec<u8>, Refusal>
 
 /// Returns a bundle's ring and plan with a new certificate.
 ///
-/// Its chains are the fewest that the plan's order allows.
+/// The certificate has the fewest chains that the plan's order allows.
 ///
-/// Fails with the texts' first fault, then as the checker does. Fails with `NoPlan` if a node has too many chains
-/// because the search was given up.
+/// Fails with the first faulty line's least fault, then as the checker does. Fails with `NoPlan` if a node has too many
+/// chains because the search was given up.
 pub fn cert_bundle(alloc: Global, bytes: &[u8]) -> Result<Vec<u8>, Refusal>
     ensures certified { IfOk result (λ text. IsCertifiedText bytes.now text.items) }
 {
@@ -82,7 +82,7 @@ pub fn cert_bundle(alloc: Global, bytes: &[u8]) -> Result<Vec<u8>, Refusal>
     certified(alloc, front)
 }
 
-/// Returns ring, plan and the best certificate found. Does not ask the checker.
+/// Returns ring, plan and the best certificate found, without asking the checker.
 pub fn found_bundle(alloc: Global, bytes: &[u8]) -> Result<Vec<u8>, Refusal>
     ensures { IfOk result (λ text. IsClaimedText bytes.now text.items) }
 {
@@ -91,7 +91,7 @@ pub fn found_bundle(alloc: Global, bytes: &[u8]) -> Result<Vec<u8>, Refusal>
     Ok(text)
 }
 
-/// For `TooManyChains`: adds a line if no certificate can do with fewer chains.
+/// Adds a line to a `TooManyChains` refusal if no certificate has fewer chains.
 pub fn push_excess(
     alloc: Global,
     out: &mut Words,

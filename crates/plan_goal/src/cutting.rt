@@ -9,7 +9,7 @@ use ring_table::Ring;
 use std::alloc::Global;
 use texts::{at, set, small};
 
-// The most passes until no group waits for a later window.
+// The most passes of `settle`.
 const PASSES: u32 = 64;
 
 #[derive(Drop)]
@@ -25,7 +25,7 @@ impl<'a> StepWindows<'a> {
         at(&self.of_groups, group as usize)
     }
 
-    // Keeps a later window. Returns whether the window changed.
+    // Moves the step's group to a later window. Returns whether it moved.
     fn raise(&mut self, step: u32, window: u32) -> bool {
         let group = at(self.of_steps, step as usize) as usize;
         if at(&self.of_groups, group) >= window {
@@ -35,7 +35,7 @@ impl<'a> StepWindows<'a> {
         true
     }
 
-    // Puts each group in the window of its copy's round, from 1.
+    // Puts each group in the window of its copy's round. Rounds count from 1.
     fn begin(&mut self, rounds: &[u32], width: u32) {
         let plan = self.plan;
         for number in 0..plan.len() {
@@ -48,7 +48,7 @@ impl<'a> StepWindows<'a> {
         }
     }
 
-    // Moves groups to windows of the groups that they await, if later. Returns whether one moved.
+    // Moves each group to the latest window that it waits for. Returns whether one moved.
     fn pass(&mut self) -> bool {
         let plan = self.plan;
         let mut is_raised = false;
@@ -64,7 +64,7 @@ impl<'a> StepWindows<'a> {
         is_raised
     }
 
-    // After too many passes, makes one window.
+    // Repeats passes until no group moves. After `PASSES` passes, makes one window.
     fn settle(&mut self) {
         for _ in 0..PASSES {
             if !self.pass() {
@@ -140,8 +140,7 @@ fn pieces(alloc: Global, windows: &StepWindows) -> Result<Pieces, Refusal> {
 
 /// Cuts the plan into windows of `width` rounds.
 ///
-/// A move's steps stay together, with its drop. A step keeps only dependencies in its own window: earlier windows are
-/// done.
+/// A move's steps stay together, with its drop. A step keeps only dependencies in its window: earlier ones are done.
 pub fn cut(
     alloc: Global,
     ring: &Ring,

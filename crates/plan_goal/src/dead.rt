@@ -7,7 +7,7 @@ ghost use Rattle.plan_text.specs.Changes.{numbers};
 use crate::sparing::is_among;
 use ring_names::NodeId;
 
-// As many flags as a ring may have nodes. They need no memory.
+// The most nodes of a ring. The flags are inline.
 const FLAGS: usize = 1_024;
 
 /// Dead nodes, and a flag for each possible node.
@@ -19,7 +19,7 @@ pub struct Dead<'a> {
 }
 
 impl<'a> Dead<'a> {
-    /// Makes the flags. For each flag, looks at each dead node.
+    /// Makes the flags. For each flag, may look at each dead node.
     pub fn of(nodes: &'a [NodeId]) -> Dead<'a>
         ensures { result.nodes.now ≡ nodes.now }
     {

@@ -1,4 +1,4 @@
-//! Finds the plan, unproved.
+//! Finds the plan. Has no proofs.
 
 use crate::aim::{Aim, joins, retires};
 use find_rounds::{Handover, Turnover};

@@ -22,7 +22,7 @@ use ring_table::Ring;
 use std::alloc::Global;
 use texts::Labels;
 
-/// The named nodes. An undeclared name is `UnknownNode(0)`.
+/// Returns the named nodes. Fails with `UnknownNode(0)` for an undeclared name.
 pub fn nodes_of(alloc: Global, ring: &Ring, names: &[Vec<u8>]) -> Result<Vec<NodeId>, Refusal>
     ensures { IfOk result (λ v. AreNamed ring.now (map (λ name. name.items) names.now) v.items) }
 {
@@ -117,7 +117,7 @@ fn add_dead(ring: &Ring, dead: &[NodeId], leaves: &mut Vec<NodeId>) -> Result<()
     add_dead(ring, more, leaves)
 }
 
-/// Lets dead members leave too.
+/// Adds dead members to the change's leaves.
 pub fn with_dead(ring: &Ring, change: Change, dead: &[NodeId]) -> Result<Change, Refusal>
     ensures { IfOk result (λ v. v ≡ the_change_with_dead ring.now dead.now change) }
 {
@@ -195,7 +195,7 @@ fn wished_ring(
     ring.with(alloc, rows.as_slice(), members.as_slice())
 }
 
-// Fails with `NoPlan` if the sizes forbid an owner.
+// Fails with `NoPlan` if the sizes forbid an owner of the wanted ring.
 fn ask_sized(
     alloc: Global,
     ring: &Ring,
@@ -218,7 +218,7 @@ fn ask_sized(
     Err(Refusal::NoPlan)
 }
 
-/// Reads a ring and a change, and finds a plan around dead nodes. These leave.
+/// Reads a ring and a change, and finds a plan around dead nodes, which leave.
 ///
 /// Chooses owners by weight, with racks apart. With sizes, a slot moves only from a leaver or, if it has keys, to a
 /// joiner not above its share.
@@ -251,7 +251,7 @@ fn read_aim(alloc: Global, bytes: &[u8], options: &Options) -> Result<Goal, Refu
     Ok(Goal { ring, wanted })
 }
 
-/// The ring, the goal ring, and unread partitions, ascending.
+/// Returns the ring, the goal ring, and unread partitions, ascending.
 pub fn goal_of(
     alloc: Global,
     bytes: &[u8],
@@ -271,7 +271,7 @@ pub fn goal_of(
     Ok((Goal { ring, wanted }, unread))
 }
 
-/// Plans to the goal ring: by `goal_bundle` or, for a change, `wish_bundle`.
+/// Finds a plan by `wish_bundle` for a change, by `goal_bundle` for two rings.
 pub fn led_bundle(alloc: Global, bytes: &[u8], options: &Options) -> Result<Proposed, Refusal>
     ensures led { IfOk result (IsLed bytes.now options.now) }
 {

@@ -1,4 +1,4 @@
-//! Groups of steps: a slot's move with its drop.
+//! Groups steps: a group is a slot's move with its drop.
 
 use find_chains::Stays;
 use plan_text::{Plan, Step};
@@ -41,8 +41,7 @@ impl Groups {
     }
 }
 
-// An earlier step of the group. Copy and switch follow their mirror; a drop follows the switch away from the drop's
-// node.
+// Returns an earlier step of the group: the mirror of a copy or switch, or the switch away from a drop's node.
 fn leader(stays: &Stays, step: &Step) -> Option<u32> {
     match step {
         Step::Copy(slot, _) | Step::Switch(slot) => stays.stay(stays.mirror_at(*slot))?.begun,

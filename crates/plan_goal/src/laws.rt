@@ -10,7 +10,7 @@ ghost use Rattle.plan_check.specs.Safe.{Safe};
 ghost use Rattle.plan_goal.specs.Sequence.{GetsSeePuts, HasOwners, InTurn, IsDone, handed_on};
 ghost use Rattle.plan_moves.specs.Owners.{last_owners};
 
-/// A store that goes through sound plans one after another keeps one plan's promises.
+/// A store that runs sound plans in turn keeps the promises that one plan makes.
 ///
 /// Puts may have been acknowledged, and gets started, under an earlier plan.
 ///
@@ -20,7 +20,7 @@ pub fn plans_in_turn_keep_promises()
     ensures fresh { (ring : RingValue) (plan : List Planned) (start : World) → InTurn ring plan start → GetsSeePuts ring plan start }
     ensures acked { (ring : RingValue) (plan : List Planned) (w u : World) (run : List Entry) → Leads ring plan (handed_on w) run u
         → (v : ℕ) → is_acked w v ≡ true → is_acked u v ≡ true }
-    // A done plan's next ring has the owners of the moment.
+    // When a plan is done, the next ring has the store's owners.
     ensures ends { (ring : RingValue) (plan : List Planned) (w : World) (next : RingValue) → IsDone plan w → next.owners ≡ last_owners ring plan
         → HasOwners ring plan w next }
 {}

@@ -44,7 +44,7 @@ fn is_member_after(aim: &Aim, plan: &Plan, node: NodeId) -> bool
     (aim.ring.is_member(node) || plan.is_joined(node)) && !plan.is_retired(node)
 }
 
-// Whether the node should be a member: if it is wanted, or a dead member.
+// Whether the node should be a member after the plan. A dead member stays one.
 fn is_member_wanted(aim: &Aim, node: NodeId) -> bool
     ensures { result ≡ member_wanted aim.now.ring.now aim.now.wanted.now aim.now.dead.now node.0 }
 {
@@ -73,8 +73,9 @@ fn has_owners(aim: &Aim, plan: &Plan) -> Result<bool, Refusal>
     Ok(are_alike(found.as_slice(), aim.wanted.rows()))
 }
 
-/// Whether the plan leads to the second ring and spares dead nodes. The rings may differ only in owners and members,
-/// and plan and certificate must suit the first.
+/// Whether the plan leads to the wanted ring and spares dead nodes.
+///
+/// False if the rings differ in more than owners and members, or plan or certificate do not suit the ring.
 pub fn leads(aim: &Aim, plan: &Plan, cert: &Cert) -> Result<bool, Refusal>
     ensures ok { IfOk result (λ b. IsTrue b → Leads aim.now.ring.now aim.now.wanted.now aim.now.dead.now plan.now cert.now) }
     ensures memory { IfErr result (λ e. e ≡ OutOfMemory) }

@@ -1,6 +1,6 @@
 //! Plans that the checker accepts: for a change of members, or from a ring to any other, also around dead nodes. Finds
-//! certificates, cuts plans into windows, and returns the ring that a plan leaves. A law: plans one after the other
-//! keep what each of them promises.
+//! certificates, cuts plans into windows, and returns the ring after a plan. A law: plans that run in turn keep their
+//! promises.
 #![tactic(auto)]
 
 mod aim;

@@ -1,4 +1,4 @@
-//! Checks that plans are a plan's windows.
+//! Checks that windows have a plan's steps, each once.
 
 ghost use Rattle.std.specs.Prelude.{◌≡◌, ◌<◌, ℕ, nat_le, true, IsTrue, IfOk, Some, map, length};
 ghost use Rattle.std.specs.List.{list_all};
@@ -18,9 +18,9 @@ pub(crate) struct Place {
 #[derive(Drop)]
 pub(crate) struct Pieces {
     pub plans: Vec<Plan>,
-    /// By step of the whole plan, its place.
+    /// The place of each step of the whole plan.
     pub places: Vec<Place>,
-    /// By window, its steps in the whole plan.
+    /// Each window's steps, as the whole plan numbers them.
     pub steps: Vec<Vec<u32>>,
 }
 
@@ -47,7 +47,7 @@ fn place_of(places: &[Place], step: u32) -> Place
     }
 }
 
-/// The steps in the window, by their numbers there.
+/// Returns which steps the window has, by their numbers there.
 pub(crate) fn waits_in(
     alloc: Global,
     places: &[Place],

@@ -13,9 +13,9 @@ pub enum Known {
     Named,
     /// From nodes' names: what follows the last such byte.
     Behind(u8),
-    /// Unknown after a search.
+    /// Shown by neither layout nor names.
     Unknown,
-    /// Unknown by option.
+    /// Turned off by option.
     Off,
 }
 
@@ -70,7 +70,7 @@ impl Racking {
 const NONE_KNOWN: &[u8; 112] =
     b"ringplan: no racks are known. Name them in a layout (--layout), or give the byte before them (--racks-behind C)\n";
 
-// Bytes before racks in names.
+// Bytes that may precede a rack in a node's name.
 const SEPARATORS: [u8; 4] = [b'.', b'-', b':', b'_'];
 
 fn unknown() -> Racking {
@@ -130,7 +130,7 @@ fn has(entries: &[Entry], naming: Naming) -> bool {
     false
 }
 
-// By node, 1 plus the place of its fact, or 0. An undeclared name is `UnknownNode(0)`.
+// For each node, 1 plus the place of its fact, or 0. An undeclared name is `UnknownNode(0)`.
 fn places(
     alloc: Global,
     ring: &Ring,
@@ -239,7 +239,7 @@ fn are_spread(ring: &Ring, racks: &Labels, most: u32) -> bool {
     true
 }
 
-// At least 2 racks, at most half as many as members, and partitions spread over them.
+// Whether there are at least 2 racks, at most half as many as members, and partitions spread over them.
 fn is_likely(
     alloc: Global,
     ring: &Ring,
@@ -255,7 +255,7 @@ fn is_likely(
     Ok(are_spread(ring, racks, most))
 }
 
-// The racks in names, if exactly one separator shows likely racks.
+// Finds racks in names, if exactly one separator shows likely racks.
 fn shown(alloc: Global, ring: &Ring, members: &[bool]) -> Result<Racking, Refusal> {
     let mut found = unknown();
     for byte in SEPARATORS {
@@ -276,7 +276,7 @@ fn shown(alloc: Global, ring: &Ring, members: &[bool]) -> Result<Racking, Refusa
 
 /// Returns the racks by the options. `members` marks members and joiners.
 ///
-/// Fails with `UnknownNode(0)` for an undeclared name, or for a member without a rack if others have one.
+/// Fails with `UnknownNode(0)` for an undeclared name, or for a member without a rack if the options give racks.
 pub fn racks_of(
     alloc: Global,
     ring: &Ring,
@@ -308,7 +308,7 @@ pub fn racks_of(
     }
 }
 
-/// The first member without a rack, if the options give racks.
+/// Returns the first member without a rack, if the options give racks.
 pub fn unracked(
     alloc: Global,
     ring: &Ring,
@@ -352,7 +352,7 @@ fn node_of(fact: &Fact) -> Option<&[u8]> {
     }
 }
 
-/// The first fact about an unknown node or partition.
+/// Returns the first fact about an unknown node or partition.
 pub fn misfit<'a>(ring: &Ring, layout: &'a Layout) -> Option<&'a Entry> {
     for entry in layout.entries.as_slice() {
         let fits = match (&entry.fact, node_of(&entry.fact)) {
@@ -369,7 +369,7 @@ pub fn misfit<'a>(ring: &Ring, layout: &'a Layout) -> Option<&'a Entry> {
 
 /// Checks that the layout fits the ring.
 ///
-/// An unknown node is `UnknownNode(0)`. An unknown partition is `TooLarge` with the layout's line.
+/// Fails with `UnknownNode(0)` for an unknown node, with `TooLarge` and the layout's line for an unknown partition.
 pub fn ask_layout(ring: &Ring, layout: &Layout) -> Result<(), Refusal> {
     match misfit(ring, layout) {
         None => Ok(()),

@@ -69,11 +69,11 @@ fn checked(alloc: Global, ring: Ring, plan: Plan, cert: Cert) -> Result<Proposed
 
 /// Finds a plan from the ring to the wanted one, with a certificate that the checker accepts.
 ///
-/// Compares a partition's slots as a set, so that only slots move that must.
+/// Compares a partition's owners as a set, so that slots move only if they must.
 ///
 /// A dead node gives and takes nothing: its slots are read from R others, and it neither drops nor retires.
 ///
-/// Fails with `NoPlan` if no plan can lead there or none is found, then as the checker, or with `OutOfMemory`.
+/// Fails with `NoPlan` if no plan is possible or found, then as the checker, or with `OutOfMemory`.
 pub fn reach(alloc: Global, ring: Ring, wanted: &Ring, dead: &[NodeId]) -> Result<Proposed, Refusal>
     ensures ring { IfOk result (λ p. p.approved.ring ≡ ring) }
     ensures reached { IfOk result (λ p. IsReached ring wanted.now dead.now p.approved.plan p.cert) }

@@ -31,7 +31,7 @@ fn read_both(alloc: Global, lines: &mut Lines) -> Result<Goal, Refusal>
     Ok(Goal { ring, wanted })
 }
 
-/// Reads a bundle of just two rings. The first faulty line decides.
+/// Reads a bundle of just two rings, or returns the first faulty line's least fault.
 pub fn read_goal(alloc: Global, bytes: &[u8]) -> Result<Goal, Refusal>
     ensures read { Gives result (whole_text goal_at bytes.now) }
     ensures found { IfOk result (λ g. IsRing g.ring × IsRing g.wanted) }

@@ -1,8 +1,8 @@
 //! A lower bound on the bytes of windows, before they are made.
 //!
 //! Each window begins with a ring's text. The rings differ only in owners and members (`ring_after`), and an `in` is a
-//! byte shorter than an `out`. So a window has at least the first ring's bytes, less one for each node, with the
-//! shortest name for each owner.
+//! byte shorter than an `out`. So a window has at least the first ring's bytes with the shortest name for each owner,
+//! less a byte for each node.
 
 use ring_names::{NodeId, Refusal};
 use ring_table::{Node, Ring};
@@ -34,7 +34,7 @@ impl Room {
         self.left = self.left.saturating_sub(1);
     }
 
-    /// Fails with `TooLarge(0)` if all windows need too many bytes.
+    /// Fails with `TooLarge(0)` if all windows need more than `MAX_WINDOWS` bytes.
     pub fn ask(&self) -> Result<(), Refusal> {
         let left = self.left.saturating_mul(self.fewest);
         if self.made.saturating_add(left) > MAX_WINDOWS {

@@ -1,4 +1,4 @@
-//! A bundle's sections, by their `end` lines.
+//! Finds a bundle's sections by their `end` lines.
 
 ghost use Rattle.std.specs.Prelude.{◌≤◌, length};
 
@@ -28,7 +28,7 @@ fn is_end(text: &[u8], start: usize, end: usize) -> bool {
     start <= end && end <= text.len() && &text[start..end] == b"end\n".as_slice()
 }
 
-/// Counts the bytes of the first sections, or of all if fewer.
+/// Returns how many bytes the first `sections` sections have, or all if fewer.
 pub fn front(text: &[u8], sections: u32) -> usize
     ensures { result ≤ length text.now }
 {
@@ -51,7 +51,7 @@ fn begins(text: &[u8], word: &[u8]) -> bool {
     word.len() <= text.len() && &text[..word.len()] == word
 }
 
-/// What follows the ring, by first word and number of sections.
+/// Tells what follows the ring, by the next word and the sections' number.
 pub fn kind_of(text: &[u8]) -> Kind {
     if begins(&text[front(text, 1)..], b"change ") {
         return Kind::Change;

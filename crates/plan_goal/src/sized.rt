@@ -1,4 +1,4 @@
-//! Checks what a plan with partitions' sizes promises.
+//! Checks the promises of a change with partition sizes.
 
 ghost use Rattle.std.specs.Prelude.{◌≡◌, ◌*◌, ◌&&◌, nat_le, true, length, slice_index, replicate, IfOk, IfSome, OnOk, IsTrue};
 ghost use Rattle.plan_goal.specs.Sized.{IsSized, all_stored, all_weights, has_sizes, is_flagged, is_size, is_taker, loads_below, may_go, may_row, may_rows, row_at, sizes_by, sum_below, takes, weight_in, weights_by, with_row, with_size, with_slot, with_weight};
@@ -140,7 +140,7 @@ fn is_at_most(one: u64, by: u64, other: u64, times: u32) -> Option<bool>
     Some(first <= second)
 }
 
-// The joiners, stored sizes and weights, and their sums.
+// The joiners, each node's stored size and weight, and both sums.
 #[derive(Clone, Copy)]
 struct Shares<'a> {
     joins: &'a [NodeId],
@@ -282,7 +282,7 @@ pub fn are_kept(
     Ok(may_rows(leavers.as_slice(), takers.as_slice(), sizes, before, after))
 }
 
-// Fails with the fact's line for an unknown partition.
+// Fails with `TooLarge` and the fact's line for an unknown partition.
 fn put_size(all: &mut Vec<u64>, entry: &Entry) -> Result<(), Refusal>
     ensures { OnOk result (all.new.items ≡ with_size all.old.items entry.now.fact) }
 {
@@ -309,7 +309,7 @@ fn put_sizes(all: &mut Vec<u64>, entries: &[Entry]) -> Result<(), Refusal>
 
 /// Each partition's size: 1 unless the layout has one.
 ///
-/// An unknown partition is `TooLarge` with the layout's line.
+/// Fails with `TooLarge` and the layout's line for an unknown partition.
 pub fn sizes_of(alloc: Global, partitions: u32, layout: &Layout) -> Result<Vec<u64>, Refusal>
     ensures { IfOk result (λ all. all.items ≡ sizes_by (replicate partitions 1) layout.now.entries) }
 {

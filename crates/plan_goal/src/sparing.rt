@@ -23,7 +23,7 @@ fn is_number_of(nodes: &[NodeId], number: u32) -> bool
     nodes.iter().any(|x| number == x.0)
 }
 
-/// Whether the node is among these.
+/// Whether `nodes` has the node.
 pub fn is_among(nodes: &[NodeId], node: NodeId) -> bool
     ensures { result ≡ has node.0 (numbers nodes.now) }
 {
@@ -93,7 +93,7 @@ fn is_step_spared(dead: &Dead, ring: &Ring, present: &Present, step: &Step) -> b
     }
 }
 
-/// Whether no step needs these nodes: none joins or retires them, copies from them, gives them a slot, or drops their
+/// Whether no step needs dead nodes: none joins or retires them, copies from them, gives them a slot, or drops their
 /// data. Costs a pass over the plan.
 pub fn spares(alloc: Global, ring: &Ring, plan: &Plan, dead: &[NodeId]) -> Result<bool, Refusal>
     requires { Suits ring.now plan.now }

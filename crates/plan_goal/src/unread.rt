@@ -1,4 +1,4 @@
-//! Partitions that too few live owners can read.
+//! Partitions with too few live owners for a read.
 
 ghost use Rattle.std.specs.Prelude.{◌≡◌, IfOk, length};
 ghost use Rattle.plan_goal.specs.Rings.{flags};
@@ -92,9 +92,9 @@ fn without_unread(
     wanted.with(alloc, rows.as_slice(), members.as_slice())
 }
 
-/// Returns the wanted ring. If unread partitions are left, their slots stay, and owners stay members.
+/// Returns the wanted ring. With `Left`, unread partitions keep their slots, and their owners stay members.
 ///
-/// A partition is unread if a dead node should hand on a slot and fewer owners are alive than a read asks.
+/// A partition is unread if a dead node's slot should move and fewer than R owners live.
 pub fn wanted_by(
     alloc: Global,
     unreadable: Unreadable,

@@ -1,4 +1,4 @@
-//! Windows of a plan. Each is a bundle over the ring after the previous one.
+//! Windows of a plan. Each is a bundle whose ring is the previous window's final ring.
 
 ghost use Rattle.std.specs.Prelude.{◌≡◌, ℕ, List, [], ◌∷◌, ◌++◌, Option, IfOk, IsTrue};
 ghost use Rattle.ring_table.specs.Spelling.{ring_text};
@@ -56,7 +56,7 @@ pub fn is_same_ring(alloc: Global, one: &Ring, other: &Ring) -> Result<bool, Ref
 enum Asked {
     // All windows, in order.
     All(Vec<u8>),
-    // Before the wanted window, which so many windows precede.
+    // The number of windows left before the wanted one.
     After(u32),
     // The wanted window.
     Found(Vec<u8>),
@@ -110,7 +110,7 @@ struct Windows {
     next: Ring,
 }
 
-// Fails with `TooLarge(0)` once too many bytes are certain.
+// Fails with `TooLarge(0)` once `MAX_WINDOWS` is sure to be exceeded.
 fn all_windows(
     alloc: Global,
     first: Ring,
@@ -135,7 +135,7 @@ fn all_windows(
 
 /// Cuts an approved plan into windows of `width` rounds.
 ///
-/// Returns all windows, or one, counted from 1. A move's steps stay together.
+/// Returns all windows, or only window `only`, counted from 1. A move's steps stay together.
 ///
 /// Fails as the checker does for a window, or with `NoPlan` if there is no such window.
 ///

@@ -32,7 +32,7 @@ fn copies(step: &Step) -> u32
     }
 }
 
-/// Returns each step's round: the most copies on a path of dependencies that ends with it. Costs a look at each
+/// Returns each step's round: the most copies on a dependency path that ends with the step. Costs a look at each
 /// dependency.
 ///
 /// A round's copies may run side by side. Each waits for a copy of the round before.

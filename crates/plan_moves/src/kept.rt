@@ -5,7 +5,7 @@ use ring_names::{NodeId, Refusal, Slot};
 use std::alloc::Global;
 use std::collections::BTreeSet;
 
-// A stand-in, and a partition and index for which it keeps hints.
+// A stand-in, and a slot of its hints, as partition and index.
 type Hint = (u32, u32, u32);
 
 /// Stand-ins and the slots of their hints.
@@ -43,7 +43,7 @@ impl Kept {
         Ok(())
     }
 
-    // Removes the node's hints. A ring allows few losses.
+    // Removes the node's hints. Rebuilds the set: a ring allows few losses.
     fn lose(&mut self, alloc: Global, node: NodeId) -> Result<(), Refusal> {
         let mut left = BTreeSet::new(alloc);
         for hint in self.hints.iter() {
@@ -55,7 +55,7 @@ impl Kept {
         Ok(())
     }
 
-    /// Returns the sum of slots for which these nodes keep hints, and the nodes that keep some.
+    /// Returns the sum of these nodes' hinted slots, and the nodes that keep hints.
     pub fn of_nodes(&self, alloc: Global, nodes: &[u32]) -> Result<(u32, Vec<u32>), Refusal> {
         let mut count = 0u32;
         let mut keepers = Vec::new(alloc);

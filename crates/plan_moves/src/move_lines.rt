@@ -24,7 +24,7 @@ use ring_names::{NodeId, Refusal};
 use ring_table::Ring;
 use std::alloc::Global;
 
-// A move's number, the steps before it, and its own.
+// A move's number, the steps to be done before, and its own steps.
 #[derive(Clone, Copy)]
 struct Head<'a> {
     ring: &'a Ring,
@@ -33,7 +33,7 @@ struct Head<'a> {
     steps: &'a [u32],
 }
 
-// The object's members before the move's slot.
+// Writes the JSON members before the slot.
 fn write_front(line: &mut Writer, head: &Head, from: NodeId) -> Result<(), Refusal>
     ensures ok { OnOk result (GoesOn line.old line.new (begin_object ∷ key (codes "after")
         ∷ (json_tokens (outline (array (items_of (map number_data head.now.after.now))))
@@ -62,17 +62,16 @@ fn write_object(line: &mut Writer, head: &Head, movement: &Move) -> Result<(), R
     Ok(())
 }
 
-/// Writes the plan's moves as lines of JSON, in mirror order, for executors that do one after another.
+/// Writes the plan's moves as lines of JSON, in mirror order, for executors that do one move after another.
 ///
-/// Each line has the number, the slot, the owner until the switch, the mirror, the steps, and the steps to be done
-/// before.
+/// Each line has the move's number, slot, owner until the switch, mirror and steps, and the steps to be done before.
 ///
 /// A move's steps are the slot's steps from its mirror up to the next mirror. Once the steps before them are done, they
 /// can be done in a row.
 ///
 /// Joins, retirements and steps before a slot's first mirror are in no move.
 ///
-/// Costs a pass over the plan; and for each move a binary search in the slot's steps, looks at dependencies, and a
+/// Costs a pass over the plan. Each move costs a binary search in the slot's steps, a look at each dependency, and a
 /// sort.
 pub fn write_moves(alloc: Global, ring: &Ring, plan: &Plan) -> Result<Vec<u8>, Refusal>
     requires { Suits ring.now plan.now }

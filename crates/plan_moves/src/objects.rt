@@ -1,4 +1,4 @@
-//! The objects of steps. Members are sorted by name: `after` begins a line.
+//! Writes steps as JSON objects. Members are sorted by name, so `after` comes first.
 
 ghost use Rattle.std.specs.Prelude.{◌≡◌, ◌<◌, ◌++◌, ◌∷◌, [], true, map, codes, decimal, IfErr, OnOk};
 ghost use Rattle.json.specs.Token.{begin_object, key, number, string};
@@ -33,7 +33,7 @@ pub(crate) struct Head<'a> {
     pub after: &'a [u32],
 }
 
-// The members before a kind's own.
+// Writes the members before a kind's own.
 fn write_front(line: &mut Writer, head: &Head, kind: &str) -> Result<(), AllocError>
     ensures { OnOk result (GoesOn line.old line.new (begin_object ∷ key (codes "after")
         ∷ (json_tokens (outline (array (items_of (map number_data head.now.after.now))))
@@ -45,7 +45,7 @@ fn write_front(line: &mut Writer, head: &Head, kind: &str) -> Result<(), AllocEr
     line.string(kind)
 }
 
-// A step's slot and number, if it lists no slots.
+// Writes the slot and number of a step that lists no slots.
 fn write_place(line: &mut Writer, head: &Head, slot: Slot) -> Result<(), AllocError>
     ensures { OnOk result (GoesOn line.old line.new (key (codes "partition") ∷ number (decimal slot.partition)
         ∷ key (codes "slot") ∷ number (decimal slot.index) ∷ key (codes "step") ∷ number (decimal head.now.step) ∷ [])) }

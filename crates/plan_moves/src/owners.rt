@@ -12,7 +12,7 @@ use ring_names::{Listed, NodeId, Refusal, Slot};
 use ring_table::Ring;
 use std::alloc::Global;
 
-/// Returns each slot's servers after the last step. Costs a pass over the plan.
+/// Returns each slot's owner and mirror after the last step. Costs a pass over the plan.
 pub fn present_after(alloc: Global, ring: &Ring, plan: &Plan) -> Result<Present, Refusal>
     requires { Suits ring.now plan.now }
     ensures ok { IfOk result (IsPast ring.now plan.now) }

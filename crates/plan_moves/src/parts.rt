@@ -1,4 +1,4 @@
-//! A line's members, and its end.
+//! Writes a line's members and its end.
 
 ghost use Rattle.std.specs.Prelude.{◌≡◌, ◌++◌, ◌∷◌, [], map, codes, decimal, IfOk, IfErr, OnOk};
 ghost use Rattle.json.specs.Print.{print};

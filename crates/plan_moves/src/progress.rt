@@ -7,7 +7,7 @@ use ring_names::Refusal;
 use std::alloc::Global;
 use texts::{at, is_set, put, raise};
 
-/// An open copy, and its copied chunks, of 16.
+/// An open copy, and how many of 16 chunks are copied.
 #[derive(Clone, Copy, Debug)]
 pub struct OpenCopy {
     pub step: u32,

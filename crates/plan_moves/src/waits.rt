@@ -42,7 +42,7 @@ fn in_order(alloc: Global, numbers: &BTreeSet<u32>) -> Result<Vec<u32>, AllocErr
 
 /// Returns the direct dependencies of a move's steps on other steps, ascending.
 ///
-/// Costs a look at each dependency with a binary search in the own steps, and an insertion for each found.
+/// Costs a binary search in `own` for each dependency, and an insertion for each result.
 pub(crate) fn move_after(alloc: Global, plan: &Plan, own: &[u32]) -> Result<Vec<u32>, Refusal>
     requires ascending { ascending own.now ≡ true }
     requires within { All (λ s. s < length plan.now) own.now }
