@@ -27,7 +27,7 @@ pub struct AroundTask<'a> {
     pub alloc: Global,
     pub ring: &'a Ring,
     pub plan: &'a Plan,
-    /// A certificate whose chains show shared allowances.
+    /// The plan's certificate. Its chains share allowances.
     pub cert: &'a Cert,
     /// A run of the plan.
     pub history: &'a [Entry],
@@ -41,7 +41,7 @@ pub struct AroundTask<'a> {
     pub ahead: &'a [Slot],
     /// The nodes' racks, if known.
     pub racks: Option<&'a Labels>,
-    /// Whether mirrors may be undone. Staying slots' mirrors always are.
+    /// Whether mirrors may be undone. Staying slots' mirrors always may.
     pub back: Back,
     /// Reports each slot, or only sums by node.
     pub shape: Shape,
@@ -62,9 +62,9 @@ pub enum Reach {
 #[derive(Drop)]
 pub struct Around {
     pub plan: Plan,
-    /// By new step, its old number.
+    /// Each new step's old number.
     pub olds: Vec<u32>,
-    /// By old step, its new number. None if the step has not begun or its entries go.
+    /// Each old step's new number. None if the step has not begun or its entries are omitted.
     pub numbers: Vec<Option<u32>>,
     pub is_same: bool,
     /// What becomes of slots and nodes, one line each.

@@ -63,7 +63,7 @@ impl Search<'_> {
         self.make_way()
     }
 
-    // If all chunks are copied, finishes the move instead.
+    // Lets the slot stay. If all chunks are copied, finishes the move instead.
     fn leave_slot(&mut self, slot: Slot) -> Result<(), Refusal> {
         let place = first_open(&self.moves, &self.progress, slot);
         let Some(it) = self.moves.at(place) else {

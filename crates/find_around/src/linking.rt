@@ -42,7 +42,7 @@ pub(crate) fn link(search: &mut Search) -> Result<Needs, Refusal> {
 }
 
 impl Search<'_> {
-    // Keeps dependencies, through left-out steps.
+    // Keeps dependencies, also those through left-out steps.
     fn keep_needs(&self, needs: &mut Needs) -> Result<(), Refusal> {
         let count = self.task.plan.len();
         let mut seen = vec![in self.task.alloc; 0u32; count as usize]?;

@@ -9,7 +9,7 @@ pub(crate) struct Needs {
     count: usize,
 }
 
-// The most that a plan may have, and as many again that may go.
+// Twice a plan's most dependencies: as many again may be omitted.
 const MOST: usize = 1_048_576;
 
 impl Needs {

@@ -38,7 +38,7 @@ impl Search<'_> {
                 .any(|other| is_set(passed, *other))
     }
 
-    // Ascending.
+    // Returns the switches that the move's copy must now precede, ascending.
     fn switches_after(&self, it: &PlannedMove) -> Result<Vec<u32>, Refusal> {
         let mut switches = Vec::new(self.task.alloc);
         let Some(copy) = it.copy else {

@@ -9,7 +9,7 @@ use ringplan_request::Extent;
 use texts::{is_set, put, small};
 
 impl Search<'_> {
-    /// Leaves out moves in resting partitions that have not begun.
+    /// Leaves out moves that have not begun in resting partitions.
     pub(crate) fn rest(&mut self) -> Result<(), Refusal> {
         self.mark_resting();
         if self.task.extent == Extent::Begun {

@@ -91,7 +91,7 @@ impl Search<'_> {
         }
     }
 
-    // `owner` is the slot's owner before the move.
+    // Decides about the move. `owner` is the slot's owner before it.
     fn settle_move(&mut self, place: usize, it: PlannedMove, owner: u32) -> Result<Fate, Refusal> {
         self.moves.lead(place, owner, it.target);
         if owner != it.source && !self.has_done(it.drop) {
@@ -139,7 +139,7 @@ impl Search<'_> {
         Ok(Fate::Stays)
     }
 
-    // Whether the move is kept.
+    // Finds another target if needed. Returns whether the move is kept.
     fn retarget(&mut self, place: usize, it: &PlannedMove, owner: u32) -> Result<bool, Refusal> {
         if it.target == owner {
             self.leave_out(it);

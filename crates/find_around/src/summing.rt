@@ -18,7 +18,7 @@ struct Phrase {
     end: &'static [u8],
 }
 
-// How many slots have a fate, in all and by node.
+// How many slots have one outcome, in all and by node.
 #[derive(Drop)]
 struct Sum {
     count: u32,
@@ -26,7 +26,7 @@ struct Sum {
     others: Vec<u32>,
 }
 
-// A slot's kind, its node, and another concerned node.
+// A slot's kind of outcome, its node, and another concerned node.
 #[derive(Clone, Copy)]
 struct Part {
     kind: u32,

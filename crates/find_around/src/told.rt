@@ -60,7 +60,7 @@ impl Search<'_> {
         Ok(())
     }
 
-    /// Notes a move as planned, maybe after another outcome.
+    /// Notes that the slot moves as planned, maybe after another outcome.
     pub(crate) fn note_planned(&mut self, slot: Slot) -> Result<(), Refusal> {
         let Saying { taken, outcome } = self.saying_of(slot);
         if let Some(SlotOutcome::Filled(_) | SlotOutcome::Untaken(_)) = outcome {

@@ -11,9 +11,9 @@ use std::alloc::Global;
 #[derive(Clone, Copy, Debug)]
 pub struct Excess {
     pub side: Side,
-    /// How many of its copies some order opens at once.
+    /// How many of the side's copies some order opens at once.
     pub fewest: u32,
-    /// The most that may be open.
+    /// The side's limit of open transfers.
     pub most: u32,
 }
 

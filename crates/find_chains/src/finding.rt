@@ -25,7 +25,7 @@ pub struct FoundCert {
 }
 
 impl FoundCert {
-    /// Returns what to refuse if the checker refuses the certificate.
+    /// Returns the refusal to report if the checker refuses the certificate.
     ///
     /// `TooManyChains` names only a node known to need too many. If the search was given up and no such node is known,
     /// it becomes `NoPlan`.
@@ -42,8 +42,8 @@ impl FoundCert {
 
 /// Finds a certificate for the checker to judge: needed paths, and chains of each node's copies.
 ///
-/// Chains are a first fit along direct dependencies. If too many, they are runs of a slot's steps. At last they are the
-/// fewest, within 100,000,000 looks for all nodes.
+/// Chains are a first fit along direct dependencies. If these are too many, runs of a slot's steps are tried, then the
+/// fewest chains, within 100,000,000 looks for all nodes.
 ///
 /// Paths are shortest. A path over 1,024 steps, or not found in 100,000,000 looks, is left out. A certificate too large
 /// for its text is left empty.

@@ -17,7 +17,7 @@ pub(crate) struct EarlierCopies<'a> {
 #[derive(Drop)]
 pub(crate) struct Matching {
     pub(crate) links: Links,
-    // of a search: copies seen, by copy 1 plus the asking copy, and copies to ask
+    // of a search: copies seen, 1 plus each copy's asker, and copies to ask
     seen: Vec<u64>,
     asked_by: Vec<u32>,
     queue: Vec<u32>,

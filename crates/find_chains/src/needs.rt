@@ -69,7 +69,7 @@ impl<'a> ClauseNeeds<'a> {
         paths.need(last.saturating_sub(1), number)
     }
 
-    // A mirror follows its node's join, and switches of the partition's other slots away from it.
+    // A mirror follows its node's join, and switches of the partition's other slots away from the node.
     fn mirror(
         &self,
         paths: &mut Paths,

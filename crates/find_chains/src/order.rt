@@ -1,4 +1,4 @@
-//! The fewest chains.
+//! Finds the fewest chains.
 
 use crate::links::Links;
 use crate::looks::Looks;
@@ -17,7 +17,7 @@ const MOST_WORDS: usize = 25_000_000;
 pub struct Order<'a> {
     plan: &'a Plan,
     looks: Looks,
-    // by step, a word's copies that come before it or are it
+    // by step, which copies of a word come before the step or are it
     masks: Vec<u64>,
     // by 64 steps, those with dependencies still to follow
     marks: Vec<u64>,
@@ -47,7 +47,7 @@ impl<'a> Order<'a> {
         })
     }
 
-    /// The fewest chains of ascending copies. None if looks do not suffice.
+    /// Counts the fewest chains of ascending copies. None if looks do not suffice.
     ///
     /// Equals the most transfers that any order of the plan opens at once (Dilworth 1950).
     pub fn fewest(&mut self, alloc: Global, copies: &[u32]) -> Result<Option<u32>, Refusal> {

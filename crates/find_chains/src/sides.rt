@@ -104,7 +104,7 @@ impl Sides {
     }
 }
 
-/// The node's sides, each with its most open transfers.
+/// The node's sides, each with its limit of open transfers.
 pub fn sides_of(ring: &Ring, number: usize) -> [Option<(NodeSide, u32)>; 2] {
     let node = NodeId(small(number));
     match ring.nodes().get(number) {

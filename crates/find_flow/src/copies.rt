@@ -8,7 +8,7 @@ use texts::{at, lower, raise};
 /// Counts copies from each node and to it. A joint allowance counts both in the first number.
 #[derive(Drop)]
 pub struct Copies {
-    // by count, the allowance; 0 if unused
+    // each count's allowance; 0 if unused
     most: Vec<u32>,
     counts: Vec<u32>,
 }

@@ -1,4 +1,4 @@
-//! Levels of joining members: one slot more needs no further move (0), one further move (1), or is impossible (2).
+//! Levels of joining members: one more slot adds no move (0), adds one move (1), or is impossible (2).
 
 use crate::meeting::SearchAim;
 use crate::members::Role;

@@ -2,7 +2,7 @@
 //!
 //! A search goes backwards, from a member that needs a slot to members that could hand one over. A hand-over adds no
 //! move if both nodes would own a slot of the partition by a move, or both owned one before. A path stays within one
-//! level. An unmoved slot is on level 1, another on its owner's level.
+//! level. An unmoved slot is on level 1, a moved one on its owner's level.
 
 use crate::members::Role;
 use crate::seats::Seats;
@@ -22,7 +22,7 @@ pub enum SearchAim {
     Balance,
 }
 
-/// Who receives a slot, and its partition.
+/// Who receives a slot, and the slot's partition.
 #[derive(Clone, Copy)]
 pub struct Link {
     pub to: u32,
@@ -39,7 +39,7 @@ pub struct Meeting {
     pub found: Option<u32>,
     /// All members met, in order.
     pub met: Vec<u32>,
-    // by member met, its slot's receiver and partition
+    // by member met, who receives its slot, and the slot's partition
     to: Vec<u32>,
     partitions: Vec<u32>,
     levels: Vec<u32>,
@@ -64,7 +64,7 @@ impl Meeting {
         }
     }
 
-    /// Sets all joining nodes' level, and 0 for others. Freezes no node.
+    /// Sets the level of joining nodes, and 0 for others. Unfreezes all nodes.
     pub fn set_levels(&mut self, alloc: Global, seats: &Seats, level: u32) -> Result<(), Refusal> {
         let count = seats.members.count() as usize;
         self.levels = vec![in alloc; 0u32; count]?;
@@ -158,7 +158,7 @@ impl Meeting {
             && seats.give_price(node) > seats.take_price(self.first)
     }
 
-    /// Meets a member, if new, that could hand over a slot.
+    /// Meets the member, unless it was met or is frozen.
     pub fn meet(&mut self, seats: &Seats, node: u32, link: Link) -> Result<(), Refusal> {
         let place = node as usize;
         let is_known = node == self.first || at(&self.to, place) != NONE;
@@ -193,7 +193,7 @@ impl Meeting {
         Ok(())
     }
 
-    /// Who receives the node's slot, and its partition.
+    /// Who receives the node's slot, and the slot's partition.
     pub fn link(&self, node: u32) -> Link {
         Link {
             to: at(&self.to, node as usize),

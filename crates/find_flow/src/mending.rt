@@ -11,7 +11,7 @@ use ring_names::Refusal;
 use std::alloc::Global;
 use texts::{set_word, word};
 
-// Gives the node missing slots while paths lead there.
+// Gives the node its missing slots while paths to it exist.
 fn raise(
     alloc: Global,
     seats: &mut Seats,

@@ -13,7 +13,7 @@ pub struct Offers {
     level: u32,
     // whether the lists are current
     is_known: bool,
-    // slots, but not frozen owners'
+    // the slots, except those of frozen owners
     places: Vec<u32>,
     // these slots by rack; a rack's group ends before its used slots
     by_rack: Grouped,
@@ -24,7 +24,7 @@ pub struct Offers {
     done: Vec<u32>,
     // racks whose slots or partitions were searched
     touched: Vec<u32>,
-    // racks with an unused partition that has room for them, but the asking node has or had a slot there
+    // racks and unused partitions with room for them, in which the asking node has or had a slot
     late: Vec<(u32, u32)>,
 }
 
@@ -102,7 +102,7 @@ impl Offers {
         Ok(())
     }
 
-    /// Makes the lists, if old.
+    /// Makes the lists, unless they are current.
     pub fn open(
         &mut self,
         alloc: Global,

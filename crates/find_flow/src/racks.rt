@@ -13,13 +13,13 @@ pub struct Racks {
     of: Vec<u32>,
     /// The nodes, rack by rack.
     pub order: Vec<u32>,
-    // by node, its place there
+    // by node, its place in `order`
     turns: Vec<u32>,
     // each rack's first place, then the last rack's end
     firsts: Vec<u32>,
     // by rack, its final members
     counts: Vec<u32>,
-    /// The racks with final members. If the level is not 0, a partition has at least as many slots.
+    /// The racks with final members: at most a partition's slots, unless the level is 0.
     pub with_members: Vec<u32>,
     /// A partition's fewest slots in a rack with enough members.
     pub level: u32,

@@ -23,7 +23,7 @@ impl PathSearch {
         }
     }
 
-    /// Makes the three levels.
+    /// Adds three levels.
     pub fn fill(&mut self, alloc: Global) -> Result<(), Refusal> {
         for level in 0..3 {
             self.offers.push(Offers::new(alloc, level))?;
@@ -57,7 +57,7 @@ impl PathSearch {
         Ok(())
     }
 
-    // Meets members that could move their slot instead, so that the node keeps one that it gave.
+    // Meets owners that could give their slot of a partition, in which the node gave its own, instead.
     fn meet_back(&mut self, seats: &Seats, node: u32) -> Result<(), Refusal> {
         if seats.members.role(node) != Role::Stays {
             return Ok(());

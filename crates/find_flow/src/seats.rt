@@ -311,13 +311,13 @@ impl<'a> Seats<'a> {
         at(&self.load, node as usize)
     }
 
-    /// The balance's cost of one more slot, in parts of 2^32. Two are equal only if the exact quotients are.
+    /// What one more slot costs the balance, in units of 2^-32. Two costs are equal only if the exact quotients are.
     pub fn take_price(&self, node: u32) -> u64 {
         let twice = u64::from(self.load(node)).saturating_mul(2);
         price(twice.saturating_add(1), self.members.weight(node))
     }
 
-    /// The balance's gain from one slot fewer.
+    /// What one slot fewer gains the balance.
     pub fn give_price(&self, node: u32) -> u64 {
         let twice = u64::from(self.load(node)).saturating_mul(2);
         price(twice.saturating_sub(1), self.members.weight(node))

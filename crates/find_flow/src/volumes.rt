@@ -18,7 +18,7 @@ pub struct NodeVolumes {
     are_asked: bool,
     // by partition, in units of a power of two
     sizes: Vec<u32>,
-    // the most that rounding adds to one slot of every partition together
+    // the most that rounding adds to the sum of all partitions' sizes
     slack: u64,
     // by node, in parts
     loads: Vec<u64>,
@@ -89,7 +89,7 @@ impl<'a> Level<'a> {
         sum
     }
 
-    // Finds the least level at which so much is stored.
+    // Finds the least level at which `wanted` is stored.
     fn rise(&mut self, loads: &[u64], wanted: u64) {
         let mut step = 1u64 << 56;
         for _ in 0..57 {

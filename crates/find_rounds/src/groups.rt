@@ -8,7 +8,7 @@ use texts::{at, set};
 /// Two groups for each node: copies from it, and copies to it. A joint allowance has all copies in the first group.
 #[derive(Drop)]
 pub struct Groups {
-    // each group's most open transfers; 0 if unused or barred
+    // each group's limit of open transfers; 0 if unused or barred
     most: Vec<u32>,
     barred: u32,
 }
@@ -51,7 +51,7 @@ impl Groups {
         self.most.len()
     }
 
-    /// The group's most open transfers; 0 if unused.
+    /// The group's limit of open transfers; 0 if unused or barred.
     pub fn most(&self, group: usize) -> u32 {
         at(&self.most, group)
     }

@@ -96,7 +96,7 @@ impl<'a> Handover<'a> {
         Ok(out)
     }
 
-    /// Plans these owners, with a certificate. Owners are compared as sets, so no slot moves needlessly.
+    /// Finds a plan to these owners, and a certificate. Owners are compared as sets, so no slot moves needlessly.
     ///
     /// Fails with `OutOfMemory`, or with `NoPlan` if a dead node's slot moves and fewer than R others can be read.
     pub fn plan(&self) -> Result<(Plan, Cert), Refusal> {

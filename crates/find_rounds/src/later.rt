@@ -1,4 +1,4 @@
-//! Rounds in turn: a copy takes the first round in which all its groups are free, and none before their last rounds.
+//! Rounds in turn: a copy takes the first round in which all its groups are free, from their last rounds on.
 
 use crate::groups::Groups;
 use ring_names::Refusal;

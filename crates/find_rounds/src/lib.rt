@@ -1,5 +1,5 @@
-//! Puts moves into rounds, and makes their plan and certificate. As many copies run at once as allowances permit, each
-//! after the one whose place it takes. Nothing is proved: the checker judges the results.
+//! Puts moves into rounds, and makes their plan and certificate. As many copies run at once as allowances permit. Each
+//! copy follows the copy whose place it takes. Nothing is proved: the checker judges the results.
 #![tactic(auto)]
 
 mod both_texts;

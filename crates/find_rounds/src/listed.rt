@@ -10,12 +10,12 @@ use crate::task::Task;
 use ring_names::{Refusal, Rows};
 use texts::{at, lower, parts, raise, small};
 
-// The slots that each copy lists, by index. No slots mean the owner.
+// The slots that each copy lists, by index. Without slots, it reads the owner.
 #[derive(Drop)]
 struct Listing {
     // by move, ascending
     slots: Rows,
-    // the current move's
+    // the current move's slots
     row: Vec<u32>,
     // each group's copies
     counts: Vec<u32>,
@@ -32,7 +32,7 @@ fn most(groups: &Groups, group: usize, rounds: u32) -> u32 {
 }
 
 impl Listing {
-    // What the slot's owner can still give in these rounds, in 64ths.
+    // What the slot's owner can still give in these rounds, in 64ths of its allowance.
     fn left(&self, task: &Task, place: usize, rounds: u32) -> Option<u32> {
         let (layout, groups) = (task.layout, task.groups);
         let group = groups.giver(layout.owner(place));
@@ -72,7 +72,7 @@ impl Listing {
         }
     }
 
-    // Lists R slots for a copy whose owner is overloaded, or no slot if there are fewer.
+    // Lists R slots for a copy whose owner is overloaded, or none if fewer can be listed.
     fn list(&mut self, task: &Task, step: &SlotMove, rounds: u32) -> Result<(), Refusal> {
         self.row.clear();
         let giver = task.groups.giver(step.from);
@@ -91,7 +91,7 @@ impl Listing {
         self.slots.push(&self.row)
     }
 
-    // Returns whether the rounds suffice.
+    // Lists slots for all copies. Returns whether the rounds suffice.
     fn list_all(&mut self, task: &Task, rounds: u32) -> Result<bool, Refusal> {
         let groups = task.groups;
         self.counts = counts(task.alloc, groups, task.moves)?;
@@ -165,7 +165,7 @@ fn try_rounds(task: &Task, owner: OwnerKind, rounds: u32) -> Result<Option<Rows>
     Ok(if is_enough { Some(listing.slots) } else { None })
 }
 
-// Finds slots for the fewest rounds, up to `most`. Halves a range of 32 bits.
+// Finds slots for the fewest rounds, at most `most`, by binary search.
 fn search(task: &Task, owner: OwnerKind, most: u32) -> Result<Option<Rows>, Refusal> {
     let (mut low, mut high) = (1u32, most);
     let mut found = None;
@@ -208,7 +208,7 @@ pub fn is_worth(rounds: u32, from_owners: u32) -> bool {
     rounds.saturating_mul(2) <= from_owners && rounds.saturating_add(4) <= from_owners
 }
 
-/// Returns each copy's listed slots for the fewest rounds. No slots mean the owner.
+/// Returns each copy's listed slots for the fewest rounds. A copy without slots reads the owner.
 pub fn sources(task: &Task) -> Result<Option<Rows>, Refusal> {
     let groups = task.groups;
     let from_owners = fewest(groups, &counts(task.alloc, groups, task.moves)?);

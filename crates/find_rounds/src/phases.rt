@@ -19,7 +19,7 @@ fn by_place(task: &Task) -> Result<Vec<u32>, Refusal> {
     Ok(numbers)
 }
 
-/// By copy, the moves of its listed slots, whose copies come later.
+/// Returns each copy's followers: the moves of the slots that it lists.
 pub fn followers(task: &Task, listed: &Rows) -> Result<Rows, Refusal> {
     let (layout, numbers) = (task.layout, by_place(task)?);
     let mut behind = Rows::new(task.alloc);
@@ -67,7 +67,7 @@ struct Phases {
 }
 
 impl Phases {
-    // By urgency, or in turn if that takes too long.
+    // Gives copies rounds: by urgency, or in turn if that takes too long.
     fn add(&mut self, task: &Task, parties: &Rows, numbers: &[u32]) -> Result<(), Refusal> {
         let alloc = task.alloc;
         let mut rows = Rows::new(alloc);

@@ -12,7 +12,7 @@ use ring_names::{Refusal, Rows};
 use std::alloc::Global;
 use texts::{raise, row, small};
 
-/// Counts the copies from owners, by group.
+/// Counts each group's copies, if all read owners.
 pub fn counts(alloc: Global, groups: &Groups, moves: &[SlotMove]) -> Result<Vec<u32>, Refusal> {
     let mut counts = vec![in alloc; 0u32; groups.len()]?;
     for step in moves {
@@ -26,12 +26,12 @@ pub fn counts(alloc: Global, groups: &Groups, moves: &[SlotMove]) -> Result<Vec<
 #[derive(Drop)]
 pub struct Schedule {
     pub parties: Rows,
-    /// By copy, its listed slots, ascending. No slots mean the owner.
+    /// By copy, its listed slots, ascending. A copy without slots reads the owner.
     pub listed: Rows,
     rounds: Vec<u32>,
 }
 
-// The groups that a copy reads, and its receiver.
+// The groups of the owners that a copy reads, and of its target.
 fn parties(task: &Task, step: &SlotMove, listed: &[u32]) -> Result<Vec<u32>, Refusal> {
     let (layout, groups) = (task.layout, task.groups);
     let mut parties = Vec::new(task.alloc);

@@ -1,7 +1,7 @@
 //! Rounds by urgency: groups with most copies left come first. Copies can have any number of parties.
 //!
-//! A copy waits in its neediest group's queue. Groups are served by need, until their allowance is used or some copies
-//! in turn found another group full. So a round looks at few copies in vain.
+//! A copy waits in its neediest group's queue. Groups are served by need, until their allowance is used or several
+//! copies in a row find another group full. So a round looks at few copies in vain.
 //!
 //! Copies that others follow are queued first, and followers once these have rounds.
 
@@ -71,7 +71,7 @@ impl<'a> Waiting<'a> {
         Ok(())
     }
 
-    // In 64ths.
+    // The rounds that the group still needs, in 64ths.
     fn needs(&self, group: usize) -> u32 {
         let left = at(&self.left, group).saturating_mul(64);
         match left.checked_div(self.groups.most(group)) {
@@ -199,7 +199,7 @@ impl<'a> Waiting<'a> {
         self.end()
     }
 
-    // The number of rounds. None if it takes too long.
+    // Returns the number of rounds, or None beyond `LOOKS`.
     fn all(&mut self, alloc: Global) -> Result<Option<u32>, Refusal> {
         self.begin(alloc)?;
         for round in 0..small(self.rounds.len()) {
@@ -246,7 +246,7 @@ fn all_wait<'a>(
     }
 }
 
-/// Rounds for copies with these groups and followers. None if it takes too long.
+/// Returns rounds for copies with these groups and followers, or None beyond `LOOKS`.
 pub fn by_urgency<'a>(
     alloc: Global,
     groups: &'a Groups,

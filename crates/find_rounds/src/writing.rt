@@ -155,7 +155,7 @@ impl<'a> Writer<'a> {
         self.cert.chains.push(self.task.groups.side(group), &chain)
     }
 
-    // Adds as many chains for each group as its allowance, so that copies of uneven length wait little.
+    // Adds as many chains for each group as its allowance permits, so that copies of uneven length wait little.
     fn add_chains(&mut self) -> Result<(), Refusal> {
         for group in 0..small(self.task.groups.len()) {
             let most = self.task.groups.most(group as usize) as usize;
