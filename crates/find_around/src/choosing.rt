@@ -12,9 +12,9 @@ use texts::{at, is_set, set};
 /// The numbers of steps in both plans.
 #[derive(Drop)]
 pub struct Kept {
-    /// Each chosen step's number in the task's plan.
+    /// Each chosen step's old number.
     pub olds: Vec<u32>,
-    /// Each task's step's number in the chosen plan. None if the step has not begun or its entries are omitted.
+    /// Each old step's number in the chosen plan. None if the step has not begun or its entries are omitted.
     pub numbers: Vec<Option<u32>>,
 }
 

@@ -1,4 +1,4 @@
-//! Leaves out moves to nodes that keep another slot of the partition.
+//! Moves to nodes that keep another slot of the partition.
 
 use crate::around::{AroundTask, Search};
 use crate::moving::{Moves, PlannedMove};

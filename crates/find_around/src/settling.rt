@@ -139,7 +139,7 @@ impl Search<'_> {
         Ok(Fate::Stays)
     }
 
-    // Finds another target if needed. Returns whether the move is kept.
+    // Retargets the move if needed. Returns whether it is kept.
     fn retarget(&mut self, place: usize, it: &PlannedMove, owner: u32) -> Result<bool, Refusal> {
         if it.target == owner {
             self.leave_out(it);

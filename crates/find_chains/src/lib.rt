@@ -1,5 +1,5 @@
-//! Makes certificates: the fewest chains that a plan's order allows, and the needed paths. The checker judges them.
-//! `Stays` lists each slot's nodes.
+//! Makes certificates: chains within allowances, if a plan's order permits, and the needed paths. The checker judges
+//! them. `Stays` lists each slot's nodes.
 #![tactic(auto)]
 
 mod excess;

@@ -57,7 +57,7 @@ impl PathSearch {
         Ok(())
     }
 
-    // Meets owners that could give their slot of a partition, in which the node gave its own, instead.
+    // Meets owners that could give their slots instead of those that the node gave.
     fn meet_back(&mut self, seats: &Seats, node: u32) -> Result<(), Refusal> {
         if seats.members.role(node) != Role::Stays {
             return Ok(());

@@ -14,7 +14,7 @@ pub struct Cost {
     joiners: i64,
     // moving slots after a partition's first
     moves: i64,
-    // for each two nodes, the square of the number of partitions that they share
+    // squares of how many partitions each two nodes share
     shares: i64,
 }
 

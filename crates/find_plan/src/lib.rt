@@ -1,6 +1,6 @@
-//! The planner: owners for a change by weight, with racks apart, and the plan with its certificate. It moves as few
-//! slots as racks and change need, balances them, and runs as many transfers at once as allowances permit. Nothing is
-//! proved: the checker judges the results.
+//! Chooses owners for a change by weight, with racks apart, and finds a plan with certificate. Moves as few slots as
+//! racks and change need, balances them, and runs as many transfers at once as allowances permit. Nothing is proved:
+//! the checker judges the results.
 #![tactic(auto)]
 
 mod candidates;

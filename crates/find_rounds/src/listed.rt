@@ -10,7 +10,7 @@ use crate::task::Task;
 use ring_names::{Refusal, Rows};
 use texts::{at, lower, parts, raise, small};
 
-// The slots that each copy lists, by index. Without slots, it reads the owner.
+// The slots that each copy lists, by index.
 #[derive(Drop)]
 struct Listing {
     // by move, ascending

@@ -31,7 +31,7 @@ pub struct Schedule {
     rounds: Vec<u32>,
 }
 
-// The groups of the owners that a copy reads, and of its target.
+// The groups of a copy's sources and target.
 fn parties(task: &Task, step: &SlotMove, listed: &[u32]) -> Result<Vec<u32>, Refusal> {
     let (layout, groups) = (task.layout, task.groups);
     let mut parties = Vec::new(task.alloc);

@@ -10,7 +10,7 @@ use ring_core::World;
 use ring_names::{Refusal, Slot};
 use std::alloc::Global;
 
-// Returns the slot, if the step is an unfinished copy from listed slots.
+// None unless the step is an unfinished copy from listed slots.
 fn listing_slot(plan: &Plan, progress: &Progress, step: u32) -> Option<Slot> {
     if step >= plan.len() || progress.is_done(step) {
         return None;

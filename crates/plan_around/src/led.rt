@@ -1,4 +1,4 @@
-//! A store with its history.
+//! Stores with histories.
 
 ghost use Rattle.std.specs.Prelude.{IfOk, OnOk};
 ghost use Rattle.plan_around.specs.Led.{GoesFarther, IsLed};

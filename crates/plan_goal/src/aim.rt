@@ -55,7 +55,7 @@ fn other_node(ring: &Ring, wanted: &Ring) -> Option<u32> {
     None
 }
 
-// Returns the partition's owners now and in the goal ring.
+// A partition's owners now and in the goal ring.
 fn rows<'a>(aim: &Aim<'a>, partition: usize) -> (&'a [NodeId], &'a [NodeId]) {
     let ours = match aim.ring.rows().get(partition) {
         Some(row) => row.as_slice(),

@@ -1,4 +1,4 @@
-//! Checks that two rings differ only in owners and members.
+//! Compares two rings.
 
 ghost use Rattle.std.specs.Prelude.{◌≡◌, IsTrue, map};
 ghost use Rattle.plan_goal.specs.Reached.{IsLike, declared};

@@ -47,7 +47,7 @@ fn read_front(alloc: Global, bytes: &[u8]) -> Result<Front, Refusal>
     read_both(alloc, &mut lines)
 }
 
-// Finds a certificate. Does not ask the checker.
+// Finds a certificate, without asking the checker.
 fn found(alloc: Global, ring: &Ring, plan: &Plan) -> Result<Candidate, Refusal>
     requires { PlanSuits ring.now plan.now }
     ensures { IfOk result (λ f. f.text.items ≡ front_text ring.now plan.now f.found.cert) }
@@ -71,7 +71,7 @@ fn certified(alloc: Global, front: Front) -> Result<Vec<u8>, Refusal>
 
 /// Returns a bundle's ring and plan with a new certificate.
 ///
-/// The certificate has the fewest chains that the plan's order allows.
+/// Chains are within allowances if the plan's order permits.
 ///
 /// Fails with the first faulty line's least fault, then as the checker does. Fails with `NoPlan` if a node has too many
 /// chains because the search was given up.

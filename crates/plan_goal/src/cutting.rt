@@ -64,7 +64,7 @@ impl<'a> StepWindows<'a> {
         is_raised
     }
 
-    // Repeats passes until no group moves. After `PASSES` passes, makes one window.
+    // After `PASSES` passes, makes one window.
     fn settle(&mut self) {
         for _ in 0..PASSES {
             if !self.pass() {

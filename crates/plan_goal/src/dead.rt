@@ -1,4 +1,4 @@
-//! Dead nodes, with flags for fast look-ups.
+//! Fast look-ups of dead nodes.
 
 ghost use Rattle.std.specs.Prelude.{◌≡◌, ◌<◌, ℕ, Some, slice_get};
 ghost use Rattle.ring_names.specs.Lists.{has};

@@ -70,7 +70,7 @@ pub fn dead_by(alloc: Global, options: &Options) -> Result<Vec<Vec<u8>>, Refusal
 
 /// Reads two rings, and finds a plan from the first to the second, around dead nodes.
 ///
-/// Fails with the rings' first fault, then as `nodes_of`, then as `reach`.
+/// Fails as `read_goal`, then as `nodes_of`, then as `reach`.
 pub fn goal_bundle(
     alloc: Global,
     bytes: &[u8],
@@ -195,7 +195,7 @@ fn wished_ring(
     ring.with(alloc, rows.as_slice(), members.as_slice())
 }
 
-// Fails with `NoPlan` if the sizes forbid an owner of the wanted ring.
+// Fails with `NoPlan` if the sizes forbid the wanted ring.
 fn ask_sized(
     alloc: Global,
     ring: &Ring,
@@ -223,8 +223,8 @@ fn ask_sized(
 /// Chooses owners by weight, with racks apart. With sizes, a slot moves only from a leaver or, if it has keys, to a
 /// joiner not above its share.
 ///
-/// Fails with the texts' first fault, or as `ask_layout`, `nodes_of`, `racks_of` and `reach`; with `NoPlan` if too few
-/// members remain.
+/// Fails with the first faulty line's least fault, or as `ask_layout`, `nodes_of`, `racks_of` and `reach`. Fails with
+/// `NoPlan` if too few members remain.
 pub fn wish_bundle(alloc: Global, bytes: &[u8], options: &Options) -> Result<Proposed, Refusal>
     ensures reached { IfOk result (IsWishReached bytes.now options.now) }
 {

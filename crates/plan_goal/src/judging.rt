@@ -29,10 +29,10 @@ fn makes(ring: &Ring, change: &Change, plan: &Plan, cert: &Cert) -> bool
         && plan.fulfils(change.joins.as_slice(), change.leaves.as_slice())
 }
 
-/// Proposes the plan if it makes the change and the checker accepts it. Otherwise returns the ring and a refusal.
+/// Proposes the plan, or returns the ring with a refusal.
 ///
-/// The refusal is `NoPlan` if plan or certificate do not suit the ring, or the plan does not make the change; otherwise
-/// the checker's.
+/// The refusal is `NoPlan` if plan or certificate do not suit the ring, or the plan does not make the change. Otherwise
+/// it is the checker's.
 pub fn judge(
     alloc: Global,
     ring: Ring,

@@ -308,7 +308,7 @@ pub fn racks_of(
     }
 }
 
-/// Returns the first member without a rack, if the options give racks.
+/// The first member without a rack, if the options give racks.
 pub fn unracked(
     alloc: Global,
     ring: &Ring,
@@ -352,7 +352,7 @@ fn node_of(fact: &Fact) -> Option<&[u8]> {
     }
 }
 
-/// Returns the first fact about an unknown node or partition.
+/// The first fact about an unknown node or partition.
 pub fn misfit<'a>(ring: &Ring, layout: &'a Layout) -> Option<&'a Entry> {
     for entry in layout.entries.as_slice() {
         let fits = match (&entry.fact, node_of(&entry.fact)) {

@@ -28,7 +28,7 @@ fn members_left(alloc: Global, ring: &Ring, plan: &Plan) -> Result<Vec<bool>, Re
     Ok(members)
 }
 
-/// The ring after the plan: new owners and members, all else unchanged.
+/// Returns the ring with the plan's final owners and members.
 pub fn ring_after(alloc: Global, approved: &Approved) -> Result<Ring, Refusal>
     ensures { IfOk result (λ v. v ≡ ring_left approved.now.ring approved.now.plan) }
 {

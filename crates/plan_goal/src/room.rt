@@ -1,8 +1,7 @@
 //! A lower bound on the bytes of windows, before they are made.
 //!
-//! Each window begins with a ring's text. The rings differ only in owners and members (`ring_after`), and an `in` is a
-//! byte shorter than an `out`. So a window has at least the first ring's bytes with the shortest name for each owner,
-//! less a byte for each node.
+//! Each window begins with a ring's text. The rings differ only in owners and members (`ring_after`). So a window has
+//! at least the first ring's bytes, with shortest names for owners, less a byte for each node (`in` for `out`).
 
 use ring_names::{NodeId, Refusal};
 use ring_table::{Node, Ring};

@@ -93,8 +93,7 @@ fn is_step_spared(dead: &Dead, ring: &Ring, present: &Present, step: &Step) -> b
     }
 }
 
-/// Whether no step needs dead nodes: none joins or retires them, copies from them, gives them a slot, or drops their
-/// data. Costs a pass over the plan.
+/// Whether no step joins, retires, mirrors to, drops at or reads a dead node. Costs a pass over the plan.
 pub fn spares(alloc: Global, ring: &Ring, plan: &Plan, dead: &[NodeId]) -> Result<bool, Refusal>
     requires { Suits ring.now plan.now }
     ensures ok { IfOk result (λ b. IsTrue b → spares ring.now plan.now dead.now ≡ true) }

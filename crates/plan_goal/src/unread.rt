@@ -1,4 +1,4 @@
-//! Partitions with too few live owners for a read.
+//! Unread partitions.
 
 ghost use Rattle.std.specs.Prelude.{◌≡◌, IfOk, length};
 ghost use Rattle.plan_goal.specs.Rings.{flags};

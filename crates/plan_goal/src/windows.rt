@@ -1,4 +1,4 @@
-//! Windows of a plan. Each is a bundle whose ring is the previous window's final ring.
+//! A plan's windows: bundles, each over the ring after the previous one.
 
 ghost use Rattle.std.specs.Prelude.{◌≡◌, ℕ, List, [], ◌∷◌, ◌++◌, Option, IfOk, IsTrue};
 ghost use Rattle.ring_table.specs.Spelling.{ring_text};
@@ -139,7 +139,7 @@ fn all_windows(
 ///
 /// Fails as the checker does for a window, or with `NoPlan` if there is no such window.
 ///
-/// Fails with `TooLarge(0)` above `MAX_WINDOWS` bytes, before making windows if numbers and lengths show this.
+/// Fails with `TooLarge(0)` above `MAX_WINDOWS` bytes, if possible before making windows.
 pub fn cut_plan(
     alloc: Global,
     approved: &Approved,

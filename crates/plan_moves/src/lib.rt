@@ -1,5 +1,5 @@
-//! What a plan does to its ring: which slots move, how many copies run one after the other, and the final owners.
-//! Writes steps and moves as lines of JSON, for executors on other stores.
+//! What a plan does to its ring: which slots move, how many copies run in turn, and the final owners. Writes steps and
+//! moves as lines of JSON, for executors on other stores.
 #![tactic(auto)]
 
 mod depth;

@@ -64,7 +64,7 @@ impl Open {
     }
 }
 
-// Of the whole plan, or of finished steps.
+// Returns the open mirrors after the whole plan, or after the finished steps.
 fn open_steps(
     alloc: Global,
     approved: &Approved,
@@ -84,7 +84,7 @@ fn open_steps(
     open.steps(alloc)
 }
 
-// An open move is `WrongStage` at the first mirror.
+// Fails with `WrongStage` at the first open mirror.
 fn ask_switched(
     alloc: Global,
     approved: &Approved,
@@ -148,16 +148,15 @@ fn ring_left(alloc: Global, found: &Study, bytes: &[u8]) -> Result<Vec<u8>, Refu
     ensures { IfOk result (λ text. IsLeftBy bytes.now text.items) }
 {
     let approved = &found.approved;
-    // Reading the plan tells the prover that it is approved.
+    // Shows the prover that the plan is approved.
     let _ = approved.plan();
     ask_switched(alloc, approved, None)?;
     write_ring(alloc, &ring_after(alloc, approved)?)
 }
 
-/// Writes the ring that the plan leaves or its history has reached.
+/// Writes the ring after the plan, or after its history.
 ///
-/// Fails with `WrongStage` at the mirror's step of an open move, because a ring cannot say it. Otherwise fails as
-/// `studied`.
+/// Fails with `WrongStage` at an open move's mirror, which a ring cannot have. Otherwise fails as `studied`.
 pub fn after_bundle(alloc: Global, bytes: &[u8]) -> Result<Vec<u8>, Refusal>
     ensures after { IfOk result (λ text. IsLeftNow bytes.now text.items ⊎ IsLeftBy bytes.now text.items) }
 {
@@ -171,8 +170,8 @@ pub fn after_bundle(alloc: Global, bytes: &[u8]) -> Result<Vec<u8>, Refusal>
     }
 }
 
-/// Adds why `after_bundle` refuses with `WrongStage`: open moves, with the steps to do if there is a history; without
-/// open moves, the plan's fault.
+/// Adds why `after_bundle` fails with `WrongStage`: open moves and, with a history, their remaining steps. Without open
+/// moves, adds the plan's fault.
 pub fn push_open(alloc: Global, out: &mut Words, bytes: &[u8], step: u32) -> Result<(), Refusal> {
     match studied(alloc, bytes, &Options::new(alloc)) {
         Ok(found) => {
@@ -186,7 +185,7 @@ pub fn push_open(alloc: Global, out: &mut Words, bytes: &[u8], step: u32) -> Res
     push_words_of(alloc, out, bytes, &Refusal::WrongStage(step))
 }
 
-// Whether some move is open.
+// Adds open moves. Returns whether there are any.
 fn push_open_of(alloc: Global, out: &mut Words, found: &Study) -> Result<bool, Refusal> {
     let (ring, plan) = (found.approved.ring(), found.approved.plan());
     let progress = match &found.history {

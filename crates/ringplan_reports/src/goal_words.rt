@@ -137,7 +137,7 @@ fn begins_a_ring(text: &[u8]) -> bool {
         || line == b"ring 3\n".as_slice()
 }
 
-// The second ring's lines count from its first.
+// Numbers the second ring's lines from its own first line.
 fn push_fault(
     alloc: Global,
     out: &mut Words,
@@ -206,7 +206,7 @@ fn push_by_goal(
     }
 }
 
-// Whether too few members would be left.
+// Reports if too few members would be left. Returns whether so.
 fn push_few_left(
     alloc: Global,
     out: &mut Words,

@@ -150,7 +150,7 @@ fn tell_reply(
     trail.tell(alloc, said, wrong, reply)
 }
 
-// The reply after those entries. None if refused.
+// Returns the event's reply after `before`. None if refused.
 fn due(
     alloc: Global,
     approved: &Approved,

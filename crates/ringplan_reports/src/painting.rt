@@ -40,7 +40,7 @@ fn mark_of(line: &[u8]) -> Option<u8> {
     None
 }
 
-// A number, then a plus.
+// Whether the line begins with a number and a plus.
 fn is_new(line: &[u8]) -> bool {
     let mut has_digit = false;
     for place in 0..line.len() {

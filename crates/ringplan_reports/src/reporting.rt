@@ -202,7 +202,7 @@ fn said_before(alloc: Global, making: Making, refusal: &Refusal, notes: Notes) -
 const GOAL_DEAD: &[u8; 76] =
     b"  Before the first step `ringplan goal --dead NODE` goes around dead nodes.\n";
 
-// Says why a history's next line is refused, and what to do without one.
+// Says why a history's next line is refused, and what to do without a history.
 fn push_unbegun(alloc: Global, out: &mut Words, bytes: &[u8], line: u32) -> Result<(), Refusal> {
     let is_over = line > Page { bytes }.count();
     if kind_of(bytes) == Kind::Change {

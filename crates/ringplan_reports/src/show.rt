@@ -144,7 +144,7 @@ fn show_plain(
 
 /// Summarizes an accepted plan with progress and sizes, or a ring without a plan.
 ///
-/// Adds to the words by which racks a change was planned.
+/// Adds to `words` by which racks a change was planned.
 ///
 /// Fails as `studied`, the ring's reader, `facts_of` and `racks_of`.
 pub fn show_bundle(

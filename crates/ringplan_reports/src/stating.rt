@@ -127,7 +127,7 @@ fn state_why(alloc: Global, bytes: &[u8]) -> Result<Answer, Refusal>
 {
     match studied(alloc, bytes, &Options::new(alloc)) {
         Ok(found) => {
-            // Reading the plan tells the prover that it is approved.
+            // Shows the prover that the plan is approved.
             let _ = found.approved.plan();
             state_accepted(alloc, &found)
         }
@@ -384,7 +384,7 @@ fn state_plan(alloc: Global, bytes: &[u8], wish: Wish, options: &Options) -> Res
 {
     match studied(alloc, bytes, options) {
         Ok(found) => {
-            // Reading the plan tells the prover that it is approved.
+            // Shows the prover that the plan is approved.
             let _ = found.approved.plan();
             state_studied(alloc, bytes, &found, wish, options)
         }

@@ -131,7 +131,7 @@ fn tell_read(
     }
 }
 
-// Longer texts are not searched: a search may take the square of the steps.
+// Longer texts are not searched: the cost may grow with the steps' square.
 const SOUGHT: usize = 65_536;
 
 fn remedy_of(alloc: Global, texts: &[u8], refusal: &Refusal) -> Result<Remedy, Refusal> {
@@ -385,7 +385,7 @@ fn push_more(alloc: Global, out: &mut Words, bytes: &[u8]) -> Result<Option<Refu
     match studied(alloc, bytes, &Options::new(alloc)) {
         Ok(found) => {
             push_accepted(out, &found);
-            // Reading the plan tells the prover that it is approved.
+            // Shows the prover that the plan is approved.
             let _ = found.approved.plan();
             Ok(None)
         }

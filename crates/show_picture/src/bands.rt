@@ -23,7 +23,7 @@ pub struct Bands {
     rows: Vec<u32>,
 }
 
-// Kinds take turns.
+// How many rows each kind gets, in turns.
 fn rooms(sheet: &Sheet, nodes: &[u32]) -> [usize; KINDS] {
     let mut counts = [0usize; KINDS];
     for node in nodes {

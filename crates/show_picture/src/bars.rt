@@ -8,7 +8,7 @@ use crate::svg::{Area, Point, push_area, push_titled};
 use show_plan::ShownMove;
 use texts::{Words, small};
 
-// For words on filled and bare bars.
+// Classes of words on filled and bare bars.
 const LIGHT: &[u8] = b"b on";
 
 const DARK: &[u8] = b"b";

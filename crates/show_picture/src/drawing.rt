@@ -7,7 +7,7 @@ use crate::order::in_order;
 use crate::sheet::Sheet;
 use ring_names::Refusal;
 
-// The most rounds and lanes with every copy.
+// The most rounds and lanes of a full picture.
 const ROUNDS: u32 = 40;
 
 const LANES: u32 = 90;

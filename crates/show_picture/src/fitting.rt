@@ -22,7 +22,7 @@ impl<'a> TextLook<'a> {
     }
 }
 
-// From 10 pixels on.
+// The greatest font size that fits, from 10 pixels on.
 fn size_for(look: TextLook, words: &[u8], room: u32) -> Option<u32> {
     let mut found = None;
     for size in LEAST..look.size.saturating_add(1) {

@@ -91,7 +91,7 @@ impl Loads {
 
     /// Writes the most transfers at once, and the allowance.
     ///
-    /// For example `3 at once (bears 4)`, or `2 in at once (bears 2), 1 out at once (bears 2)`. Omits a side without
+    /// Like `3 at once (bears 4)`, or `2 in at once (bears 2), 1 out at once (bears 2)`. Omits a side without
     /// transfers.
     pub fn push_at_once(&self, out: &mut Words, allowance: Allowance, node: u32) {
         let place = node as usize;

@@ -64,7 +64,7 @@ fn short_of(alloc: Global, label: &str) -> Result<String, Refusal> {
     Ok(short)
 }
 
-// Characters that XML forbids.
+// Replaces characters that XML forbids.
 fn shown(letter: char) -> char {
     match letter {
         '\u{fffe}' | '\u{ffff}' => '?',

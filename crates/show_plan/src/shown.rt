@@ -21,7 +21,7 @@ pub struct ShownMove {
     pub round: u32,
     /// The round in which the mirror opens.
     pub opens: u32,
-    /// The row that has the nodes read.
+    /// The row of `reads` with the nodes that the copy reads.
     pub reads: Option<usize>,
     /// Whether the copy reads listed slots, not the owner.
     pub is_listed: bool,

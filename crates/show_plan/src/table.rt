@@ -22,7 +22,7 @@ const BAR: usize = 24;
 struct Table {
     // ascending
     rows: Vec<u32>,
-    // taking part without a row
+    // nodes that take part without a row
     hidden: Vec<u32>,
     names: usize,
     at_once: usize,

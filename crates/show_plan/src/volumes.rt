@@ -99,7 +99,7 @@ fn add(words: &mut [u64], place: usize, size: u64) {
     set_word(words, place, sum);
 }
 
-// Copied chunks do not count, even after an abort.
+// What the copy still moves. Copied chunks do not count, even after an abort.
 fn rest_of(size: u64, number: u32, progress: Option<&Progress>) -> u64 {
     let Some(progress) = progress else {
         return size;

@@ -64,7 +64,7 @@ pub fn value_of(digits: &[u8]) -> Option<u64> {
     Some(value)
 }
 
-// Rounded down. None with two points or commas.
+// Rounds down. None with two points or commas.
 fn thousandths_of(front: &[u8]) -> Option<u64> {
     let place = front.iter().position(|byte| is_parting(*byte));
     let (whole, rest) = match place {

@@ -154,7 +154,7 @@ fn in_cert(line: Line) -> Option<OverLimit> {
     large_number(line, first)
 }
 
-// If no number is too large.
+// The exceeded limit, if no number is too large.
 fn crowd(line: Line) -> &'static [u8] {
     let before = line.number.saturating_sub(line.start).saturating_sub(1);
     match line.part {

@@ -133,7 +133,7 @@ pub fn unknown_node(
     Ok(())
 }
 
-// Only for a ring's line.
+// None unless the line is in the ring.
 fn declared_late(page: Page, number: u32, name: &[u8]) -> Option<u32> {
     if part_of(page, number).0 != Part::Ring {
         return None;
@@ -159,7 +159,7 @@ fn first_row(page: Page, number: u32) -> u32 {
     line_of(page, number).find(b"slots", 1).unwrap_or(number)
 }
 
-// If only one node can join, it was meant.
+// If only one node can join, mends the name.
 fn tell_choice(line: Line, said: &mut Said, place: usize, wanted: WantedState) {
     let (count, name) = push_choice(line.page, said, wanted);
     if count == 0 {

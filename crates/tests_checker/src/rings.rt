@@ -17,7 +17,7 @@ pub const RING: &[u8] =
 const TWO_MOVES: &[u8] =
     b"plan 1\njoin d\nmirror 0 1 d after 0\ncopy 0 1 owner after 1\nswitch 0 1 after 2\nmirror 1 1 d after 0 3\ncopy 1 1 owner after 4\nswitch 1 1 after 5\nend\n";
 
-// Texts are read only here: readers ensure much that tests with the result do not need.
+// Texts are read only here: readers ensure much that tests do not need.
 
 pub fn ring_from(alloc: Global, text: &[u8]) -> Result<Ring, Refusal> {
     read_ring(alloc, text)

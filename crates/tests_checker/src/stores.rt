@@ -238,7 +238,7 @@ fn kept_by<RT: Abort>(rt: &RT, hints: &Hints, count: usize) {
     same!(rt; found, count);
 }
 
-// All ways to read what a node keeps agree.
+// All ways to read a node's hints agree.
 fn kept_for<RT: Abort>(rt: &RT, hints: &Hints, pair: KeptFor) {
     kept_by(rt, hints, 1);
     holds!(rt; hints.keeps(pair.keeper, pair.slot));

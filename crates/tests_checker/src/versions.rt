@@ -1,5 +1,5 @@
 //! Merges hundreds of concurrent versions with large shared clocks: with themselves, newer ones and ancestors. A walk
-//! over all pairs, by writers' own counters, tells what must stay.
+//! over all pairs tells what must stay.
 
 use crate::clocks::{listed, raised, set_of};
 use ring_clock::Clock;
@@ -33,7 +33,7 @@ fn in_conflict(alloc: Global) -> Result<Versions, Refusal> {
     Ok(set)
 }
 
-// A later clock by the version's writer, or by one who has seen the first too; none for each third.
+// A later clock by the version's writer, or by one who has also seen the first. None for every third version.
 fn after(version: &Version, first: &Version) -> Result<Option<Clock>, Refusal> {
     match version.put % 3 {
         0 => Ok(Some(raised(&version.clock, version.clock.own().0)?)),

@@ -45,7 +45,7 @@ fn twelve(alloc: Global) -> Result<Ring, Refusal> {
     ring_from(alloc, text.as_slice())
 }
 
-// ---- what wishes come to
+// ---- results
 
 fn moved(ring: &Ring, rows: &[Listed<NodeId>]) -> u32 {
     let mut moved = 0u32;
@@ -156,8 +156,8 @@ fn two_for_two(rt: HostRuntime) -> Result<(), Fail> {
     comes_to(&rt, &wish, (32, 0), (16, 16))
 }
 
-// Half of the partitions have no keys. Of the others joiners take six slots each, as their shares are 96 by 14. Only
-// their racks give.
+// Half of the partitions have no keys. Of the others, joiners take six slots each: a share is 96 / 14. Only their racks
+// give.
 #[test]
 fn two_join_by_size(rt: HostRuntime) -> Result<(), Fail> {
     let mut sizes = [0u64; 64];

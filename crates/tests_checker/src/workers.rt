@@ -97,7 +97,7 @@ fn moves<RT: AllocGlobal + Threads + Wait + Sync>(
     moves_by(rt, workers, gate, ring, &cert)
 }
 
-// With a gate that awaits `awaited` workers.
+// Checks with a gate that awaits `awaited` workers.
 fn whole<RT: AllocGlobal + Threads + Wait + Sync>(
     rt: &RT,
     workers: u32,

@@ -3,7 +3,7 @@
 use plan_runs::Reply;
 use ring_names::{Refusal, push_decimal};
 
-/// The line of a reply or refusal, after the event's place.
+/// Adds the line of a reply or refusal: the event's place first.
 pub fn push_answer(
     out: &mut Vec<u8>,
     place: u32,
@@ -29,7 +29,7 @@ pub fn push_changed(out: &mut Vec<u8>, before: u64, behind: u64) -> Result<(), R
     Ok(())
 }
 
-/// A line that says whether the marks are equal.
+/// Adds a line that says whether the marks are equal.
 pub fn push_same(out: &mut Vec<u8>, one: u64, other: u64) -> Result<(), Refusal> {
     let text: &[u8] = if one == other {
         b"the same\n"

@@ -40,7 +40,7 @@ pub fn ledgered_answers<L: RunLedger>(
     Ok(Played { entries, mark })
 }
 
-/// The mark of a history's store.
+/// The mark of the history's restored store.
 pub fn restored<L: RunLedger>(
     alloc: Global,
     blank: Blank,

@@ -1,8 +1,8 @@
-//! Plays the script of a bundle on standard input by a store, by a store with its history and by a locked one. Also
-//! restores the store from that history. Prints the replies.
+//! Plays a bundle's script, on standard input, by a store, a store with its history, and a locked store. Restores a
+//! store from that history. Prints the replies.
 //!
-//! Tries again what is refused for memory. A line says if the refusal changed anything. So the output is the same,
-//! whichever growth was refused.
+//! Retries what is out of memory. A line says if the failure changed anything. So the output is the same, whichever
+//! allocation fails.
 #![tactic(auto)]
 
 ghost use Rattle.std.specs.Prelude.{◌≡◌, ◌<◌, ◌≤◌, length};

@@ -1,4 +1,4 @@
-//! Marks: numbers made of all that a store tells.
+//! Marks: hashes of all that a store tells.
 
 use ring_core::World;
 use ring_names::{NodeId, Refusal};
@@ -6,7 +6,7 @@ use ring_names::{NodeId, Refusal};
 /// The mark of nothing.
 pub const NONE: u64 = 14_695_981_039_346_656_037;
 
-/// A mark with another number (FNV-1a, by numbers for bytes).
+/// Adds a number to the mark (FNV-1a, with numbers for bytes).
 pub fn mixed(mark: u64, number: u64) -> u64 {
     (mark ^ number).wrapping_mul(1_099_511_628_211)
 }

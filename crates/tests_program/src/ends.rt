@@ -26,7 +26,7 @@ const DRIVE: &[u8] =
 // More calls than any of these runs makes.
 const MANY: usize = 4096;
 
-// How many reads a run makes that reads 16 bytes a call.
+// How many reads a run makes, of 16 bytes each.
 fn reads_of<RT: AllocGlobal + Files + Eprint + Threads + Wait + Sync + Abort>(
     rt: &RT,
     word: &str,
@@ -148,7 +148,7 @@ fn writes_fail<RT: AllocGlobal + Files + Eprint + Threads + Wait + Sync + Abort>
     call_fails(rt, word, bundle, text, text.len());
 }
 
-// Each write but the first ones takes nothing, in turn: so much is out, and no call follows.
+// Lets the output take nothing after each number of bytes. No call follows.
 fn writes_take_nothing<RT: AllocGlobal + Files + Eprint + Threads + Wait + Sync + Abort>(
     rt: &RT,
     word: &str,

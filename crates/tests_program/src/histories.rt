@@ -1,5 +1,5 @@
-//! Replays the history of a play, also with a fault. A play of the same events shows what is due. Also replays a
-//! drive's printed history.
+//! Replays a play's history, also with a fault, and a drive's printed history. A play of the same events shows the
+//! expected replies.
 
 use ringplan_answers::{play_bundle, replay_bundle};
 use std::alloc::{AllocError, Global};
@@ -125,7 +125,7 @@ fn other(reply: &str) -> &'static str {
     if reply == "ok" { "put 0" } else { "ok" }
 }
 
-// The history with a change at the place: another reply, no entry, exchanged with the next, or again at the end.
+// The history with a fault at the place: another reply, no entry, exchanged with the next, or repeated at the end.
 fn changed<'t>(
     alloc: Global,
     told: &[Told<'t>],
@@ -157,8 +157,7 @@ fn changed<'t>(
     Ok(changed)
 }
 
-/// Counts the histories that a replay answers wrongly: the play's history by this bundle and output, and that history
-/// with one fault.
+/// Counts the histories that a replay answers wrongly: the play's history, and that history with one fault.
 ///
 /// A fault is another reply, a missing entry, two exchanged entries, or one entry repeated at the end.
 pub fn others(alloc: Global, bundle: &str, output: &str) -> Result<u32, AllocError> {

@@ -1,7 +1,7 @@
-//! Runs the program on the bundles that its arguments name. Prints each name, answer and exit status. The words `check`
-//! (the default), `migrate`, `play`, `plan`, `drive` and `replay` among them set the subcommand for what follows.
-//! `report` is a drive whose report is printed. `race` is a drive by three workers: only its first line is printed,
-//! since the others vary.
+//! Runs the program on the bundles that its arguments name. Prints each name, answer and exit status. Arguments `check`
+//! (the default), `migrate`, `play`, `plan`, `drive` and `replay` set the subcommand for what follows. `report` is a
+//! drive whose report is printed. `race` is a drive by three workers: only its first line is printed, since the others
+//! vary.
 //!
 //! Counts what goes wrong, and prints each count that is not 0:
 //! - Accepted first parts of an accepted bundle.
@@ -153,8 +153,8 @@ fn subcommand(asked: Asked) -> &'static str {
     }
 }
 
-// Whether a bundle's first part is accepted. Never for a migration, which needs no accepted plan, nor for a drive: with
-// fewer scripts it may be accepted.
+// Whether a bundle's first part is accepted. False for a migration, which needs no accepted plan, and for a drive,
+// which may lack scripts.
 fn accepts(alloc: Global, asked: Asked, front: &[u8]) -> bool {
     match asked {
         Asked::Check => check_bundle(alloc, front).is_ok(),

@@ -16,8 +16,7 @@ const CHECK: [&str; 2] = ["ringplan", "check"];
 const BUNDLE: &[u8] =
     b"ring 1\nspace 1\nquorum 1 1 1\nnode a 1 in\nslots 0 a\nend\nplan 1\nend\ncert 1\nend\n";
 
-// An owner of an output drops it at each exit, which is costly to prove. So functions that borrow the output assert
-// this.
+// Borrows the output: dropping it at each exit is costly to prove.
 fn shows<RT: Abort>(rt: &RT, shown: &[u8], text: &str) -> Result<(), Fail> {
     let shown = str::from_utf8(shown)?;
     assert!(rt; shown.contains(text), "{shown}");
@@ -33,7 +32,7 @@ fn ends_with<RT: Abort>(rt: &RT, ended: u8, status: u8, shown: &[u8], text: &[u8
     assert_eq!(rt; ended, status);
 }
 
-// Two words after the program's name end with this status, and print a text that contains the other.
+// Runs the program with two arguments: it ends with `status`, and prints `text`.
 fn told<RT: AllocGlobal + Files + Eprint + Threads + Wait + Sync + Abort>(
     rt: &RT,
     first: &str,
@@ -130,7 +129,7 @@ fn words_that_are_no_text(rt: HostRuntime) -> Result<(), Fail> {
     begins(&rt, output.bytes.as_slice(), "error: invalid UTF-8")
 }
 
-// The answer to the least bundle, if reads give and writes take at most so many bytes.
+// The answer to the least bundle, at most `step` bytes a read or write.
 fn answered<RT: AllocGlobal + Files + Eprint + Threads + Wait + Sync + Abort>(rt: &RT, step: usize)
     requires { 0 < step }
 {

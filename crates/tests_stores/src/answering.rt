@@ -1,7 +1,6 @@
 //! Rings and plans of tests, and a store's replies to a script's events.
 //!
-//! A store and its plan are dropped at each exit of their owner, which is costly to prove. So each function here owns
-//! one and lends it.
+//! Dropping a store or plan at each exit of its owner is costly to prove. So each function here owns one and lends it.
 
 ghost use Rattle.plan_text.specs.Valid.{Suits};
 

@@ -90,7 +90,7 @@ fn signs_read<RT: AllocGlobal + Abort>(rt: &RT, ring: &Ring) {
     lines_read(rt, ring, "ack 0 = found 1 x\n", bad);
 }
 
-// In a line the least number's fault decides; of lines the first.
+// Reading returns the first faulty line's least fault.
 fn faults_read<RT: AllocGlobal + Abort>(rt: &RT, ring: &Ring) {
     lines_read(
         rt,

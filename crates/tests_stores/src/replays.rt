@@ -49,7 +49,7 @@ ack 0
 end
 ";
 
-// The play's end.
+// The owners at the play's end.
 const OWNERS: &[u8] = b"slots 0 a d c\nslots 1 a b c\nslots 2 a b c\nslots 3 a b c\nend\n";
 
 #[tactic(auto, using(ring_core::proofs::SoundAfterEvent::has_number))]

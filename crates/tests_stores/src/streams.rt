@@ -245,7 +245,7 @@ fn entries_are_mapped_back(rt: HostRuntime) -> Result<(), Fail> {
     Ok(())
 }
 
-// 1,000,001 entries are too many, one fewer are not.
+// 1,000,001 entries are too many, one fewer is not.
 #[test]
 fn a_part_has_a_million_entries_at_most(rt: HostRuntime) -> Result<(), Fail> {
     let front = bundle(rt.alloc(), b"history 1\n")?;

@@ -1,5 +1,5 @@
-//! Tests the lock around a store, and drives, beyond contracts. Threads overlap and fill one history; gates and full
-//! histories stop them. Histories are restored, resumed or refused; the judge refuses other lists.
+//! Tests the lock around a store, and drives, beyond contracts: overlapping threads, gates, full, restored and resumed
+//! histories, and lists that the judge refuses.
 #![tactic(auto)]
 
 #[cfg(test)]

@@ -197,7 +197,7 @@ fn changed_histories_are_refused(rt: HostRuntime) -> Result<(), Fail> {
     all_refused(&rt, &approved)
 }
 
-// Entries; the second would be refused.
+// `count` entries. The second would be refused.
 fn downs(alloc: Global, count: u32) -> Result<Vec<Entry>, AllocError> {
     let mut history = Vec::with_capacity(alloc, count as usize)?;
     for _ in 0..count {

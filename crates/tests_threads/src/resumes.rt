@@ -18,8 +18,7 @@ use std::sync::Wait;
 use std::test::Fail;
 use std::thread::Threads;
 
-// A resume's result, and how many steps were finished before, if the first ones; or the refusal and the history's
-// length.
+// A resume's result, and `finished_before`; or the refusal and the history's length.
 type Ended = Result<(Came, Option<usize>), (Refusal, usize)>;
 
 fn done(alloc: Global, events: &[Event]) -> Result<Vec<Entry>, AllocError> {
@@ -33,7 +32,7 @@ fn done(alloc: Global, events: &[Event]) -> Result<Vec<Entry>, AllocError> {
     Ok(entries)
 }
 
-// Broke off in the copy, after its first chunk.
+// A history that breaks off after the copy's first chunk.
 fn broken(alloc: Global) -> Result<Vec<Entry>, AllocError> {
     let events = [
         Event::Do(0),
@@ -44,7 +43,7 @@ fn broken(alloc: Global) -> Result<Vec<Entry>, AllocError> {
     done(alloc, events.as_slice())
 }
 
-// Broke off after the copy.
+// A history that breaks off after the copy.
 fn copied(alloc: Global) -> Result<Vec<Entry>, AllocError> {
     let events = [Event::Do(0), Event::Do(1), Event::OpenCopy(2)];
     let mut entries = done(alloc, events.as_slice())?;
