@@ -4,7 +4,7 @@ use crate::around::Search;
 use crate::moving::{PlannedMove, first_owner};
 use ring_names::Slot;
 
-/// A line after all steps.
+/// A step number after all steps.
 pub(crate) const END: u32 = u32::MAX;
 
 /// When a copy comes among a listed slot's switches.
@@ -17,7 +17,7 @@ pub(crate) enum Way {
 }
 
 impl Search<'_> {
-    /// The owner after done steps and those before the line. Line 0 means now.
+    /// The owner after done steps and those before step `line`. 0 means now.
     pub(crate) fn owner_at(&self, slot: Slot, line: u32) -> u32 {
         let mut owner = first_owner(self.task.ring, slot);
         let mut next = self.moves.first(slot);

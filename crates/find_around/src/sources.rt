@@ -148,7 +148,7 @@ impl Search<'_> {
         false
     }
 
-    // Whether the owner at the copy's line, or a keeper of the slot's hints, is dead.
+    // Whether the owner before the copy, or a keeper of the slot's hints, is dead.
     fn is_unreadable(&self, slot: Slot, copy: u32) -> bool {
         match self.readable(slot, copy) {
             Some((Way::InLine, _)) => false,

@@ -4,7 +4,7 @@ use ring_names::{Refusal, Rows};
 use std::alloc::Global;
 use texts::{at, set, small};
 
-/// By copy, the earlier copy that it follows. At most one copy follows another.
+/// By copy, the earlier copy that it follows. At most one copy follows each.
 #[derive(Drop)]
 pub(crate) struct Links {
     // by copy, 1 plus its predecessor and 1 plus its successor; 0 for none

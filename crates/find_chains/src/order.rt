@@ -150,7 +150,7 @@ impl<'a> Order<'a> {
         self.linked(alloc, &before, links)
     }
 
-    // Spends the looks of a pass, if enough are left.
+    // Spends a pass's looks. Returns whether enough were left.
     fn can_pass(&mut self, copies: &[u32], words: usize) -> bool {
         let last = copies.last().copied().unwrap_or(0);
         let span = last

@@ -16,7 +16,7 @@ pub struct Stay {
     pub begun: Option<u32>,
     /// The switch that ended it.
     pub left: Option<u32>,
-    /// The node's first drop at the slot after that.
+    /// The node's first drop at the slot after that switch.
     pub dropped: Option<u32>,
     /// The place of the node's previous stay at this slot.
     pub same_before: Option<usize>,

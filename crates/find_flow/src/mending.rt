@@ -48,7 +48,7 @@ fn class(level: u32, is_costly: bool) -> usize {
     level.saturating_mul(2).saturating_add(u32::from(is_costly)) as usize
 }
 
-// The greatest gain from giving a slot, by class.
+// The greatest gain from giving a slot, by `class`.
 fn gains(alloc: Global, seats: &Seats, search: &PathSearch) -> Result<Vec<u64>, Refusal> {
     let mut gains = vec![in alloc; 0u64; 6]?;
     for node in 0..seats.members.count() {

@@ -317,7 +317,7 @@ impl<'a> Seats<'a> {
         price(twice.saturating_add(1), self.members.weight(node))
     }
 
-    /// What one slot fewer gains the balance.
+    /// What the balance gains from one slot fewer.
     pub fn give_price(&self, node: u32) -> u64 {
         let twice = u64::from(self.load(node)).saturating_mul(2);
         price(twice.saturating_sub(1), self.members.weight(node))

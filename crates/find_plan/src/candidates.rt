@@ -81,7 +81,7 @@ impl Candidates {
         Ok(())
     }
 
-    // Returns the group's next place, unless all came before.
+    // The group's next place, unless all came before.
     fn next_of(&mut self, group: usize, round: u32) -> Option<usize> {
         let start = self.places.start(group);
         let count = self.places.end(group).saturating_sub(start);
@@ -96,8 +96,8 @@ impl Candidates {
         Some(self.places.item(start.saturating_add(finger)) as usize)
     }
 
-    /// Returns the next slot to exchange owners with. Turns alternate between slots of former owners and slots that
-    /// members got by moves.
+    /// Returns the next slot to exchange owners with. Turns alternate between slots of former owners, who return to the
+    /// partition, and slots that members got by moves.
     pub fn next(&mut self, seats: &Seats, place: usize, turn: u32) -> Option<usize> {
         let ways = small(self.gone.len()).saturating_add(1);
         let round = quotient(turn, ways);

@@ -63,7 +63,7 @@ impl PairCounts {
         i64::from(at(&self.counts, place_of(one, other)))
     }
 
-    /// Returns how much half a swap adds to the counts' sum of squares.
+    /// How much half a swap adds to the counts' sum of squares.
     pub fn growth(&self, seats: &Seats, half: Half) -> i64 {
         let start = seats.place(half.partition, 0);
         let mut growth = 0i64;

@@ -28,7 +28,7 @@ fn suits(seats: &Seats, partition: usize, new: u32, old: u32) -> bool {
     to == from || seats.count(partition, to) < seats.count(partition, from)
 }
 
-// Returns how much farther from its share `more` takes the node, by squared distance and weight.
+// How much farther from its share `more` takes the node, by squared distance and weight.
 fn farther(seats: &Seats, node: u32, more: i64) -> i128 {
     let over = i128::from(seats.volumes.over(node));
     let more = i128::from(more);

@@ -82,7 +82,7 @@ fn runs_on(
     are_apart(alloc, store, ring, plan, it.dead)
 }
 
-// Returns the history's text. Fails with `NoPlan` unless `runs_on` holds.
+// Returns the history's text, or `NoPlan` if the history cannot go on.
 fn history_on(
     alloc: Global,
     approved: &Approved,

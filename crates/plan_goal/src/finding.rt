@@ -1,4 +1,4 @@
-//! Finds the plan. Has no proofs.
+//! Finds the plan. Nothing is proved.
 
 use crate::aim::{Aim, joins, retires};
 use find_rounds::{Handover, Turnover};

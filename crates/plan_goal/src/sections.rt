@@ -51,7 +51,7 @@ fn begins(text: &[u8], word: &[u8]) -> bool {
     word.len() <= text.len() && &text[..word.len()] == word
 }
 
-/// Tells what follows the ring, by the next word and the sections' number.
+/// Tells what follows the ring, by the next word and the number of sections.
 pub fn kind_of(text: &[u8]) -> Kind {
     if begins(&text[front(text, 1)..], b"change ") {
         return Kind::Change;

@@ -203,7 +203,6 @@ fn leavers_of(alloc: Global, leaves: &[NodeId], ring: &Ring) -> Result<Vec<bool>
     ensures { IfOk result (λ v. v.items ≡ flags (λ x. has x (numbers leaves.now)) (length ring.now.nodes)) }
 {
     let mut leavers = Vec::new(alloc);
-    // A ring has few nodes.
     let count = ring.nodes().len() as u32;
     'nodes: for node in 0..count {
         leavers.push(is_among(leaves, NodeId(node)))?;

@@ -73,7 +73,7 @@ fn push_no_window(
     }
 }
 
-// Says how many windows there are, or that one leaves no ring.
+// Says how many windows there are, or that a window leaves no ring.
 fn push_count(alloc: Global, out: &mut Words, found: &Study, cut: Cut) -> Result<(), Refusal> {
     match cut_plan(alloc, &found.approved, cut.rounds, None) {
         Ok(text) => {

@@ -37,7 +37,7 @@ pub enum Sharing {
     Counts(u32),
 }
 
-// By rack, its joiners last. If nodes share columns by number, all joiners are last.
+// Ordered by rack, joiners last. If nodes share columns by number, all joiners are last.
 #[derive(Clone, Copy, PartialEq, Eq, PartialOrd, Ord)]
 struct PlacedNode {
     is_last: bool,

@@ -200,7 +200,7 @@ fn count_chains(case: Case, of: NodeSide) -> u32 {
     count
 }
 
-// The crowded side, its chains, and their limit.
+// The crowded side, its number of chains, and their limit.
 fn crowded(case: Case, node: u32) -> Option<(NodeSide, u32, u32)> {
     for side in [Side::Both, Side::Take, Side::Give] {
         let of = NodeSide {

@@ -36,7 +36,7 @@ fn role_in(stays: &Stays, node: NodeId, step: &Step) -> Option<CopyRole> {
     if gives { Some(CopyRole::Gives) } else { None }
 }
 
-/// The node's role in each step. Costs a walk over the plan.
+/// The node's role in each step. Costs a pass over the plan.
 pub fn roles(case: Case, node: NodeId) -> Result<Vec<Option<CopyRole>>, Refusal> {
     let mut stays = Stays::of(case.alloc, case.ring)?;
     let mut found = Vec::new(case.alloc);

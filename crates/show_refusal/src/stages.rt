@@ -6,7 +6,7 @@ use plan_text::Step;
 use ring_names::{NodeId, Refusal, Slot};
 use show_why::Said;
 
-// `@` is the node.
+// A template: `@` is the node.
 fn cause(step: &Step, stage: &Stage) -> &'static [u8] {
     match step {
         Step::Switch(_) if stage.mirror.is_none() => {

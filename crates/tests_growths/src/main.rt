@@ -1,8 +1,8 @@
 //! Plays a bundle's script, on standard input, by a store, a store with its history, and a locked store. Restores a
 //! store from that history. Prints the replies.
 //!
-//! Retries what is out of memory. A line says if the failure changed anything. So the output is the same, whichever
-//! allocation fails.
+//! Retries what fails with `OutOfMemory`. A line says if the failure changed anything. So the output is the same,
+//! whichever allocation fails.
 #![tactic(auto)]
 
 ghost use Rattle.std.specs.Prelude.{◌≡◌, ◌<◌, ◌≤◌, length};

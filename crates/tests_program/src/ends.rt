@@ -148,7 +148,7 @@ fn writes_fail<RT: AllocGlobal + Files + Eprint + Threads + Wait + Sync + Abort>
     call_fails(rt, word, bundle, text, text.len());
 }
 
-// Lets the output take nothing after each number of bytes. No call follows.
+// For each length, lets the output take so many bytes, then none. No call follows.
 fn writes_take_nothing<RT: AllocGlobal + Files + Eprint + Threads + Wait + Sync + Abort>(
     rt: &RT,
     word: &str,

@@ -9,7 +9,7 @@
 //! - Replays of a play's history, also with a fault at each place, that differ from the play.
 //! - Replays that refuse a drive's printed history.
 //!
-//! The words of `people.rt` ask for output for people.
+//! Words of `people.rt` ask for output for people.
 #![tactic(auto)]
 
 #[cfg(test)]

@@ -1,4 +1,4 @@
-//! Bundles cut to a part while they are read. Sizes of reads do not change the part, and other inputs are refused.
+//! Bundles cut to a part while they are read. Read sizes do not change the part. Other inputs are refused.
 
 ghost use Rattle.std.specs.Prelude.{◌<◌, Some};
 ghost use Rattle.history_laws.specs.Choices.{IsChoice};
