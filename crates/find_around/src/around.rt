@@ -27,7 +27,7 @@ pub struct AroundTask<'a> {
     pub alloc: Global,
     pub ring: &'a Ring,
     pub plan: &'a Plan,
-    /// The plan's certificate. Its chains share allowances.
+    /// The plan's certificate. Its chains show how copies share allowances.
     pub cert: &'a Cert,
     /// A run of the plan.
     pub history: &'a [Entry],

@@ -5,8 +5,8 @@ use ring_names::Refusal;
 use std::alloc::Global;
 use texts::{at, set_word, word};
 
-// Loads and aims count 64ths of a unit, since shares are seldom whole. All sizes by a weight of 1,000 stay below 2^63
-// parts.
+// Loads and aims count 64ths of a unit, since shares are seldom whole. All sizes times a weight of 1,000 stay below
+// 2^63 parts.
 const PARTS: u64 = 64;
 
 // Above all differences of loads by weight.

@@ -1,7 +1,7 @@
 //! Rounds by urgency: groups with most copies left come first. Copies can have any number of parties.
 //!
 //! A copy waits in its neediest group's queue. Groups are served by need, until their allowance is used or several
-//! copies in a row find another group full. So a round looks at few copies in vain.
+//! copies found another group full. So a round looks at few copies in vain.
 //!
 //! Copies that others follow are queued first, and followers once these have rounds.
 

@@ -33,7 +33,7 @@ pub(crate) struct Head<'a> {
     pub after: &'a [u32],
 }
 
-// Writes the members before a kind's own.
+// Begins an object with `after` and `do`.
 fn write_front(line: &mut Writer, head: &Head, kind: &str) -> Result<(), AllocError>
     ensures { OnOk result (GoesOn line.old line.new (begin_object ∷ key (codes "after")
         ∷ (json_tokens (outline (array (items_of (map number_data head.now.after.now))))
