@@ -129,44 +129,48 @@ fn is_mirrored_alike(a: &World, b: &World, plan: &Plan, put: u32, index: u32) ->
     }
 }
 
-fn is_put_alike(a: &World, b: &World, plan: &Plan, put: u32, slots: u32) -> bool
-    requires same { ring_of b.now ≡ ring_of a.now }
-    requires plan { plan_of b.now ≡ plan.now }
-    requires old { put < put_count a.now }
-    requires new { put < put_count b.now }
-    requires slots { slots ≡ (ring_of b.now).n }
-    ensures { IsTrue result → InBoth a.now b.now (λ r old w s new u. PutAlike r old w s new u put) }
+/// Two stores of one ring, the second after another plan.
+#[derive(Clone, Copy)]
+pub(crate) struct BothStores<'a> {
+    pub(crate) ring: &'a Ring,
+    pub(crate) a: &'a World<'a>,
+    pub(crate) b: &'a World<'a>,
+    /// The second store's plan.
+    pub(crate) plan: &'a Plan,
+}
+
+fn is_put_alike(it: &BothStores, put: u32) -> bool
+    requires same { ring_of it.now.b.now ≡ ring_of it.now.a.now }
+    requires ring { ring_of it.now.b.now ≡ it.now.ring.now }
+    requires plan { plan_of it.now.b.now ≡ it.now.plan.now }
+    requires old { put < put_count it.now.a.now }
+    requires new { put < put_count it.now.b.now }
+    ensures { IsTrue result → InBoth it.now.a.now it.now.b.now (λ r old w s new u. PutAlike r old w s new u put) }
 {
-    if !is_held_alike(a, b, put) {
+    if !is_held_alike(it.a, it.b, put) {
         return false;
     }
+    let slots = it.ring.n();
     for index in 0..slots {
-        if !is_mirrored_alike(a, b, plan, put, index) {
+        if !is_mirrored_alike(it.a, it.b, it.plan, put, index) {
             return false;
         }
     }
     true
 }
 
-fn mark_alike(
-    a: &World,
-    b: &World,
-    plan: &Plan,
-    put: u32,
-    slots: u32,
-    marks: &mut Vec<bool>,
-) -> bool
-    requires same { ring_of b.now ≡ ring_of a.now }
-    requires plan { plan_of b.now ≡ plan.now }
-    requires puts { put_count b.now ≡ put_count a.now }
-    requires slots { slots ≡ (ring_of b.now).n }
-    requires marks { AreAlikeIn a.now b.now marks.old.items }
-    ensures { IsTrue result → AreAlikeIn a.now b.now marks.new.items }
+fn mark_alike(it: &BothStores, put: u32, marks: &mut Vec<bool>) -> bool
+    requires same { ring_of it.now.b.now ≡ ring_of it.now.a.now }
+    requires ring { ring_of it.now.b.now ≡ it.now.ring.now }
+    requires plan { plan_of it.now.b.now ≡ it.now.plan.now }
+    requires puts { put_count it.now.b.now ≡ put_count it.now.a.now }
+    requires marks { AreAlikeIn it.now.a.now it.now.b.now marks.old.items }
+    ensures { IsTrue result → AreAlikeIn it.now.a.now it.now.b.now marks.new.items }
 {
-    if put >= b.puts() {
+    if put >= it.b.puts() {
         return true;
     }
-    if !is_put_alike(a, b, plan, put, slots) {
+    if !is_put_alike(it, put) {
         return false;
     }
     mark(marks, put);
@@ -174,53 +178,42 @@ fn mark_alike(
 }
 
 // `order` must have each put.
-fn are_puts_alike(
-    alloc: Global,
-    ring: &Ring,
-    plan: &Plan,
-    a: &World,
-    b: &World,
-    order: &[u32],
-) -> Result<bool, Refusal>
-    requires same { ring_of b.now ≡ ring_of a.now }
-    requires ring { ring_of b.now ≡ ring.now }
-    requires plan { plan_of b.now ≡ plan.now }
-    requires puts { put_count b.now ≡ put_count a.now }
-    ensures { IfOk result (λ t. IsTrue t → (v : ℕ) → v < put_count b.now → InBoth a.now b.now (λ r old w s new u. PutAlike r old w s new u v)) }
+fn are_puts_alike(alloc: Global, it: &BothStores, order: &[u32]) -> Result<bool, Refusal>
+    requires same { ring_of it.now.b.now ≡ ring_of it.now.a.now }
+    requires ring { ring_of it.now.b.now ≡ it.now.ring.now }
+    requires plan { plan_of it.now.b.now ≡ it.now.plan.now }
+    requires puts { put_count it.now.b.now ≡ put_count it.now.a.now }
+    ensures { IfOk result (λ t. IsTrue t → (v : ℕ) → v < put_count it.now.b.now → InBoth it.now.a.now it.now.b.now (λ r old w s new u. PutAlike r old w s new u v)) }
 {
-    let puts = b.puts();
-    let slots = ring.n();
+    let puts = it.b.puts();
     let mut marks = unmarked(alloc, puts)?;
     for put in order {
-        if !mark_alike(a, b, plan, *put, slots, &mut marks) {
+        if !mark_alike(it, *put, &mut marks) {
             return Ok(false);
         }
     }
     Ok(are_marked(marks.as_slice(), puts))
 }
 
-/// Whether both stores are alike. The second store follows this ring and plan; `order` has each put.
+/// Whether both stores are alike; `order` has each put.
 ///
 /// Costs a few look-ups for each slot, and for each put and slot of its partition.
 pub(crate) fn are_alike(
     alloc: Global,
-    ring: &Ring,
-    plan: &Plan,
-    a: &World,
-    b: &World,
+    it: &BothStores,
     returns: &Returns,
     order: &[u32],
 ) -> Result<bool, Refusal>
-    requires same { ring_of b.now ≡ ring_of a.now }
-    requires ring { ring_of b.now ≡ ring.now }
-    requires plan { plan_of b.now ≡ plan.now }
-    ensures { IfOk result (λ t. IsTrue t → InBoth a.now b.now (AreAlike returns.now.back returns.now.left.now)) }
+    requires same { ring_of it.now.b.now ≡ ring_of it.now.a.now }
+    requires ring { ring_of it.now.b.now ≡ it.now.ring.now }
+    requires plan { plan_of it.now.b.now ≡ it.now.plan.now }
+    ensures { IfOk result (λ t. IsTrue t → InBoth it.now.a.now it.now.b.now (AreAlike returns.now.back returns.now.left.now)) }
 {
-    if a.puts() != b.puts() {
+    if it.a.puts() != it.b.puts() {
         return Ok(false);
     }
-    if !are_nodes_alike(ring, a, b, returns) {
+    if !are_nodes_alike(it.ring, it.a, it.b, returns) {
         return Ok(false);
     }
-    are_puts_alike(alloc, ring, plan, a, b, order)
+    are_puts_alike(alloc, it, order)
 }

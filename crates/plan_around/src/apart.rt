@@ -43,19 +43,12 @@ fn is_unasked(dead: &Dead, ring: &Ring, present: &Present, step: &Step) -> bool
     }
 }
 
-fn is_step_apart(
-    store: &World,
-    dead: &Dead,
-    ring: &Ring,
-    present: &Present,
-    step: &Step,
-    number: u32,
-) -> bool
-    requires { step_suits ring.now step.now ≡ true }
+// Whether the step is over, or spares the dead nodes.
+fn is_apart(store: &World, step: &Step, number: u32, spares: bool) -> bool
     ensures { IsTrue result → (w : TheWorld) → Meets store.now w
-        → (w.done number || is_whole w number || are_spared dead.now.nodes.now (asked (serving_at ring.now present.now) step.now)) ≡ true }
+        → (w.done number || is_whole w number || spares) ≡ true }
 {
-    is_unasked(dead, ring, present, step) || is_over(store, step, number)
+    spares || is_over(store, step, number)
 }
 
 /// Whether no remaining step involves a dead node. Costs a pass over the plan.
@@ -74,7 +67,8 @@ pub(crate) fn are_apart(
     let mut present = Present::new(alloc, ring)?;
     for number in 0..plan.len() {
         let step = plan.step(number);
-        if !is_step_apart(store, &flagged, ring, &present, step, number) {
+        let spares = is_unasked(&flagged, ring, &present, step);
+        if !is_apart(store, step, number, spares) {
             return Ok(false);
         }
         present.act(ring, step);

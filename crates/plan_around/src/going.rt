@@ -14,7 +14,7 @@ ghost use Rattle.plan_around.specs.Chosen.{BeginsWith};
 ghost use Rattle.plan_around.specs.Ends.{EndsWell};
 ghost use Rattle.plan_around.specs.Led.{IsLed};
 
-use crate::alike::are_alike;
+use crate::alike::{BothStores, are_alike};
 use crate::apart::are_apart;
 use crate::ending::{Endings, ends_well};
 use crate::retelling::{Retold, retell};
@@ -68,15 +68,13 @@ fn runs_on(
     let plan = approved.plan();
     let store = &told.led.store;
     let returns = Returns::of(alloc, it.back, it.left)?;
-    if !are_alike(
-        alloc,
+    let stores = BothStores {
         ring,
+        a: before,
+        b: store,
         plan,
-        before,
-        store,
-        &returns,
-        told.order.as_slice(),
-    )? {
+    };
+    if !are_alike(alloc, &stores, &returns, told.order.as_slice())? {
         return Ok(false);
     }
     are_apart(alloc, store, ring, plan, it.dead)

@@ -1,11 +1,7 @@
-use Rattle.std.proofs.Common.{◌≡◌, ◌∙◌, Bool, List, ap, sym, subst, true, arith}
-use Rattle.ring_table.specs.Value.{RingValue}
+use Rattle.std.proofs.Common.{◌≡◌, Bool, List, subst, true, arith}
 use Rattle.plan_goal.specs.Sized.{is_flagged}
 use Rattle.plan_around.proofs.Comparing.{not_both}
 use Rattle.plan_around.proofs.alike.are_puts_alike.Goals as goal
-
-pub mark_alike-requires-clause-slots : goal.mark_alike-requires-clause-slots
-mark_alike-requires-clause-slots c = c.n-slots.ensures.value ∙ sym (ap (λ (r : RingValue). r.n) c.requires.ring)
 
 pub loop-put-init : goal.loop-put-init
 loop-put-init c = λ v f. absurd (not_both _ f (c.in_ok-marks.ensures v))

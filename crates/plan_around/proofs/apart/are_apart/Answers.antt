@@ -1,4 +1,4 @@
-use Rattle.std.proofs.Common.{◌≡◌, ◌∙◌, ◌||◌, List, true, subst, arith}
+use Rattle.std.proofs.Common.{◌≡◌, ◌∙◌, ◌||◌, Bool, List, true, subst, arith}
 use Rattle.ring_names.specs.declared.ids.NodeId.{NodeId}
 use Rattle.plan_text.specs.Valid.{step_suits}
 use Rattle.plan_runs.specs.World.{World}
@@ -17,8 +17,8 @@ loop-number-init c = record {
   room = c.in_ok-present.ensures.room;
 }
 
-pub is_step_apart-requires : goal.is_step_apart-requires
-is_step_apart-requires c = step-passes (step_suits c.args.ring.now) c.args.plan.now c.loop-number.number c.step-step.result.now c.step-step.ensures.value c.requires.steps
+pub is_unasked-spares-requires : goal.is_unasked-spares-requires
+is_unasked-spares-requires c = step-passes (step_suits c.args.ring.now) c.args.plan.now c.loop-number.number c.step-step.result.now c.step-step.ensures.value c.requires.steps
 
 pub act-requires-clause-suits : goal.act-requires-clause-suits
 act-requires-clause-suits c = step-passes (step_suits c.args.ring.now) c.args.plan.now c.loop-number.number c.step-step.result.now c.step-step.ensures.value c.requires.steps
@@ -30,8 +30,8 @@ loop-number-preserved c =
     let n = c.loop-number.number in
     let t = c.step-step.result.now in
     let serve = serving_at ring c.loop-number.present in
-    let here = subst (λ (xs : List NodeId). (w : World) → Meets c.args.store.now w → (w.done n || is_whole w n || are_spared xs (asked serve t)) ≡ true)
-    c.of-flagged.ensures (c.is_step_apart.ensures c.if-not-is_step_apart.false) in
+    let over = subst (λ (b : Bool). (w : World) → Meets c.args.store.now w → (w.done n || is_whole w n || b) ≡ true) c.is_unasked-spares.ensures (c.is_apart.ensures c.if-not-is_apart.false) in
+    let here = subst (λ (xs : List NodeId). (w : World) → Meets c.args.store.now w → (w.done n || is_whole w n || are_spared xs (asked serve t)) ≡ true) c.of-flagged.ensures over in
     record {
       told = apart-more ring plan c.args.dead.now (Meets c.args.store.now) n t serve c.step-step.ensures.value c.loop-number.invariant.present here c.loop-number.invariant.told;
       present = λ s. present-next ring plan s n t (serve s) (serving_at ring c.act.new.self s) c.step-step.ensures.value (c.loop-number.invariant.present s) (c.act.ensures.serving s);
