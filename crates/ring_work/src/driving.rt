@@ -136,26 +136,29 @@ pub(crate) fn empty_fault(alloc: Global, approved: &Approved, refusal: Refusal) 
     }
 }
 
+// Whether a drive did all steps and lines, and has a list of each thread.
+fn is_whole(finished: bool, complete: bool, count: usize, lists: usize) -> bool
+    ensures { IsTrue result → IsTrue finished × IsTrue complete × (count ≡ lists) }
+{
+    finished && complete && count == lists
+}
+
 // Returns the outcome's failure. A stopped thread comes first.
 fn judge<'a, R: Wait, G: Gate>(
     job: &Job<'a, R, G>,
-    lists: usize,
     outcome: &Outcome,
-    finished: bool,
-    complete: bool,
+    whole: bool,
     stopped: Option<Refusal>,
 ) -> Option<Refusal>
-    ensures finished { IfNone result (IsTrue finished) }
-    ensures complete { IfNone result (IsTrue complete) }
+    ensures whole { IfNone result (IsTrue whole) }
     ensures agrees { IfNone result (Agrees (length job.now.approved.now.plan) job.now.scripts.now job.now.workers outcome.now.history.items outcome.now.receipts.items outcome.now.finishers.items) }
-    ensures lists { IfNone result (length outcome.now.receipts.items ≡ lists) }
     ensures fault { IfSome result IsFault }
     ensures spent { IfSome result (λ e. e ≡ TurnsSpent → IsSpent stopped) }
 {
     if let Some(refusal) = stopped {
         return Some(fault_kind(refusal));
     }
-    if !finished || !complete || outcome.receipts.len() != lists {
+    if !whole {
         return Some(Refusal::Disagree);
     }
     match agrees(job.alloc, job.approved, job.scripts, job.workers, outcome) {
@@ -300,25 +303,23 @@ fn run<'a, L: RunLedger + Send + Sync, R: Threads + Wait + Sync, G: Gate + Sync>
 fn check_outcome<'a, R: Wait, G: Gate>(
     job: &Job<'a, R, G>,
     outcome: Outcome,
-    lists: usize,
-    finished: bool,
-    complete: bool,
+    whole: bool,
     stopped: Option<Refusal>,
 ) -> Result<Outcome, Fault>
     requires run { IsHistory job.now.approved.now.ring job.now.approved.now.plan outcome.history.items }
-    requires whole { IsTrue finished → IsWhole job.now.approved.now.ring job.now.approved.now.plan outcome.history.items }
+    requires whole { IsTrue whole → IsWhole job.now.approved.now.ring job.now.approved.now.plan outcome.history.items }
     requires safe { IsSafe job.now.approved.now.ring job.now.approved.now.plan outcome.history.items }
     requires board { map finished_word outcome.finishers.items ≡ outcome.board }
     ensures ok { IfOk result (λ o. Driven job.now.approved.now.ring job.now.approved.now.plan job.now.scripts.now job.now.workers o.history.items o.receipts.items o.finishers.items) }
-    ensures lists { IfOk result (λ o. (vec_len o.receipts ≡ lists) × (o.receipts ≡ outcome.receipts)) }
+    ensures whole { OnOk result (IsTrue whole) }
+    ensures receipts { IfOk result (λ o. IsTrue whole × (o.receipts ≡ outcome.receipts)) }
     ensures board { IfOk result (λ o. map finished_word o.finishers.items ≡ o.board) }
-    ensures turned { (IsTrue complete → ⊥) → OnOk result ⊥ }
     ensures refusal { IfErr result (λ f. IsFault f.refusal) }
     ensures spent { IfErr result (λ f. f.refusal ≡ TurnsSpent → IsSpent stopped) }
     ensures history { IfErr result
         (λ f. IsHistory job.now.approved.now.ring job.now.approved.now.plan f.history.items) }
 {
-    match judge(job, lists, &outcome, finished, complete, stopped) {
+    match judge(job, &outcome, whole, stopped) {
         None => Ok(outcome),
         Some(refusal) => Err(fault_of(outcome, refusal)),
     }
@@ -360,13 +361,14 @@ fn finish_drive<'a, L: RunLedger, R: Wait, G: Gate>(
     let (history, finished) = history_of(job.approved, ledgered);
     match finish {
         Ok(Finish { board, finishers }) => {
+            let whole = is_whole(finished, complete, receipts.len(), lists);
             let outcome = Outcome {
                 history,
                 receipts,
                 finishers,
                 board,
             };
-            check_outcome(job, outcome, lists, finished, complete, refusal)
+            check_outcome(job, outcome, whole, refusal)
         }
         Err(other) => Err(Fault {
             refusal: fault_kind(other),
