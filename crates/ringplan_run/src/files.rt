@@ -134,17 +134,14 @@ fn write_new<F: OpenFile + Write>(
     file.sync_all()
 }
 
-// Writes the new file, and renames it to the path. On failure removes it.
+// Renames a file that was written to the path. If writing or renaming failed, removes the file.
 fn take_place<RT: Files>(
     rt: &RT,
     beside: &str,
-    file: RT::File,
     path: &str,
-    permissions: Option<Permissions>,
-    text: &[u8],
+    written: io::Result<()>,
 ) -> io::Result<()> {
-    let mut file = file;
-    let mut done = write_new(&mut file, permissions, text);
+    let mut done = written;
     if done.is_ok() {
         done = fs::rename(rt, beside, path);
     }
@@ -164,8 +161,9 @@ fn exchange<RT: Files + AllocGlobal>(
     for number in 1..MOST_BESIDE {
         let beside = format!(in rt.alloc(); "{path}.{number}.part")?;
         match create_beside(rt, beside.as_str(), &permissions) {
-            Ok(file) => {
-                return take_place(rt, beside.as_str(), file, path, permissions, text);
+            Ok(mut file) => {
+                let written = write_new(&mut file, permissions, text);
+                return take_place(rt, beside.as_str(), path, written);
             }
             Err(error) if error.kind() == ErrorKind::AlreadyExists => {}
             Err(error) => return Err(error),
