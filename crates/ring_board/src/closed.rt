@@ -23,12 +23,4 @@ impl ClosedBoard {
     {
         self.words.as_slice()
     }
-
-    /// Returns the words as a vector.
-    pub fn into_words(self) -> Vec<u64>
-        ensures { result.items ≡ self }
-    {
-        let ClosedBoard { words } = self;
-        words
-    }
 }
