@@ -31,7 +31,7 @@ pub struct AroundTask<'a> {
     pub cert: &'a Cert,
     /// A run of the plan.
     pub history: &'a [Entry],
-    /// How much of the plan remains.
+    /// How much of the plan to keep.
     pub extent: Extent,
     /// Slots that keep their owners.
     pub left: &'a [Slot],
@@ -41,7 +41,7 @@ pub struct AroundTask<'a> {
     pub ahead: &'a [Slot],
     /// The nodes' racks, if known.
     pub racks: Option<&'a Labels>,
-    /// Whether mirrors may be undone. Staying slots' mirrors always may.
+    /// Whether mirrors may be undone. Mirrors of slots in `left` always may.
     pub back: Back,
     /// Reports each slot, or only sums by node.
     pub shape: Shape,

@@ -141,7 +141,7 @@ impl<'a> Cut<'a> {
         }
     }
 
-    /// Returns the entry as the part has it, if it does. Not usable after an error.
+    /// Returns the entry of the part, if the part has one. After an error `self` is not usable.
     pub fn entry(&mut self, alloc: Global, entry: &Entry) -> Result<Option<Entry>, AllocError>
         requires puts { length self.now.puts < 4294967295 }
         requires gets { length self.now.gets < 4294967295 }

@@ -33,7 +33,7 @@ pub struct Missed {
     pub left: bool,
     /// A mirrored node has not joined.
     pub joined: bool,
-    /// A node retires before it dropped what it held.
+    /// A node retires before it drops what it held.
     pub dropped: bool,
 }
 

@@ -1,4 +1,4 @@
-//! Blocks: one group's entries, which clocks share.
+//! Blocks: the entries of 64 writers, shared by clocks.
 
 ghost use Rattle.std.specs.Prelude.{◌≡◌, ◌↔◌, ◌*◌, ◌<◌, ◌≤◌, ◌∷◌, ◌++◌, [], ℕ, true, false, IsTrue, IfOk, OnOk, OnErr, max};
 ghost use Rattle.ring_clock.specs.Clock.{IsClock, IsAtMost, counter};

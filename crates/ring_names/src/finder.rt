@@ -31,7 +31,7 @@ impl Finder {
         }
     }
 
-    /// Returns the bytes' number, if listed.
+    /// Returns the bytes' place in the list, if any.
     pub fn number_of(&self, list: &[Vec<u8>], bytes: &[u8]) -> Option<usize>
         requires { Knows self.now (map (λ b. b.items) list.now) }
         ensures { result ≡ place (map (λ b. b.items) list.now) bytes.now }

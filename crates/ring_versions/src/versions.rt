@@ -155,9 +155,10 @@ impl Versions {
         }
     }
 
-    /// Whether some version covers the clock. First looks at the join.
+    /// Whether some version covers the clock. Compares the clock with each of a few versions.
     ///
-    /// If the join reaches the clock, also looks at each chunk's group and one chunk's entries, and compares once.
+    /// With many versions, the join mostly says no. Otherwise compares with the version of the clock's own writer, and
+    /// at last with all versions.
     pub fn covers(&self, clock: &Clock) -> bool
         ensures { IsTrue result ↔ Covers self.now clock.now }
     {

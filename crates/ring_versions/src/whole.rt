@@ -1,4 +1,4 @@
-//! What sets share.
+//! The versions of a set, shared by its copies.
 
 ghost use Rattle.std.specs.Prelude.{◌≡◌, ◌↔◌, ◌<◌, ◌∷◌, [], true, false, length, IsTrue, IfOk, IfErr, IfSome, OnErr};
 ghost use Rattle.ring_names.specs.declared.refusal.Refusal.TheVariants.{OutOfMemory};

@@ -52,7 +52,8 @@ fn read_more(
     Ok(())
 }
 
-/// Reads one client's script, and up to seven more while lines are left. Numbers writers as they first appear.
+/// Reads one client's script, and up to seven more while lines are left. Writers get numbers in the order in which
+/// they appear.
 #[tactic(auto, unfolding(crate::specs::Drives::scripts_at))]
 pub fn read_scripts(
     alloc: Global,

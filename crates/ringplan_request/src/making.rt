@@ -52,7 +52,7 @@ pub enum Shape {
 pub struct Wish {
     pub shape: Shape,
     pub color: Color,
-    /// One transfer's rate per second, in the layout's unit: from 1, and only with a layout.
+    /// One transfer's rate per second, at least 1, in the layout's unit. Needs a layout.
     pub rate: Option<u32>,
 }
 
@@ -97,7 +97,7 @@ pub enum Exit {
     Steps,
 }
 
-/// How much of a begun plan remains.
+/// How much of a begun plan to keep.
 #[derive(Clone, Copy, Debug, PartialEq, Eq)]
 pub enum Extent {
     /// All.

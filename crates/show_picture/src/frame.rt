@@ -109,7 +109,7 @@ fn push_progress(sheet: &Sheet, out: &mut Words) {
     push_said(out, right, b" class=\"s\" text-anchor=\"end\"", &words)
 }
 
-/// Writes a patch with its meaning. Returns the next patch's place.
+/// Writes an entry of the legend. Returns the next entry's place.
 pub fn push_key(out: &mut Words, at: Point, class: &[u8], more: &[u8], words: &[u8]) -> Point {
     let patch = Area {
         x: at.x,

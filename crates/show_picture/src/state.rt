@@ -6,7 +6,7 @@ use show_plan::ShownMove;
 /// The state of a bar's copy.
 #[derive(Clone, Copy, Debug, PartialEq, Eq)]
 pub enum BarState {
-    /// Without a run.
+    /// Without a history.
     Planned,
     Copied,
     /// Open, with this many of 16 chunks copied.

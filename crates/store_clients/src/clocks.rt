@@ -72,7 +72,7 @@ fn input_clock(alloc: Global, puts: &Puts, gets: &Gets, knowing: &Knowing) -> Re
     Ok(clock)
 }
 
-/// Returns the clock of the writer's put with these inputs.
+/// Returns the clock of a put by this writer, who knows `knowing`.
 pub fn next_clock(
     alloc: Global,
     puts: &Puts,

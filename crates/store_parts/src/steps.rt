@@ -43,7 +43,7 @@ impl Model for Steps {
 }
 
 impl Steps {
-    /// Returns steps that are neither done nor open, without marked chunks.
+    /// Creates so many steps, neither done nor open, without marked chunks.
     pub fn start(alloc: Global, count: u32) -> Result<Steps, Refusal>
         ensures start { IfOk result (λ steps. steps ≡ replicate count step_at_start) }
         ensures memory { IfErr result (λ e. e ≡ OutOfMemory) }

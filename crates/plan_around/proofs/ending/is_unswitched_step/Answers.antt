@@ -1,5 +1,4 @@
 use Rattle.std.proofs.Common.{◌≡◌, ◌∙◌, Some, sym}
-use Rattle.plan_text.specs.declared.step.Step.{Step}
 use Rattle.plan_text.specs.declared.step.Step.TheVariants.{Switch}
 use Rattle.plan_stage.proofs.Places.{step_at-is}
 use Rattle.plan_around.proofs.ending.is_unswitched_step.Goals as goal

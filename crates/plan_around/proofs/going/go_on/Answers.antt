@@ -5,7 +5,6 @@ use Rattle.ring_table.specs.Spelling.{ring_text}
 use Rattle.plan_text.specs.Spelling.{plan_text}
 use Rattle.plan_text.specs.declared.step.Planned.{Planned}
 use Rattle.plan_cert.specs.Spelling.{cert_text}
-use Rattle.plan_runs.specs.declared.event.Entry.{Entry}
 use Rattle.plan_check.specs.Certified.{IsCertified}
 use Rattle.plan_check.specs.Headline.{KeepsPromises}
 use Rattle.history_laws.specs.Past.{IsSamePast}

@@ -1,4 +1,4 @@
-use Rattle.std.proofs.Common.{◌∙◌, List, [], sym, subst}
+use Rattle.std.proofs.Common.{◌∙◌, List, sym, subst}
 use Rattle.plan_runs.specs.declared.event.Entry.{Entry}
 use Rattle.ring_core.specs.Replays.{Replays}
 use Rattle.plan_around.proofs.Leading.{leads_more}
