@@ -22,7 +22,7 @@ BUDGETS = {
     "CHANGE.md": 1450,
     "RUNNING.md": 1500,
 }
-OTHERS = 14450
+OTHERS = 14400
 # What no sentence has, and what it says instead.
 PHRASES = {
     # X is not a Y
@@ -56,11 +56,11 @@ BOUNDS = {
 # rule at most; how many words the comments of .rt files have; and how many doc comments have over
 # LONG. These counts can only fall.
 TEXTS = {
-    "comments of .rt": [0, 1, 1, 0, 0, 0, 3, 2, 0],
+    "comments of .rt": [0, 0, 0, 0, 0, 0, 3, 1, 0],
     "comments of .antt": [0, 0, 0, 0, 0, 0, 0, 0, 0],
     "printed words": [0, 0, 3, 0, 0, 0, 5, 1, 0],
 }
-COMMENTS, LONG, MOST_LONG = 41500, 30, 10
+COMMENTS, LONG, MOST_LONG = 41350, 30, 10
 # One clause a sentence: how often all pages together may have these.
 CLAUSES, MOST_CLAUSES = r"\b(?:of|by) which\b|\basks? nothing of\b|\bsays of\b", 20
 
