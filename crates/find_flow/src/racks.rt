@@ -89,7 +89,7 @@ impl Racks {
         sum
     }
 
-    /// Finds the level and the racks with members, after all were added.
+    /// Finds the level and the racks with members. Call after the last `add`.
     pub fn set_level(&mut self, slots: u32) -> Result<(), Refusal> {
         for rack in 0..self.len() {
             if at(&self.counts, rack) > 0 {

@@ -112,7 +112,7 @@ impl Ring {
         self.rebuild(alloc, nodes, self.rows())
     }
 
-    /// Copies the ring with other owners and members. Nodes without a flag in `members` stay unchanged.
+    /// Copies the ring with other owners and members. Nodes past the end of `members` stay unchanged.
     ///
     /// Fails with `NoPlan` unless there are `q` rows of `n` different members.
     pub fn with(

@@ -83,7 +83,7 @@ fn study_history(alloc: Global, bytes: &[u8]) -> Result<Study, Refusal>
 
 /// Reads and checks a bundle. For a change, makes a plan first.
 ///
-/// Fails with the first faulty line's least fault, then as `wish_bundle` or the checker, or if a history is not a run.
+/// Fails with the first faulty line's least fault. Otherwise fails as `wish_bundle`, as the checker, or as `follow`.
 pub fn studied(alloc: Global, bytes: &[u8], options: &Options) -> Result<Study, Refusal>
     ensures of { IfOk result (λ s. IsStudyOf bytes.now s.approved.ring s.approved.plan) }
     ensures history { IfOk result

@@ -1,4 +1,4 @@
-//! Lists without spare room, and lists that ascend by key.
+//! Lists that double their room, and lists that ascend by key.
 
 ghost use Rattle.std.specs.Prelude.{◌≡◌, IfOk, IfErr};
 ghost use Rattle.ring_names.specs.declared.refusal.Refusal.TheVariants.{OutOfMemory};

@@ -38,7 +38,7 @@ pub fn stored_sets_last()
         → ShowAll w (with_clock clock (length w.puts) c) held test }
 {}
 
-/// Puts that a write, handoff, chunk or hint brings come first: at a node, a mirror, or both.
+/// Puts of a write, handoff, chunk or hint come first: at a node, a mirror, or both.
 pub fn puts_come_in_front()
     ensures node { (test : ℕ → TheSlot → ℕ → Bool) (x : TheNode) (s : TheSlot) (more : ℕ → Bool) (y : ℕ) (t : TheSlot)
         (v : ℕ)
