@@ -29,8 +29,8 @@ PAGE = TOP / "docs/JUDGING.md"
 RULES = (
     "An event that needs a node to be up also takes a shared lock on the node.",
     (
-        "An entry's timestamp is 1 more than the greatest timestamp of all that it holds, and of"
-        " the puts and gets that it names."
+        "An entry's timestamp is 1 more than the greatest timestamp of the locks held, and of the"
+        " puts and gets named."
     ),
     "Equal timestamps may come in any order.",
 )
