@@ -54,8 +54,10 @@ const STEPS: u8 = 4;
 /// - 3 if memory, an input or an output failed.
 /// - 4 for a plan with steps, if `goal --exit-code` asks.
 ///
-/// `plan`, `check`, `play`, `drive`, `replay` and `migrate` print refusals of a bundle on the output, other commands on
-/// standard error. Faults of a command line go to standard error.
+/// Refusals of a bundle go to the output for `plan`, `check`, `play`, `drive`, `replay`, `watch`, `migrate`, `why` and
+/// `--format json`, otherwise to standard error.
+///
+/// Faults of a command line go to standard error.
 ///
 /// Texts for people have colours if screen or command line says so. Named files are read in order instead of the input;
 /// `-` names the input.
