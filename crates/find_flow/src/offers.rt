@@ -145,7 +145,7 @@ impl Offers {
         Ok(())
     }
 
-    /// Meets members of the node's rack that could hand it a slot.
+    /// Visits members of `node`'s rack that could hand `node` a slot.
     pub fn in_rack(
         &mut self,
         seats: &Seats,

@@ -66,7 +66,7 @@ fn next(seats: &Seats, partition: usize) -> Option<usize> {
     None
 }
 
-/// Frees as few slots as spreading over racks needs.
+/// Frees the fewest slots that spreading over racks needs.
 pub fn thin(seats: &mut Seats) {
     for partition in 0..seats.partitions {
         for _ in 0..seats.slots {

@@ -141,29 +141,29 @@ impl<'a, L: RunLedger> Executor<'a, L> {
         self.inside.lock(rt).apply_row(events, share, receipts)
     }
 
-    /// Returns the least step from `from` on that could begin at that moment.
+    /// Returns the least step, at or after `from`, that could begin when asked.
     pub fn ready<R: Wait>(&self, rt: &R, from: u32) -> Option<u32>
         ensures { IfSome result (λ n. (from ≤ n) × (n < length L.plan)) }
     {
         self.inside.lock(rt).world().ready(from)
     }
 
-    /// Counts the steps not done at that moment.
+    /// Counts the steps that were not done when asked.
     pub fn left<R: Wait>(&self, rt: &R) -> u32
         ensures { result ≤ length L.plan }
     {
         self.inside.lock(rt).world().left()
     }
 
-    /// Returns the n-th pair, at that moment, of a node and a slot whose hints it keeps.
+    /// Returns the n-th pair of a node and a slot whose hints the node kept when asked.
     pub fn hint_at<R: Wait>(&self, rt: &R, n: u32) -> Option<(NodeId, Slot)>
         ensures { IfSome result (λ pair. (pair.0.0 < length L.ring.nodes) × (is_ring_slot L.ring pair.1 ≡ true)) }
     {
         self.inside.lock(rt).world().hint_at(n)
     }
 
-    /// Returns the first node from `from` on that could keep the put as a hint at that moment. Looks at each node up to
-    /// it.
+    /// Returns the first node, at or after `from`, that could keep the put as a hint when asked. Looks at each node up
+    /// to it.
     pub fn keeper_from<R: Wait>(&self, rt: &R, put: u32, index: u32, from: u32) -> Option<NodeId>
         ensures { IfSome result (λ x. (from ≤ x.0) × (x.0 < length L.ring.nodes)) }
     {
@@ -171,7 +171,7 @@ impl<'a, L: RunLedger> Executor<'a, L> {
         first_keeper(self.inside.lock(rt).world(), put, index, from, nodes)
     }
 
-    /// Counts the history's entries at that moment.
+    /// Counts the history's entries when asked.
     pub fn entry_count<R: Wait>(&self, rt: &R) -> u32
         ensures { result ≤ 1000000 }
     {

@@ -58,7 +58,7 @@ pub fn keep_event(alloc: Global, names: &mut Names, said: SaidEvent) -> Result<E
     }
 }
 
-/// Adds a read line's event.
+/// Adds the event of a line.
 pub fn add(
     alloc: Global,
     names: &mut Names,

@@ -54,7 +54,7 @@ impl Scene {
         })
     }
 
-    /// The number of consecutive rounds.
+    /// The number of rounds.
     pub fn round_count(&self) -> u32 {
         texts::small(self.widths.len())
     }

@@ -18,7 +18,7 @@ ghost use Rattle.store_parts.specs.Shows.{ArePutsOf};
 ghost use Rattle.store_parts.specs.Stored.{ShowAll, MergeAll, at_node, at_mirror, at_served, written, handed, copied};
 ghost use Rattle.store_parts.specs.Stored.{kept_by};
 
-/// If each node's versions are merged with new ones, by slot and key, they show both.
+/// Versions merged by node, slot and key show the puts that either part showed.
 pub fn stored_sets_grow()
     ensures { (w : World) (clock : ℕ → List TheEntry) (old more new : ℕ → TheSlot → List ℕ → List TheVersion)
         (test extra : ℕ → TheSlot → ℕ → Bool)
